@@ -3,3 +3,4 @@ mod Attending
 mod Matching
 mod Unasked
 mod Concluding
+mod ExitCodes

@@ -3,7 +3,7 @@
 use Rattle.std.specs.Prelude.{◌≡◌, ◌⊎◌, ◌++◌, ◌∷◌, ℕ, List, [], Option, Result, codes}
 use Rattle.std.specs.Fmt.{decimal}
 use Rattle.std.specs.Io.KnownBytes.{Appends}
-use Rattle.clap.specs.Words.{Kinds, IsAmong, kind_of}
+use Rattle.clap.specs.Words.{Kinds, IsAmong, kind_of, Row, Text}
 use Rattle.words36.specs.declared.moment.Moment.{Moment}
 use Rattle.blockdisk.specs.Disk.{DiskState}
 use Rattle.meaning.specs.Lines.{feed}
@@ -12,6 +12,7 @@ use Rattle.commands.specs.declared.answer.Tally.{Tally}
 use Rattle.commands.specs.declared.error.SessionError.{SessionError}
 use Rattle.filser.specs.Endings.{EndsUnasked}
 use Rattle.filser.specs.Refusals.{refusal_code}
+use Rattle.filser.specs.Requests.{Asks}
 use Rattle.filser.specs.ServedDisks.{IsEnding, IsSaid}
 use Rattle.filser.specs.Statuses.{status_code}
 use Rattle.filser.specs.Tasks.{Attends, IsStart}
@@ -73,3 +74,10 @@ PrintsOnly kinds NoMemory sink full = full ≡ sink
 abbrev pub IsUnasked : Kinds → Option (List ℕ) → Option (List ℕ) → Option (List ℕ) → Option (List ℕ) → Status → Type 0
 IsUnasked kinds source left sink full status =
     (error : RequestError) × (left ≡ source) × EndsUnasked error status × PrintsOnly kinds error sink full
+
+-- What the words ask for was done, or nothing was served; or the words ask for nothing that is done.
+pub record WasRun {D E : Type 0} (memory : D → DiskState) (image : E → DiskState) (kinds : Kinds)
+    (found : Option (Text × List Row)) (source left sink full : Option (List ℕ)) (status : Status) : Type 0 where
+  pub is : ((request : Request) × Asks found request
+      × (IsRun memory image request source left sink full status ⊎ IsTurnedAway source left sink full status))
+      ⊎ IsUnasked kinds source left sink full status

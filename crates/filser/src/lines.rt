@@ -1,3 +1,5 @@
+ghost use Rattle.std.specs.Prelude.{◌≡◌};
+
 use std::io::{self, Read};
 
 /// A reader that knows the line that it is in, and why it failed.
@@ -10,7 +12,9 @@ pub(crate) struct LineReader<'a, R: Read> {
 
 impl<'a, R: Read> LineReader<'a, R> {
     /// The lines of this reader, from the first one on.
-    pub(crate) fn new(reader: &'a mut R) -> Self {
+    pub(crate) fn new(reader: &'a mut R) -> Self
+        ensures { R.remaining result.reader.now ≡ R.remaining reader.old }
+    {
         LineReader {
             reader,
             line: 1,

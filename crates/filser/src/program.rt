@@ -5,7 +5,7 @@ ghost use Rattle.filser.specs.CommandLine.{command_line};
 ghost use Rattle.filser.specs.Endings.{AreMistaken, AskToSee, EndsUnasked, IsShown};
 ghost use Rattle.filser.specs.HostFaults.{forbids_errors, forbids_output};
 ghost use Rattle.filser.specs.Requests.{Asks, InRange};
-ghost use Rattle.filser.specs.Runs.{IsExcused, IsRun, IsTurnedAway, IsUnasked};
+ghost use Rattle.filser.specs.Runs.{IsExcused, IsRun, IsTurnedAway, WasRun};
 ghost use Rattle.filser.specs.Statuses.{status_code};
 ghost use Rattle.filser.specs.declared.error.RequestError.TheVariants.{BadArgument, NoMemory};
 ghost use Rattle.filser.specs.declared.status.Status.{Status as Statuses};
@@ -51,12 +51,9 @@ pub fn work<F: Files<File = File>, R: Read, W: Write, E: Write>(
     // What was printed, and the status of that, unless the end of the text can't be written.
     ensures ran { (status : Statuses) × (left : Option (List ℕ)) × (full : Option (List ℕ))
         × ((result ≡ status_code status) ⊎ (result ≡ 4)) × Keeps full (W.contents writer.new)
-        × (((r : Asked) × Asks (subcommand_of command_line (map (λ w. w.now) words.now)) r
-        × (IsRun (⟦<MemDisk as Disk>⟧.state) (⟦<Cached<ImageDisk<HostFile>> as Disk>⟧.state) r (R.remaining reader.old) left
-        (W.contents writer.old) full status
-        ⊎ IsTurnedAway (R.remaining reader.old) left (W.contents writer.old) full status))
-        ⊎ IsUnasked (fault_of command_line (map (λ w. w.now) words.now)) (R.remaining reader.old) left
-        (W.contents writer.old) full status) }
+        × WasRun (⟦<MemDisk as Disk>⟧.state) (⟦<Cached<ImageDisk<HostFile>> as Disk>⟧.state)
+        (fault_of command_line (map (λ w. w.now) words.now)) (subcommand_of command_line (map (λ w. w.now) words.now))
+        (R.remaining reader.old) left (W.contents writer.old) full status }
 {
     let mut lines = LineReader::new(reader);
     let status = answer(files, alloc, words, missing, &mut lines, writer, errors);
@@ -95,13 +92,9 @@ fn answer<F: Files<File = File>, R: Read, W: Write, E: Write>(
     ensures shown { AskToSee (fault_of command_line (map (λ w. w.now) words.now)) → (result ≡ Done) ⊎ (result ≡ Fault) }
     ensures asked { (r : Asked) → Asks (subcommand_of command_line (map (λ w. w.now) words.now)) r
         → fault_of command_line (map (λ w. w.now) words.now) ≡ [] → result ≢ BadArguments }
-    ensures ran { ((r : Asked) × Asks (subcommand_of command_line (map (λ w. w.now) words.now)) r
-        × (IsRun (⟦<MemDisk as Disk>⟧.state) (⟦<Cached<ImageDisk<HostFile>> as Disk>⟧.state) r (R.remaining reader.old)
-        (R.remaining reader.new) (W.contents writer.old) (W.contents writer.new) result
-        ⊎ IsTurnedAway (R.remaining reader.old) (R.remaining reader.new) (W.contents writer.old) (W.contents writer.new)
-        result))
-        ⊎ IsUnasked (fault_of command_line (map (λ w. w.now) words.now)) (R.remaining reader.old) (R.remaining reader.new)
-        (W.contents writer.old) (W.contents writer.new) result }
+    ensures ran { WasRun (⟦<MemDisk as Disk>⟧.state) (⟦<Cached<ImageDisk<HostFile>> as Disk>⟧.state)
+        (fault_of command_line (map (λ w. w.now) words.now)) (subcommand_of command_line (map (λ w. w.now) words.now))
+        (R.remaining reader.old) (R.remaining reader.new) (W.contents writer.old) (W.contents writer.new) result }
 {
     match request(alloc, words) {
         Ok(asked) => start(files, alloc, &asked, missing, reader, writer, errors),

@@ -1,6 +1,7 @@
-use Rattle.std.proofs.Common.{map}
+use Rattle.std.proofs.Common.{inl, inr, map, refl}
 use Rattle.clap.specs.Words.{fault_of}
 use Rattle.filser.specs.CommandLine.{command_line}
+use Rattle.filser.proofs.ExitCodes.{prints_only}
 use Rattle.filser.proofs.Unasked.{ends_mistaken, ends_shown}
 use Rattle.filser.proofs.program.answer.Goals as goal
 
@@ -8,10 +9,24 @@ use Rattle.filser.proofs.program.answer.Goals as goal
 pub returns-in-Err-clause-mistaken : goal.returns-in-Err-clause-mistaken
 returns-in-Err-clause-mistaken g c =
     ends_mistaken (fault_of command_line (map (λ w. w.now) c.args.words.now)) c.in-Err.error c.refuse.result
-    c.refuse.ensures c.in-Err.ensures.usage
+    c.refuse.ensures.ends c.in-Err.ensures.usage
 
 -- src/program.rt:47:1
 pub returns-in-Err-clause-shown : goal.returns-in-Err-clause-shown
 returns-in-Err-clause-shown g c =
     ends_shown (fault_of command_line (map (λ w. w.now) c.args.words.now)) c.in-Err.error c.refuse.result
-    c.refuse.ensures c.in-Err.ensures.usage (λ bad. (c.in-Err.ensures.bad bad).0)
+    c.refuse.ensures.ends c.in-Err.ensures.usage (λ bad. (c.in-Err.ensures.bad bad).0)
+
+pub returns-in-Ok-clause-ran : goal.returns-in-Ok-clause-ran
+returns-in-Ok-clause-ran g c = record { is = inl (c.in-Ok.asked, c.in-Ok.ensures.asked, c.start.ensures.ran) }
+
+pub returns-in-Err-clause-ran : goal.returns-in-Err-clause-ran
+returns-in-Err-clause-ran g c = record {
+  is = inr (
+    c.in-Err.error,
+    refl,
+    c.refuse.ensures.ends,
+    prints_only (fault_of command_line (map (λ w. w.now) c.args.words.now)) c.in-Err.error _ _ c.in-Err.ensures.usage
+        c.refuse.ensures.unprinted,
+  );
+}

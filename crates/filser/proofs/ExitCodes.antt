@@ -1,0 +1,45 @@
+-- The exit status of a run, and what is printed where the words ask for nothing.
+use Rattle.std.proofs.Common.{◌≡◌, ◌≢◌, ◌⊎◌, inl, inr, ⊎_elim, ℕ, List, Option, Result, Ok, Err, MatchResult, refl, sym}
+use Rattle.std.proofs.Common.{◌∙◌, ap, subst}
+use Rattle.std.specs.Prelude.{IsErrOf}
+use Rattle.clap.specs.Words.{Kinds, IsAmong, kind_of}
+use Rattle.clap.specs.declared.error.Error.{Error}
+use Rattle.filser.specs.Runs.{PrintsOnly}
+use Rattle.filser.specs.Statuses.{status_code}
+use Rattle.filser.specs.declared.asked.Request.{Request}
+use Rattle.filser.specs.declared.error.RequestError.{RequestError}
+use Rattle.filser.specs.declared.error.RequestError.TheVariants.{Usage, BadArgument, NoMemory}
+use Rattle.filser.specs.declared.status.Status.{Status}
+use Rattle.filser.specs.declared.status.Status.TheVariants.{Done, Refused, BadArguments, BadImage, Fault}
+
+-- the status's own number, or 4
+pub code_is : {V E : Type 0} (flushed : Result V E) (status : Status) (code : ℕ)
+    → MatchResult flushed (λ v. code ≡ status_code status) (λ e. code ≡ 4)
+    → (code ≡ status_code status) ⊎ (code ≡ 4)
+code_is (Ok v) status code h = inl h
+code_is (Err e) status code h = inr h
+
+pub code_mistaken : (status : Status) (code : ℕ) → (code ≡ status_code status) ⊎ (code ≡ 4)
+    → (status ≡ BadArguments) ⊎ (status ≡ Fault) → (code ≡ 2) ⊎ (code ≡ 4)
+code_mistaken status code (inr e) s = inr e
+code_mistaken status code (inl e) (inl s) = inl (e ∙ ap status_code s)
+code_mistaken status code (inl e) (inr s) = inr (e ∙ ap status_code s)
+
+not_two : (status : Status) → status_code status ≡ 2 → status ≡ BadArguments
+not_two Done e = let wrong : 0 ≡ 2 = e in cc
+not_two Refused e = let wrong : 1 ≡ 2 = e in cc
+not_two BadArguments e = refl
+not_two BadImage e = let wrong : 3 ≡ 2 = e in cc
+not_two Fault e = let wrong : 4 ≡ 2 = e in cc
+
+pub code_asked : (status : Status) (code : ℕ) → (code ≡ status_code status) ⊎ (code ≡ 4) → status ≢ BadArguments
+    → code ≡ 2 → ⊥
+code_asked status code (inl e) differs two = differs (not_two status (sym e ∙ two))
+code_asked status code (inr e) differs two = let wrong : 4 ≡ 2 = sym e ∙ two in cc
+
+pub prints_only : (kinds : Kinds) (error : RequestError) (sink full : Option (List ℕ))
+    → ((e : Error) → IsErrOf {T = Request} {E = RequestError} (Err error) (Usage e) → IsAmong (kind_of e) kinds)
+    → ((error ≡ BadArgument) ⊎ (error ≡ NoMemory) → full ≡ sink) → PrintsOnly kinds error sink full
+prints_only kinds (Usage e) sink full usage none = usage e refl
+prints_only kinds BadArgument sink full usage none = none (inl refl)
+prints_only kinds NoMemory sink full usage none = none (inr refl)
