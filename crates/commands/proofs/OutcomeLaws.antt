@@ -46,13 +46,26 @@ module _ {S : Type 0} (machine : S → Machine) where
       let end = d.goes.went honest (Serving s) serves in
       let went = acts_went machine (machine old).pack old (Serving s) d.acts new end.0 end.2 in
       ⊎_elim
-      (λ done. (d.read, d.written, d.consumed, done.0, d.appended, end.0, end.1,
-      delivered (machine old).pack s moment me encoding spec d.read done.1 d.acts (spoken d.written tally) end.0 there few
-      done.2 done.3 went)) (λ unread. absurd unread.0) d.delivers
+      (λ done. (
+        d.read,
+        d.written,
+        d.consumed,
+        done.0,
+        d.appended,
+        end.0,
+        end.1,
+        delivered (machine old).pack s moment me encoding spec d.read done.1 d.acts (spoken d.written tally) end.0 there few
+            done.2 done.3 went,
+      )) (λ unread. absurd unread.0) d.delivers
 
   pub errands_show_files : ErrandsShowFiles machine
   errands_show_files sink full old new moment me encoding spec tally e honest s serves there few short =
       let end = e.goes.went honest (Serving s) serves in
-      let went = acts_went machine (machine old).pack old (Serving s) e.acts new end.0 end.2 in
-      (e.written, e.appended, end.0, end.1, gets_are_exact (machine old).pack moment me s encoding spec
-      (spoken e.written tally) end.0 there few short (e.acts, e.performs, went))
+      let went = acts_went machine (machine old).pack old (Serving s) e.acts new end.0 end.2 in (
+        e.written,
+        e.appended,
+        end.0,
+        end.1,
+        gets_are_exact (machine old).pack moment me s encoding spec
+            (spoken e.written tally) end.0 there few short (e.acts, e.performs, went),
+      )

@@ -67,7 +67,8 @@ mod typing;
 pub use answer::Tally;
 pub use error::SessionError;
 pub use laws::{
-    errands_reach_files, lines_have_one_meaning, orders_have_one_reading, served_texts_are_functions,
+    errands_reach_files, lines_have_one_meaning, orders_have_one_reading,
+    served_texts_are_functions,
 };
 pub use meaning::Encoding;
 pub use monitor::{Monitor, StartError};
