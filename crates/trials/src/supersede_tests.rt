@@ -167,14 +167,14 @@ fn with_a_file(rt: &impl Abort, alloc: Global) -> Result<CountingDisk, NoMemory>
     Ok(counting(disk_of(volume)))
 }
 
-/// Each data block is written once, when its words are put. A publication writes the ribs and the prime block; then
-/// two images, the header, the gate, two blocks in their places, and the gate. It syncs four times.
+/// Each data block is written once, when its words are put. They are one run, so a publication writes the prime block and
+/// no rib, though ribs are booked; then two images, the header, the gate, two blocks in their places, and the gate. It syncs four times.
 #[test]
 fn the_calls_of_a_publication(rt: HostRuntime) -> Result<(), Fail> {
     let alloc = rt.alloc();
     for (blocks, ribs) in [(0u32, 0u32), (1, 0), (2, 0), (112, 0), (113, 1), (239, 2)] {
         assert!(rt; blocks < 240 && ribs < 3);
-        let all = blocks + ribs + 1 + 2 + 1 + 1 + 2 + 1;
+        let all = blocks + 1 + 2 + 1 + 1 + 2 + 1;
         let room = 494 - i64::from(blocks) - i64::from(ribs);
         let words = numbers(alloc, 1, blocks * BLOCK)?;
         let disk = with_a_file(&rt, alloc)?;
