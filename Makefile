@@ -22,6 +22,7 @@ test:
 	sh examples/emulate crates/filser/out/filser
 	python3 examples/files crates/filser/out/filser
 	python3 examples/hostile crates/filser/out/filser
+	python3 examples/jobs crates/filser/out/filser
 	tools/check-docs crates/filser/out/filser
 	tools/test-wrong-bodies
 
@@ -37,6 +38,7 @@ examples:
 	sh examples/emulate crates/filser/out/filser
 	python3 examples/files crates/filser/out/filser
 	python3 examples/hostile crates/filser/out/filser
+	python3 examples/jobs crates/filser/out/filser
 	tools/check-docs crates/filser/out/filser
 
 # The first time every crate below the program is proved too; what was proved is kept below crates/*/out.

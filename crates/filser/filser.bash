@@ -8,6 +8,7 @@ _filser() {
     local options='--form --help'
     case $command in
         run | calls) options='--date --minute --form --help' ;;
+        list) options='--tsv --form --help' ;;
         put | get) options='--words --date --minute --form --help' ;;
         help) options=--help ;;
     esac

@@ -116,7 +116,8 @@ impl<D: Disk> Disk for FuseDisk<D> {
         requires { n < (D.state self.old.inner).size }
         ensures blown { is_blown self.old.left ≡ true → IsErrOf result Device × (self.new ≡ refused self.old) }
         ensures passed { is_blown self.old.left ≡ false
-            → IsRead n (D.state self.old.inner) (D.state self.new.inner) result × (self.new ≡ passed self.old self.new.inner) }
+            → IsRead n (D.state self.old.inner) (D.state self.new.inner) result
+            × (self.new ≡ passed self.old self.new.inner) }
         ensures reads { IsRead n (fused (D.state self.old.inner) self.old.failures)
             (fused (D.state self.new.inner) self.new.failures) result }
     {
@@ -147,7 +148,8 @@ impl<D: Disk> Disk for FuseDisk<D> {
     fn sync(&mut self) -> Result<(), Fault>
         ensures blown { is_blown self.old.left ≡ true → IsErrOf result Device × (self.new ≡ refused self.old) }
         ensures passed { is_blown self.old.left ≡ false
-            → IsSync (D.state self.old.inner) (D.state self.new.inner) result × (self.new ≡ passed self.old self.new.inner) }
+            → IsSync (D.state self.old.inner) (D.state self.new.inner) result
+            × (self.new ≡ passed self.old self.new.inner) }
         ensures syncs { IsSync (fused (D.state self.old.inner) self.old.failures)
             (fused (D.state self.new.inner) self.new.failures) result }
     {

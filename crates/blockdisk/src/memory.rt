@@ -109,8 +109,8 @@ impl MemDisk {
         self.first[n as usize] = None;
     }
 
-    /// Leaves of the open blocks what is picked, as a crash at this moment may, and the closed ones as they are. Nothing
-    /// is recorded then, and no block is open.
+    /// Leaves of the open blocks what is picked, as a crash at this moment may, and the closed ones as they are.
+    /// Nothing is recorded then, and no block is open.
     pub fn crash(&mut self, pick: Pick)
         ensures left { (n : ℕ) → n < length self.old.blocks → held self.new.blocks n ≡ left_of pick self.old n }
         ensures allowed { MayLeave (memory_state self.old) (held self.new.blocks) }

@@ -3,10 +3,12 @@ use Rattle.std.proofs.Common.{◌≡◌, ◌≢◌, ℕ, ◌||◌, Bool, true, f
 use Rattle.std.proofs.Common.{Some, None, Result, Ok, Err, IfOk, unwrap_or}
 use Rattle.std.specs.Prelude.{codes}
 use Rattle.words36.specs.declared.moment.Moment.{Moment}
-use Rattle.meaning.specs.Texts.{Spoken, complains, refuses, prints, refusal, is_broken, greeting, listing, line, list_said}
+use Rattle.meaning.specs.Texts.{Spoken, complains, refuses, prints, refusal, is_broken, greeting, line, list_text, list_said}
 use Rattle.meaning.specs.Plans.{Act, Asks, Looks, Plan, Show, Say, Conducts, begins, fails, ends, ok}
 use Rattle.meaning.specs.Transcripts.{Speaks, core_words}
 use Rattle.meaning.specs.declared.entry.Entry.{Entry}
+use Rattle.meaning.specs.declared.style.Style.{Style}
+use Rattle.meaning.specs.declared.style.Style.TheVariants.{Columns}
 use Rattle.meaning.specs.declared.command.Command.{Command}
 use Rattle.meaning.specs.declared.command.Command.TheVariants.{Login as LoginLine, Directory as DirectoryLine}
 use Rattle.meaning.specs.declared.call.Event.TheVariants.{Login, Login as LogsIn}
@@ -180,24 +182,24 @@ module _ {V E S : Type 0} (machine : S → Machine) (stands : AlwaysStands machi
     leads = (refl, refl);
   }
 
-  pub shown_list : (old new : S) (owner : ℕ) (entries shown : List Entry)
+  pub shown_list : (old new : S) (style : Style) (owner : ℕ) (entries shown : List Entry)
       → IsListed (machine old) (machine new) 1 owner (Ok entries) → shown ≡ entries
-      → IfOk result (λ v. bytes v ≡ listing owner shown)
-      → HasShown bytes result machine old new owner tally tally
-  shown_list old new owner entries shown listed same text = record {
+      → IfOk result (λ v. bytes v ≡ list_text style owner shown)
+      → HasShown bytes result machine old new style owner tally tally
+  shown_list old new style owner entries shown listed same text = record {
     answer = Ok entries;
     led = led_shown old new owner (Ok entries) listed;
     refused = or-false tally.refused;
     broke = or-false tally.broke;
-    text = subst (λ (l : List Entry). IfOk result (λ v. bytes v ≡ listing owner l)) same text;
+    text = subst (λ (l : List Entry). IfOk result (λ v. bytes v ≡ list_text style owner l)) same text;
   }
 
-  pub shown_refused : (counted : Tally) (old new : S) (owner : ℕ) (reply : Reply) (words : List ℕ) (broken : Bool)
+  pub shown_refused : (counted : Tally) (old new : S) (style : Style) (owner : ℕ) (reply : Reply) (words : List ℕ) (broken : Bool)
       → IsListed (machine old) (machine new) 1 owner (Err reply)
       → words ≡ refusal reply → broken ≡ is_broken reply → counted.refused ≡ true
       → counted.broke ≡ tally.broke || broken → IfOk result (λ v. bytes v ≡ line words)
-      → HasShown bytes result machine old new owner tally counted
-  shown_refused counted old new owner reply words broken listed same_words same_broken refused broke text = record {
+      → HasShown bytes result machine old new style owner tally counted
+  shown_refused counted old new style owner reply words broken listed same_words same_broken refused broke text = record {
     answer = Err reply;
     led = led_shown old new owner (Err reply) listed;
     refused = refused ∙ or-true tally.refused;
@@ -209,14 +211,14 @@ module _ {V E S : Type 0} (machine : S → Machine) (stands : AlwaysStands machi
 module _ {V E S : Type 0} (machine : S → Machine) (bytes : V → List ℕ) (result : Result V E) (moment : Moment)
     (tally counted : Tally) where
   pub spoke_shown : (old new : S) (me : ℕ) (place : Option ℕ) (owner : ℕ) → owner ≡ unwrap_or place me
-      → HasShown bytes result machine old new owner tally counted
+      → HasShown bytes result machine old new Columns owner tally counted
       → Spoke bytes result machine old new moment (Some me) (Some me) tally counted (Some (DirectoryLine place))
   spoke_shown old new me place owner e p =
-      let q = subst (λ (o : ℕ). HasShown bytes result machine old new o tally counted) e p in
-      let led = q.led (λ answer. Say (list_said (unwrap_or place me) answer)) in
+      let q = subst (λ (o : ℕ). HasShown bytes result machine old new Columns o tally counted) e p in
+      let led = q.led (λ answer. Say (list_said Columns (unwrap_or place me) answer)) in
       record {
         acts = led.acts;
-        said = list_said (unwrap_or place me) q.answer;
+        said = list_said Columns (unwrap_or place me) q.answer;
         speaks = (led.leads, refl);
         goes = led.goes;
         refused = q.refused;

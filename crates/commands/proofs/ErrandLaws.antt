@@ -10,6 +10,7 @@ use Rattle.meaning.specs.Plans.{Plan, Say}
 use Rattle.meaning.specs.Room.{room as room_in}
 use Rattle.meaning.specs.Runs.{Serving}
 use Rattle.meaning.specs.Texts.{Spoken, complains, refuses, refusal, is_broken, line}
+use Rattle.meaning.specs.declared.style.Style.{Style}
 use Rattle.meaning.specs.declared.call.Reply.{Reply}
 use Rattle.meaning.specs.declared.encoding.Encoding.{Encoding}
 use Rattle.commands.specs.Asking.{Led, Concludes}
@@ -174,12 +175,12 @@ pub none_there : (place : Option ℕ) → ((owner : ℕ) → place ≡ Some owne
 none_there None other = refl
 none_there (Some owner) other = absurd (other owner refl)
 
-pub surveyed : {S : Type 0} (machine : S → Machine) (moment : Moment) (sink full : Option (List ℕ)) (a b : S)
+pub surveyed : {S : Type 0} (machine : S → Machine) (moment : Moment) (style : Style) (sink full : Option (List ℕ)) (a b : S)
     (shown owners : List ℕ) (result : Result Tally SessionError) → shown ≡ owners
-    → Errand sink full machine a b (surveys moment shown) result → Errand sink full machine a b (surveys moment owners)
-    result
-surveyed machine moment sink full a b shown owners result same p =
-    subst (λ (l : List ℕ). Errand sink full machine a b (surveys moment l) result) same p
+    → Errand sink full machine a b (surveys moment style shown) result
+    → Errand sink full machine a b (surveys moment style owners) result
+surveyed machine moment style sink full a b shown owners result same p =
+    subst (λ (l : List ℕ). Errand sink full machine a b (surveys moment style l) result) same p
 
 -- What a volume has.
 module _ {V E : Type 0} (machine : Machine) (bytes : V → List ℕ) where

@@ -3,6 +3,7 @@ pub mod FieldLaws
 pub mod NumberLaws
 pub mod SayingLaws
 pub mod TextLaws
+pub mod TableLaws
 pub mod WritingLaws
 pub mod GoingLaws
 pub mod AnswerLaws

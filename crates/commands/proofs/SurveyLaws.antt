@@ -7,6 +7,7 @@ use Rattle.words36.specs.declared.moment.Moment.{Moment}
 use Rattle.meaning.specs.Errands.{enters, operator, shows_all, surveys}
 use Rattle.meaning.specs.Plans.{Plan, Show, Say, each, fails}
 use Rattle.meaning.specs.Texts.{Spoken, joined, silent, list_said}
+use Rattle.meaning.specs.declared.style.Style.{Style}
 use Rattle.meaning.specs.declared.call.Reply.{Reply}
 use Rattle.commands.specs.Asking.{Led, Concludes, HasShown}
 use Rattle.commands.specs.Errands.{Carries, fresh}
@@ -16,91 +17,93 @@ use Rattle.commands.specs.declared.answer.Tally.{Tally}
 use Rattle.commands.proofs.ErrandLaws.{carried, carried_behind}
 use Rattle.commands.proofs.LedLaws.{led_on, led_still}
 
-shows_next : (owner : ℕ) (owners : List ℕ) (said : Spoken)
-    → shows_all (owner ∷ owners) said
-    ≡ Show owner (λ answer. shows_all owners (joined said (list_said owner answer)))
+shows_next : (style : Style) (owner : ℕ) (owners : List ℕ) (said : Spoken)
+    → shows_all style (owner ∷ owners) said
+    ≡ Show owner (λ answer. shows_all style owners (joined said (list_said style owner answer)))
 unfolding shows_all
-shows_next owner owners said = refl
+shows_next style owner owners said = refl
 
-shows_last : (said : Spoken) → shows_all [] said ≡ Say said
+shows_last : (style : Style) (said : Spoken) → shows_all style [] said ≡ Say said
 unfolding shows_all
-shows_last said = refl
+shows_last style said = refl
 
-module _ {S : Type 0} (machine : S → Machine) (owners : List ℕ) (tally : Tally) where
+module _ {S : Type 0} (machine : S → Machine) (style : Style) (owners : List ℕ) (tally : Tally) where
   -- what is left where i of them were listed, with this text and count so far
   abbrev pub Shows : S → S → ℕ → List ℕ → Tally → Type 0
-  Shows a b i bytes counted = Led machine a b (shows_all owners (spoken [] tally))
-      (shows_all (drop i owners) (spoken bytes counted))
+  Shows a b i bytes counted = Led machine a b (shows_all style owners (spoken [] tally))
+      (shows_all style (drop i owners) (spoken bytes counted))
 
   pub shows_none : AlwaysStands machine → (a : S) → Shows a a 0 [] tally
-  shows_none stands a = led_still machine stands a (shows_all owners (spoken [] tally))
+  shows_none stands a = led_still machine stands a (shows_all style owners (spoken [] tally))
 
   module _ {V E : Type 0} (text : V → List ℕ) (a b c : S) (i owner : ℕ) (bytes : List ℕ) (counted mid : Tally)
       (h : i < length owners) (is : owner ≡ get_or owners i owner) (p : Shows a b i bytes counted)
-      (result : Result V E) (q : HasShown text result machine b c owner counted mid) where
-    next_led : Led machine a c (shows_all owners (spoken [] tally))
-        (shows_all (drop (i + 1) owners) (joined (spoken bytes counted) (list_said owner q.answer)))
+      (result : Result V E) (q : HasShown text result machine b c style owner counted mid) where
+    next_led : Led machine a c (shows_all style owners (spoken [] tally))
+        (shows_all style (drop (i + 1) owners) (joined (spoken bytes counted) (list_said style owner q.answer)))
     next_led =
         let at : drop i owners ≡ owner ∷ drop (i + 1) owners = drop_more owners i owner h
         ∙ ap (λ (o : ℕ). o ∷ drop (i + 1) owners) (sym is) in
         led_on machine a b c _ _ _
-        (subst (λ (l : List ℕ). Led machine a b (shows_all owners (spoken [] tally)) (shows_all l (spoken bytes counted)))
-        at p)
+        (subst (λ (l : List ℕ). Led machine a b (shows_all style owners (spoken [] tally))
+        (shows_all style l (spoken bytes counted))) at p)
         (subst (λ (l : Plan). Led machine b c l
-        (shows_all (drop (i + 1) owners) (joined (spoken bytes counted) (list_said owner q.answer))))
-        (sym (shows_next owner (drop (i + 1) owners) (spoken bytes counted)))
-        (q.led (λ answer. shows_all (drop (i + 1) owners) (joined (spoken bytes counted) (list_said owner answer)))))
+        (shows_all style (drop (i + 1) owners) (joined (spoken bytes counted) (list_said style owner q.answer))))
+        (sym (shows_next style owner (drop (i + 1) owners) (spoken bytes counted)))
+        (q.led (λ answer. shows_all style (drop (i + 1) owners)
+        (joined (spoken bytes counted) (list_said style owner answer)))))
 
     pub shows_more : (v : V) (more : List ℕ) → result ≡ Ok v → more ≡ bytes ++ text v → Shows a c (i + 1) more mid
     shows_more v more ok put =
-        let said : text v ≡ (list_said owner q.answer).text =
-        subst (λ (r : Result V E). IfOk r (λ w. text w ≡ (list_said owner q.answer).text)) ok q.text in
-        let grown : bytes ++ (list_said owner q.answer).text ≡ more = sym (put ∙ ap (λ l. bytes ++ l) said) in
-        subst (λ (said : Spoken). Led machine a c (shows_all owners (spoken [] tally))
-        (shows_all (drop (i + 1) owners) said))
+        let said : text v ≡ (list_said style owner q.answer).text =
+        subst (λ (r : Result V E). IfOk r (λ w. text w ≡ (list_said style owner q.answer).text)) ok q.text in
+        let grown : bytes ++ (list_said style owner q.answer).text ≡ more = sym (put ∙ ap (λ l. bytes ++ l) said) in
+        subst (λ (said : Spoken). Led machine a c (shows_all style owners (spoken [] tally))
+        (shows_all style (drop (i + 1) owners) said))
         (λ j. record { text = grown j; refused = sym q.refused j; broke = sym q.broke j }) next_led
 
-    pub shows_cut : (rest : Plan) × Led machine a c (shows_all owners (spoken [] tally)) rest
+    pub shows_cut : (rest : Plan) × Led machine a c (shows_all style owners (spoken [] tally)) rest
     shows_cut = (_, next_led)
 
   pub shows_done : (a b : S) (i : ℕ) (bytes : List ℕ) (counted : Tally) → length owners ≤ i → Shows a b i bytes counted
-      → Led machine a b (shows_all owners (spoken [] tally)) (Say (spoken bytes counted))
-  shows_done a b i bytes counted h p = subst (λ (l : Plan). Led machine a b (shows_all owners (spoken [] tally)) l)
-      (ap (λ (l : List ℕ). shows_all l (spoken bytes counted)) (drop_all i owners h) ∙ shows_last (spoken bytes counted))
-      p
+      → Led machine a b (shows_all style owners (spoken [] tally)) (Say (spoken bytes counted))
+  shows_done a b i bytes counted h p = subst (λ (l : Plan). Led machine a b (shows_all style owners (spoken [] tally)) l)
+      (ap (λ (l : List ℕ). shows_all style l (spoken bytes counted)) (drop_all i owners h)
+      ∙ shows_last style (spoken bytes counted)) p
 
 -- The job has logged in, or it is refused.
 module _ {V E S : Type 0} (machine : S → Machine) (bytes : V → List ℕ) (result : Result V E) (a b c : S)
-    (moment : Moment) (owners : List ℕ) (tally counted : Tally) (who : ℕ) (is : who ≡ operator) where
+    (moment : Moment) (style : Style) (owners : List ℕ) (tally counted : Tally) (who : ℕ) (is : who ≡ operator) where
   pub survey_carried : tally ≡ fresh
-      → Led machine a b (each moment (enters who) (shows_all owners silent)) (shows_all owners silent)
-      → IfOk result (λ v. Led machine b c (shows_all owners (spoken [] tally)) (Say (spoken (bytes v) counted)))
-      → IfErr result (λ error. (rest : Plan) × Led machine b c (shows_all owners (spoken [] tally)) rest)
-      → Carries bytes result machine a c (surveys moment owners) counted
+      → Led machine a b (each moment (enters who) (shows_all style owners silent)) (shows_all style owners silent)
+      → IfOk result (λ v. Led machine b c (shows_all style owners (spoken [] tally)) (Say (spoken (bytes v) counted)))
+      → IfErr result (λ error. (rest : Plan) × Led machine b c (shows_all style owners (spoken [] tally)) rest)
+      → Carries bytes result machine a c (surveys moment style owners) counted
   survey_carried none entered ok err =
-      let led = subst (λ (n : ℕ). Led machine a b (each moment (enters n) (shows_all owners silent))
-      (shows_all owners silent)) is entered in
+      let led = subst (λ (n : ℕ). Led machine a b (each moment (enters n) (shows_all style owners silent))
+      (shows_all style owners silent)) is entered in
       let start : spoken [] tally ≡ silent = ap (λ (t : Tally). spoken [] t) none in
       by result (subst (λ (said : Spoken). IfOk result
-      (λ v. Led machine b c (shows_all owners said) (Say (spoken (bytes v) counted)))) start ok)
-      (subst (λ (said : Spoken). IfErr result (λ error. (rest : Plan) × Led machine b c (shows_all owners said) rest))
-      start err) led
+      (λ v. Led machine b c (shows_all style owners said) (Say (spoken (bytes v) counted)))) start ok)
+      (subst (λ (said : Spoken). IfErr result
+      (λ error. (rest : Plan) × Led machine b c (shows_all style owners said) rest)) start err) led
     where
       by : (r : Result V E)
-          → IfOk r (λ v. Led machine b c (shows_all owners silent) (Say (spoken (bytes v) counted)))
-          → IfErr r (λ error. (rest : Plan) × Led machine b c (shows_all owners silent) rest)
-          → Led machine a b (surveys moment owners) (shows_all owners silent)
-          → Carries bytes r machine a c (surveys moment owners) counted
-      by (Ok v) p q led = led_on machine a b c (surveys moment owners) (shows_all owners silent)
+          → IfOk r (λ v. Led machine b c (shows_all style owners silent) (Say (spoken (bytes v) counted)))
+          → IfErr r (λ error. (rest : Plan) × Led machine b c (shows_all style owners silent) rest)
+          → Led machine a b (surveys moment style owners) (shows_all style owners silent)
+          → Carries bytes r machine a c (surveys moment style owners) counted
+      by (Ok v) p q led = led_on machine a b c (surveys moment style owners) (shows_all style owners silent)
           (Say (spoken (bytes v) counted)) led p
-      by (Err error) p q led = (q.0, led_on machine a b c (surveys moment owners) (shows_all owners silent) q.0 led q.1)
+      by (Err error) p q led =
+          (q.0, led_on machine a b c (surveys moment style owners) (shows_all style owners silent) q.0 led q.1)
 
   pub survey_refused : (reply : Reply) → tally ≡ fresh
-      → Led machine a b (each moment (enters who) (shows_all owners silent)) (fails moment reply)
+      → Led machine a b (each moment (enters who) (shows_all style owners silent)) (fails moment reply)
       → Concludes bytes result machine b c (fails moment reply) tally counted
-      → Carries bytes result machine a c (surveys moment owners) counted
+      → Carries bytes result machine a c (surveys moment style owners) counted
   survey_refused reply none entered p =
-      let led = subst (λ (n : ℕ). Led machine a b (each moment (enters n) (shows_all owners silent))
+      let led = subst (λ (n : ℕ). Led machine a b (each moment (enters n) (shows_all style owners silent))
       (fails moment reply)) is entered in
-      carried_behind machine bytes result a b c (surveys moment owners) (fails moment reply) counted led
+      carried_behind machine bytes result a b c (surveys moment style owners) (fails moment reply) counted led
       (carried machine bytes result b c (fails moment reply) tally counted none p)

@@ -5,6 +5,7 @@ use Rattle.meaning.specs.Plans.{Act, Plan, Leads, Show, Say, each, fails}
 use Rattle.meaning.specs.Texts.{Spoken, printed, list_said}
 use Rattle.meaning.specs.declared.entry.Entry.{Entry}
 use Rattle.meaning.specs.declared.encoding.Encoding.{Encoding}
+use Rattle.meaning.specs.declared.style.Style.{Style}
 use Rattle.meaning.specs.declared.call.Reply.{Reply}
 use Rattle.meaning.specs.declared.call.Event.{Event}
 use Rattle.commands.specs.Machines.{Machine, GoesBy}
@@ -40,12 +41,12 @@ pub record Concludes {V E S : Type 0} (bytes : V → List ℕ) (result : Result 
 
 -- The list of a directory was asked for, and its text, or its refusal's, is what is answered and counted.
 pub record HasShown {V E S : Type 0} (bytes : V → List ℕ) (result : Result V E) (machine : S → Machine) (old new : S)
-    (owner : ℕ) (tally counted : Tally) : Type 0 where
+    (style : Style) (owner : ℕ) (tally counted : Tally) : Type 0 where
   pub answer : Result (List Entry) Reply
   pub led : (next : Result (List Entry) Reply → Plan) → Led machine old new (Show owner next) (next answer)
-  pub refused : counted.refused ≡ tally.refused || (list_said owner answer).refused
-  pub broke : counted.broke ≡ tally.broke || (list_said owner answer).broke
-  pub text : IfOk result (λ v. bytes v ≡ (list_said owner answer).text)
+  pub refused : counted.refused ≡ tally.refused || (list_said style owner answer).refused
+  pub broke : counted.broke ≡ tally.broke || (list_said style owner answer).broke
+  pub text : IfOk result (λ v. bytes v ≡ (list_said style owner answer).text)
 
 -- The bytes that words are printed as, as far as there was memory for them.
 abbrev pub AreTyped : Encoding → Typed → List ℕ → Type 0

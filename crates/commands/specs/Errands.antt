@@ -13,6 +13,7 @@ use Rattle.meaning.specs.Texts.{Spoken}
 use Rattle.meaning.specs.declared.call.Reply.{Reply}
 use Rattle.meaning.specs.declared.call.Reply.TheVariants.{NoMemory as NoMemoryReply, Failed}
 use Rattle.meaning.specs.declared.encoding.Encoding.{Encoding}
+use Rattle.meaning.specs.declared.style.Style.{Style}
 use Rattle.commands.specs.Asking.{Led}
 use Rattle.commands.specs.Machines.{Machine, GoesBy}
 use Rattle.commands.specs.Streams.{IsCut, spoken}
@@ -84,10 +85,10 @@ AreAsked machine None (Err reply) = (reply ≡ NoMemoryReply) ⊎ (reply ≡ Fai
 
 -- The lists of directories were asked for, and written.
 pub record Survey {S : Type 0} (sink full : Option (List ℕ)) (machine : S → Machine) (old new : S) (moment : Moment)
-    (place : Option ℕ) (result : Result Tally SessionError) : Type 0 where
+    (style : Style) (place : Option ℕ) (result : Result Tally SessionError) : Type 0 where
   pub owners : Result (List ℕ) Reply
   pub asked : AreAsked (machine old) place owners
-  pub errand : Errand sink full machine old new (surveys_of moment owners) result
+  pub errand : Errand sink full machine old new (surveys_of moment style owners) result
 
 -- It was written what a volume has, or a beginning of it.
 pub record Checked (sink full : Option (List ℕ)) (machine : Machine) (result : Result Tally SessionError) : Type 0 where

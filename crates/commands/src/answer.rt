@@ -15,7 +15,7 @@ use crate::service::FileService;
 use crate::survey::show;
 use crate::text;
 use crate::typing::type_out;
-use meaning::{Command, Event, Reply, Spec};
+use meaning::{Command, Event, Reply, Spec, Style};
 use std::alloc::{AllocError, Global};
 use words36::{Moment, Ppn};
 
@@ -123,7 +123,7 @@ fn list<S: FileService>(
     ensures { Spoke (λ bytes. bytes.items) result S.machine service.old service.new moment (Some me)
         (Some me) tally.old tally.new (Some (DirectoryLine place)) }
 {
-    show(alloc, service, tally, place.unwrap_or(me))
+    show(alloc, service, tally, Style::Columns, place.unwrap_or(me))
 }
 
 /// Answers DIRECTORY, for whoever is logged in.

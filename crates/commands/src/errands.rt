@@ -14,7 +14,7 @@ use crate::service::FileService;
 use crate::survey::survey;
 use crate::typing::read_out;
 use crate::{SessionError, text};
-use meaning::{Encoding, Reply, Spec};
+use meaning::{Encoding, Reply, Spec, Style};
 use std::alloc::{AllocError, Global};
 use std::io::{Read, Write};
 use words36::{Moment, Ppn, Word};
@@ -61,7 +61,7 @@ pub fn write_out<W: Write, S: FileService>(
     Ok(tally)
 }
 
-/// Writes the lists of directories, one behind the other, as who may look into all of them.
+/// Writes the lists of directories in a style, one behind the other, as who may look into all of them.
 ///
 /// # Errors
 ///
@@ -71,13 +71,14 @@ pub fn write_lists<W: Write, S: FileService>(
     writer: &mut W,
     service: &mut S,
     moment: Moment,
+    style: Style,
     owners: &[Ppn],
 ) -> Result<Tally, SessionError>
     ensures { Errand (W.contents writer.old) (W.contents writer.new) S.machine service.old service.new
-        (surveys moment owners.now) result }
+        (surveys moment style owners.now) result }
 {
     let mut tally = Tally::none();
-    let text = survey(alloc, service, moment, &mut tally, owners);
+    let text = survey(alloc, service, moment, &mut tally, style, owners);
     print(writer, text)?;
     Ok(tally)
 }

@@ -5,7 +5,8 @@
 //! 2. `command_of` answers a command exactly where a text spells one, and none exactly where it spells none: LOGIN,
 //!    DIRECTORY, COPY, RENAME, DELETE, TYPE, PROTECT and MAKDIR. A line says one thing, or nothing.
 //!    (`lines_have_one_meaning`)
-//! 3. The greeting, the text of a refusal and the list of a directory are the definition's, byte by byte.
+//! 3. The greeting, the text of a refusal and the list of a directory, in columns and as a table, are the definition's,
+//!    byte by byte.
 //! 4. `session` reads to the end of the input, makes the calls that each line stands for, each by the
 //!    replies so far, and writes what they print: at Ok the writer got the text of all that the reader had,
 //!    the service went by these calls and a RESET of job 1 that prints nothing, and the tally is that of the
@@ -61,6 +62,7 @@ mod service;
 mod specs;
 mod stream;
 mod survey;
+mod tables;
 mod text;
 mod typing;
 
@@ -70,7 +72,7 @@ pub use laws::{
     errands_reach_files, lines_have_one_meaning, orders_have_one_reading,
     served_texts_are_functions,
 };
-pub use meaning::Encoding;
+pub use meaning::{Encoding, Style};
 pub use monitor::{Monitor, StartError};
 pub use monitored::{check, get, list, put, script, session};
 pub use names::{file_named, owner_named};

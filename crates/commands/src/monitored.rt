@@ -11,7 +11,7 @@ use crate::run::{converse, play, print};
 use crate::service::FileService;
 use crate::{SessionError, text};
 use blockdisk::Disk;
-use meaning::{Encoding, Entry, Event, Reply, Spec};
+use meaning::{Encoding, Entry, Event, Reply, Spec, Style};
 use monitor::Monitor;
 use std::alloc::Global;
 use std::io::{Read, Write};
@@ -130,8 +130,8 @@ pub fn put<R: Read, W: Write, D: Disk>(
     )
 }
 
-/// Writes the list of a directory, or of all that there are, one behind the other, as DIRECTORY prints it, by job 1,
-/// which logs in for it as [1,2], at a moment.
+/// Writes the list of a directory, or of all that there are, one behind the other, as DIRECTORY prints it or as a table,
+/// by job 1, which logs in for it as [1,2], at a moment.
 ///
 /// # Errors
 ///
@@ -142,17 +142,18 @@ pub fn list<W: Write, D: Disk>(
     writer: &mut W,
     monitor: &mut Monitor<D>,
     moment: Moment,
+    style: Style,
     place: Option<Ppn>,
 ) -> Result<Tally, SessionError>
     ensures { Survey (W.contents writer.old) (W.contents writer.new)
         (λ (m : MonitorState D). machine_of (D.state m.disk) m.map m.failed m.jobs) monitor.old monitor.new
-        moment place result }
+        moment style place result }
 {
     if let Some(owner) = place {
-        return write_lists(alloc, writer, monitor, moment, &[owner]);
+        return write_lists(alloc, writer, monitor, moment, style, &[owner]);
     }
     match monitor.owners(alloc) {
-        Ok(owners) => write_lists(alloc, writer, monitor, moment, &owners),
+        Ok(owners) => write_lists(alloc, writer, monitor, moment, style, &owners),
         Err(reply) => write_refusal(alloc, writer, monitor, &reply),
     }
 }

@@ -10,20 +10,22 @@ use crate::concluding::conclude;
 use crate::putting::enter;
 use crate::service::FileService;
 use crate::text;
+use meaning::Style;
 use std::alloc::{AllocError, Global};
 use words36::{Moment, Ppn};
 
-/// Gives the list of a directory, or its refusal, for the job that is logged in.
+/// Gives the list of a directory in a style, or its refusal, for the job that is logged in.
 pub fn show<S: FileService>(
     alloc: Global,
     service: &mut S,
     tally: &mut Tally,
+    style: Style,
     owner: Ppn,
 ) -> Result<Vec<u8>, AllocError>
-    ensures { HasShown (λ bytes. bytes.items) result S.machine service.old service.new owner tally.old tally.new }
+    ensures { HasShown (λ bytes. bytes.items) result S.machine service.old service.new style owner tally.old tally.new }
 {
     match service.list(alloc, SESSION_JOB, owner) {
-        Ok(entries) => text::listing(alloc, owner, &entries),
+        Ok(entries) => text::list_text(alloc, style, owner, &entries),
         Err(reply) => refuse(alloc, tally, text::refusal(&reply), is_broken(&reply)),
     }
 }
@@ -33,16 +35,17 @@ fn show_all<S: FileService>(
     alloc: Global,
     service: &mut S,
     tally: &mut Tally,
+    style: Style,
     owners: &[Ppn],
 ) -> Result<Vec<u8>, AllocError>
     ensures ok { IfOk result (λ bytes. Led S.machine service.old service.new
-        (shows_all owners.now (spoken [] tally.old)) (Say (spoken bytes.items tally.new))) }
+        (shows_all style owners.now (spoken [] tally.old)) (Say (spoken bytes.items tally.new))) }
     ensures err { IfErr result (λ error. (rest : Plan) × Led S.machine service.old service.new
-        (shows_all owners.now (spoken [] tally.old)) rest) }
+        (shows_all style owners.now (spoken [] tally.old)) rest) }
 {
     let mut bytes = Vec::new(alloc);
     for owner in owners {
-        let list = show(alloc, service, tally, *owner)?;
+        let list = show(alloc, service, tally, style, *owner)?;
         bytes.extend_from_slice(&list)?;
     }
     Ok(bytes)
@@ -61,14 +64,15 @@ pub fn survey<S: FileService>(
     service: &mut S,
     moment: Moment,
     tally: &mut Tally,
+    style: Style,
     owners: &[Ppn],
 ) -> Result<Vec<u8>, AllocError>
     requires { tally.old ≡ fresh }
-    ensures { Carries (λ bytes. bytes.items) result S.machine service.old service.new (surveys moment owners.now)
+    ensures { Carries (λ bytes. bytes.items) result S.machine service.old service.new (surveys moment style owners.now)
         tally.new }
 {
     match enter(alloc, service, operator()) {
-        Ok(()) => show_all(alloc, service, tally, owners),
+        Ok(()) => show_all(alloc, service, tally, style, owners),
         Err(reply) => conclude(alloc, service, moment, tally, Err(reply)),
     }
 }

@@ -2,10 +2,11 @@ ghost use Rattle.std.specs.Prelude.{◌≡◌, ◌++◌, IfOk, OnOk, codes, stri
 ghost use Rattle.words36.specs.Sixbit.{characters};
 ghost use Rattle.meaning.specs.Scripts.{written};
 ghost use Rattle.meaning.specs.Texts.{line, refusal, code_text, greeting, right_in, three_digits, extension_text};
-ghost use Rattle.meaning.specs.Texts.{month_text, day_text, entry_text, blocks_in, total_text, listing};
+ghost use Rattle.meaning.specs.Texts.{month_text, day_text, entry_text, blocks_in, total_text, listing, list_text};
 ghost use Rattle.meaning.specs.Errands.{volume_line};
 
-use meaning::{Entry, Reply};
+use crate::tables::table;
+use meaning::{Entry, Reply, Style};
 use std::alloc::{AllocError, Global};
 use words36::{FileName, Half, Ppn, text_of};
 
@@ -98,9 +99,24 @@ pub fn volume_line(alloc: Global, blocks: u32, room: i64) -> Result<Vec<u8>, All
     line(alloc, text.as_str())
 }
 
+/// What is printed of the list of a directory, in one style or the other.
+pub fn list_text(
+    alloc: Global,
+    style: Style,
+    owner: Ppn,
+    entries: &[Entry],
+) -> Result<Vec<u8>, AllocError>
+    ensures { IfOk result (λ bytes. bytes.items ≡ list_text style owner entries.now) }
+{
+    match style {
+        Style::Columns => listing(alloc, owner, entries),
+        Style::Table => table(alloc, owner, entries),
+    }
+}
+
 /// What DIRECTORY prints: the bytes of a line for each entry, and of a line with the totals.
 #[tactic(auto, unfolding(meaning::specs::Texts::listing))]
-pub fn listing(alloc: Global, owner: Ppn, entries: &[Entry]) -> Result<Vec<u8>, AllocError>
+fn listing(alloc: Global, owner: Ppn, entries: &[Entry]) -> Result<Vec<u8>, AllocError>
     ensures { IfOk result (λ bytes. bytes.items ≡ listing owner entries.now) }
 {
     let mut bytes = Vec::new(alloc);
@@ -166,7 +182,7 @@ fn push_right(bytes: &mut Vec<u8>, places: usize, text: &str) -> Result<(), Allo
 }
 
 /// The three characters of an extension.
-fn extension_text(ext: Half) -> [u8; 3]
+pub(crate) fn extension_text(ext: Half) -> [u8; 3]
     ensures { result ≡ extension_text ext }
 {
     let bits = ext.bits();
@@ -178,7 +194,7 @@ fn extension_text(ext: Half) -> [u8; 3]
 }
 
 /// A number of three octal digits.
-fn three_digits(number: u32) -> [u8; 3]
+pub(crate) fn three_digits(number: u32) -> [u8; 3]
     ensures { result ≡ three_digits number }
 {
     [

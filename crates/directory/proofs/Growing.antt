@@ -2,7 +2,8 @@
 use Rattle.std.proofs.Common.{◌≡◌, ◌⊎◌, inl, inr, ℕ, zero, suc, ◌+◌, ◌*◌, ◌^◌, ◌<◌, ◌≤◌, arith, sym, subst, ap, ◌∙◌}
 use Rattle.std.proofs.lemmas.Nat.{pow_below}
 use native.Mathlib.Nat.{pow-suc}
-use Rattle.directory.specs.Rooms.{IsFull, HasPlaces, IsRoomFor}
+use Rattle.meaning.proofs.SpliceLaws.{below_or_not}
+use Rattle.directory.specs.Spares.{IsFull, HasPlaces, IsSpareFor}
 
 -- fewer elements have places enough
 pub fewer_places : (m n c : ℕ) → m ≤ n → HasPlaces n c → HasPlaces m c
@@ -17,16 +18,6 @@ more_places n c d less h = record {
   within = let w = h.within in omega arith;
   doubled = λ k below. let e = h.doubled k below in omega arith;
 }
-
-below_or_not : (i j : ℕ) → (i < j) ⊎ (j ≤ i)
-below_or_not zero zero = inr (omega arith)
-below_or_not zero (suc j) = inl (omega arith)
-below_or_not (suc i) zero = inr (omega arith)
-below_or_not (suc i) (suc j) = step (below_or_not i j)
-  where
-    step : (i < j) ⊎ (j ≤ i) → (suc i < suc j) ⊎ (suc j ≤ suc i)
-    step (inl h) = inl (omega arith)
-    step (inr h) = inr (omega arith)
 
 -- a power of two that isn't above n is not above the greatest one
 pow_least : (n k j : ℕ) → n < 2 * 2 ^ k → 2 ^ j ≤ n → 2 ^ j ≤ 2 ^ k

@@ -6,40 +6,40 @@ use Rattle.std.specs.FinMap.Entries.{find}
 use Rattle.meaning.specs.Maps.{times}
 use Rattle.directory.specs.Chains.{ChainState, viewed}
 use Rattle.directory.specs.Edits.{Places, IsReserve}
-use Rattle.directory.specs.Rooms.{IsRoomFor}
+use Rattle.directory.specs.Spares.{IsSpareFor}
 
 module _ {E K V : Type 0} {R : K → K → Ordering} (view : E → K × V) (old : ChainState E) (k : K) where
   -- what is found is enough
-  pub found_reserve : (room : Places) → IsRoomFor (length old.entries) room.entries
-      → IsRoomFor (length old.entries) room.order → (length old.entries ≡ 42 * length old.blocks → IsRoomFor (length old.blocks) room.blocks)
-      → IsReserve R (viewed view old) k room
-  found_reserve room entries order blocks =
+  pub found_reserve : (spare : Places) → IsSpareFor (length old.entries) spare.entries
+      → IsSpareFor (length old.entries) spare.order → (length old.entries ≡ 42 * length old.blocks → IsSpareFor (length old.blocks) spare.blocks)
+      → IsReserve R (viewed view old) k spare
+  found_reserve spare entries order blocks =
       let many = length-map old.entries view in
       record {
-        entries = λ none. subst (λ n. IsRoomFor n room.entries) (sym many) entries;
-        order = λ none. subst (λ n. IsRoomFor n room.order) (sym many) order;
+        entries = λ none. subst (λ n. IsSpareFor n spare.entries) (sym many) entries;
+        order = λ none. subst (λ n. IsSpareFor n spare.order) (sym many) order;
         blocks = λ takes. blocks (sym many ∙ takes.1);
       }
 
   -- nothing is enough where the key is there
-  pub no_reserve : (room : Places) → (find R k (map view old.entries) ≡ None → ⊥) → IsReserve R (viewed view old) k room
-  no_reserve room there = record {
+  pub no_reserve : (spare : Places) → (find R k (map view old.entries) ≡ None → ⊥) → IsReserve R (viewed view old) k spare
+  no_reserve spare there = record {
     entries = λ none. absurd (there none);
     order = λ none. absurd (there none);
     blocks = λ takes. absurd (there takes.0);
   }
 
-  module _ (room : Places) (is_reserve : IsReserve R (viewed view old) k room)
+  module _ (spare : Places) (is_reserve : IsReserve R (viewed view old) k spare)
       (none : find R k (map view old.entries) ≡ None) where
-    pub room_entries : IsRoomFor (length old.entries) room.entries
-    room_entries = subst (λ n. IsRoomFor n room.entries) (length-map old.entries view) (is_reserve.entries none)
+    pub spare_entries : IsSpareFor (length old.entries) spare.entries
+    spare_entries = subst (λ n. IsSpareFor n spare.entries) (length-map old.entries view) (is_reserve.entries none)
 
-    pub room_order : IsRoomFor (length old.entries) room.order
-    room_order = subst (λ n. IsRoomFor n room.order) (length-map old.entries view) (is_reserve.order none)
+    pub spare_order : IsSpareFor (length old.entries) spare.order
+    spare_order = subst (λ n. IsSpareFor n spare.order) (length-map old.entries view) (is_reserve.order none)
 
     -- for the block, where it is taken
     pub room_block : (block : Option ℕ) → MatchOption block (length old.entries ≡ 42 * length old.blocks
         → ⊥) (λ n. (length old.entries ≡ 42 * length old.blocks) × (times n old.blocks ≡ 0))
-        → IfSome block (λ n. IsRoomFor (length old.blocks) room.blocks)
+        → IfSome block (λ n. IsSpareFor (length old.blocks) spare.blocks)
     room_block None fits = tt
     room_block (Some n) fits = is_reserve.blocks (none, length-map old.entries view ∙ fits.0)

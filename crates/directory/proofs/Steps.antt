@@ -13,6 +13,7 @@ use Rattle.meaning.specs.declared.put.Put.{Put}
 use Rattle.meaning.specs.Costs.{directory_cost}
 use Rattle.meaning.specs.Maps.{times, from_entries, insert, remove}
 use Rattle.meaning.proofs.MapSums.{times-append}
+use Rattle.meaning.proofs.SpliceLaws.{below_or_not}
 use Rattle.changeset.specs.Puts.{replaced}
 use Rattle.directory.specs.Chains.{ChainState, IsChain, viewed}
 use Rattle.directory.specs.Edits.{StandsAt, block_put, inserted, renamed, removed, last_first, PutsChain}
@@ -223,15 +224,6 @@ module _ {E K V : Type 0} {R : K → K → Ordering} (o : IsTotalOrder R) (IsEnt
     pub appended_map : (exact : IsAntisymmetric R) → from_entries {R = R} (map view new.entries)
         ≡ insert (from_entries (map view old.entries)) (view e).0 (view e).1
     appended_map exact = ap from_entries more ∙ map_appended o exact (map view old.entries) (view e) none
-
-below_or_not : (a b : ℕ) → (a < b) ⊎ (b ≤ a)
-below_or_not a zero = inr (omega arith)
-below_or_not zero (suc b) = inl (omega arith)
-below_or_not (suc a) (suc b) = step (below_or_not a b)
-  where
-    step : (a < b) ⊎ (b ≤ a) → (suc a < suc b) ⊎ (suc b ≤ suc a)
-    step (inl h) = inl (omega arith)
-    step (inr h) = inr (omega arith)
 
 -- An entry is taken out.
 module _ {E K V : Type 0} {R : K → K → Ordering} (o : IsTotalOrder R) (IsEntry : K × V → Type 0) (view : E

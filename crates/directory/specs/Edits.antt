@@ -12,7 +12,7 @@ use Rattle.meaning.specs.Log.{targets, with_puts, IsTarget}
 use Rattle.meaning.specs.Faults.{InSpace}
 use Rattle.meaning.specs.Directories.{directory_block}
 use Rattle.directory.specs.Chains.{ChainState, IsOn}
-use Rattle.directory.specs.Rooms.{IsRoomFor}
+use Rattle.directory.specs.Spares.{IsSpareFor}
 
 -- the list with its last element first
 abbrev pub last_first : {X : Type 0} → List X → List X
@@ -39,9 +39,9 @@ module _ {K V : Type 0} (R : K → K → Ordering) where
 
   -- Memory for an entry more, where the key has none yet, and for the block that the chain takes for it.
   pub record IsReserve (chain : ChainState (K × V)) (k : K) (reserve : Places) : Type 0 where
-    pub entries : find R k chain.entries ≡ None → IsRoomFor (length chain.entries) reserve.entries
-    pub order : find R k chain.entries ≡ None → IsRoomFor (length chain.entries) reserve.order
-    pub blocks : TakesBlock chain k → IsRoomFor (length chain.blocks) reserve.blocks
+    pub entries : find R k chain.entries ≡ None → IsSpareFor (length chain.entries) reserve.entries
+    pub order : find R k chain.entries ≡ None → IsSpareFor (length chain.entries) reserve.order
+    pub blocks : TakesBlock chain k → IsSpareFor (length chain.blocks) reserve.blocks
 
   -- the entries with this one: in the place of the one with its key, or at the end
   abbrev pub inserted : List (K × V) → K × V → List (K × V)

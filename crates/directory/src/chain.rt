@@ -17,7 +17,7 @@ pub struct Chain<E: Entry> {
 impl<E: Entry> Model for Chain<E> {
     ghost use Rattle.std.specs.Vec.{vec_len, vec_capacity};
     ghost use Rattle.directory.specs.Chains.{ChainState, IsChain, viewed, chain_code};
-    ghost use Rattle.directory.specs.Rooms.{HasPlaces};
+    ghost use Rattle.directory.specs.Spares.{HasPlaces};
 
     ghost Value = { ChainState E };
 

@@ -7,7 +7,7 @@ ghost use Rattle.meaning.specs.Costs.{directory_cost};
 ghost use Rattle.meaning.specs.Maps.{times, from_entries, insert, remove};
 ghost use Rattle.std.specs.Vec.{vec_len, vec_capacity};
 ghost use Rattle.directory.specs.Chains.{IsChain, viewed};
-ghost use Rattle.directory.specs.Rooms.{HasPlaces};
+ghost use Rattle.directory.specs.Spares.{HasPlaces};
 ghost use Rattle.directory.specs.Edits.{TakesBlock, PutsChain, inserted, renamed, removed, last_first, block_put};
 ghost use Rattle.directory.specs.declared.error.DirectoryError.TheVariants.{NoMemory};
 

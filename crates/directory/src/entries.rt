@@ -3,11 +3,11 @@ ghost use Rattle.std.specs.Prelude.{length, map, swap_remove, slice_get, slice_s
 ghost use Rattle.std.specs.FinMap.Entries.{find};
 ghost use Rattle.directory.specs.Edits.{StandsAt};
 ghost use Rattle.directory.specs.Indexes.{IsIndex};
-ghost use Rattle.directory.specs.Rooms.{IsRoomFor};
+ghost use Rattle.directory.specs.Spares.{IsSpareFor};
 
 use crate::Entry;
 use crate::order::{enter, find_place, rename_place, take_place};
-use crate::room::{Room, find_room, make_room, push_into};
+use crate::spare::{Spare, find_spare, make_place, push_into};
 use blockdisk::NoMemory;
 use std::alloc::Global;
 use std::marker::Model;
@@ -25,7 +25,7 @@ impl<E: Entry> Model for Entries<E> {
     ghost use Rattle.std.specs.Coded.{coded_list};
     ghost use Rattle.std.specs.Vec.{vec_len, vec_capacity};
     ghost use Rattle.directory.specs.Indexes.{IsIndex};
-    ghost use Rattle.directory.specs.Rooms.{HasPlaces};
+    ghost use Rattle.directory.specs.Spares.{HasPlaces};
 
     ghost Value = { List E };
 
@@ -82,10 +82,10 @@ impl<E: Entry> Entries<E> {
     /// # Errors
     ///
     /// `NoMemory` where there is none.
-    pub fn find_room(&self, alloc: Global) -> Result<Room<E>, NoMemory>
-        ensures { IfOk result (IsRoomFor (length self.now)) }
+    pub fn find_spare(&self, alloc: Global) -> Result<Spare<E>, NoMemory>
+        ensures { IfOk result (IsSpareFor (length self.now)) }
     {
-        find_room(alloc, self.list.len())
+        find_spare(alloc, self.list.len())
     }
 
     /// Finds the memory that the place of one entry more takes.
@@ -93,22 +93,22 @@ impl<E: Entry> Entries<E> {
     /// # Errors
     ///
     /// `NoMemory` where there is none.
-    pub fn find_place_room(&self, alloc: Global) -> Result<Room<usize>, NoMemory>
-        ensures { IfOk result (IsRoomFor (length self.now)) }
+    pub fn find_place_spare(&self, alloc: Global) -> Result<Spare<usize>, NoMemory>
+        ensures { IfOk result (IsSpareFor (length self.now)) }
     {
-        find_room(alloc, self.list.len())
+        find_spare(alloc, self.list.len())
     }
 
     /// Adds an entry with a new key behind the others, in memory found before.
-    pub fn push_into(&mut self, room: Room<E>, places: Room<usize>, entry: E)
+    pub fn push_into(&mut self, spare: Spare<E>, places: Spare<usize>, entry: E)
         requires absent { find E.order (E.view entry).0 (map E.view self.old) ≡ None }
-        requires room { IsRoomFor (length self.old) room }
-        requires places { IsRoomFor (length self.old) places }
+        requires spare { IsSpareFor (length self.old) spare }
+        requires places { IsSpareFor (length self.old) places }
         ensures { self.new ≡ self.old ++ entry ∷ [] }
     {
-        make_room(&mut self.order, places);
+        make_place(&mut self.order, places);
         enter(&mut self.order, &self.list, &entry.key(), self.list.len());
-        push_into(&mut self.list, room, entry);
+        push_into(&mut self.list, spare, entry);
     }
 
     /// Adds an entry with a new key behind the others.
@@ -122,9 +122,9 @@ impl<E: Entry> Entries<E> {
         ensures same { OnErr result (self.new ≡ self.old) }
     {
         let alloc = *self.list.allocator();
-        let room = self.find_room(alloc)?;
-        let places = self.find_place_room(alloc)?;
-        self.push_into(room, places, entry);
+        let spare = self.find_spare(alloc)?;
+        let places = self.find_place_spare(alloc)?;
+        self.push_into(spare, places, entry);
         Ok(())
     }
 

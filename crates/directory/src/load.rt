@@ -9,14 +9,14 @@ ghost use Rattle.meaning.specs.Faults.{InSpace};
 ghost use Rattle.changeset.specs.Reads.{OnlyReads};
 ghost use Rattle.alloctab.specs.Lists.{flag_at};
 ghost use Rattle.std.specs.Vec.{vec_len, vec_capacity};
-ghost use Rattle.directory.specs.Rooms.{HasPlaces};
+ghost use Rattle.directory.specs.Spares.{HasPlaces};
 ghost use Rattle.directory.specs.Loading.{SpellsBlock, AreGood, IsBadWords, IsBadAt, Adds, ReadsOn};
 ghost use Rattle.directory.specs.declared.error.DirectoryError.TheVariants.{BadDirectory, BlockTwice, Device, NoMemory};
 ghost use Rattle.directory.specs.declared.load.AddError.TheVariants.{Outside, Again};
 
 use crate::entries::Entries;
 use crate::parse::{entry_words, is_directory_block};
-use crate::room::push;
+use crate::spare::push;
 use crate::{Chain, DirectoryError, Entry};
 use alloctab::Reached;
 use blockdisk::{Disk, Fault};

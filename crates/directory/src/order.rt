@@ -5,7 +5,7 @@ ghost use Rattle.std.specs.FinMap.Entries.{find};
 ghost use Rattle.meaning.specs.Maps.{times};
 ghost use Rattle.directory.specs.Edits.{StandsAt};
 ghost use Rattle.directory.specs.Indexes.{order_to, HasKeyAt, AreRising, IsGap, IsEntered, IsIndex, IsLeft};
-ghost use Rattle.directory.specs.Rooms.{HasPlaces};
+ghost use Rattle.directory.specs.Spares.{HasPlaces};
 
 use crate::Entry;
 use std::cmp::Ordering;

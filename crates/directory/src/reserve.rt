@@ -6,11 +6,11 @@ ghost use Rattle.meaning.specs.Maps.{times, from_entries, insert};
 ghost use Rattle.directory.specs.Chains.{viewed};
 ghost use Rattle.std.specs.Vec.{vec_len, vec_capacity};
 ghost use Rattle.directory.specs.Edits.{TakesBlock, IsReserve, PutsChain, inserted};
-ghost use Rattle.directory.specs.Rooms.{HasPlaces, IsRoomFor};
+ghost use Rattle.directory.specs.Spares.{HasPlaces, IsSpareFor};
 ghost use Rattle.directory.specs.declared.error.DirectoryError.TheVariants.{NoMemory};
 
 use crate::edit::put_end;
-use crate::room::{Room, find_room, push_into};
+use crate::spare::{Spare, find_spare, push_into};
 use crate::{Chain, DirectoryError, Entry};
 use changeset::ChangeSet;
 use std::alloc::Global;
@@ -20,9 +20,9 @@ use std::marker::Model;
 /// new, and for that of blocks where it takes one. Where a list has a place left for certain there is none.
 #[derive(Drop)]
 pub struct Reserve<E: Entry> {
-    blocks: Room<u32>,
-    entries: Room<E>,
-    order: Room<usize>,
+    blocks: Spare<u32>,
+    entries: Spare<E>,
+    order: Spare<usize>,
 }
 
 impl<E: Entry> Model for Reserve<E> {
@@ -34,14 +34,14 @@ impl<E: Entry> Model for Reserve<E> {
 }
 
 /// Adds a block where one is given, in memory found before.
-fn push_block(blocks: &mut Vec<u32>, room: Room<u32>, block: Option<u32>)
+fn push_block(blocks: &mut Vec<u32>, spare: Spare<u32>, block: Option<u32>)
     requires places { HasPlaces (vec_len blocks.old) (vec_capacity blocks.old) }
-    requires room { IfSome block (λ n. IsRoomFor (vec_len blocks.old) room) }
+    requires spare { IfSome block (λ n. IsSpareFor (vec_len blocks.old) spare) }
     ensures blocks { blocks.new.items ≡ blocks.old.items ++ option_to_list block }
     ensures places { HasPlaces (vec_len blocks.new) (vec_capacity blocks.new) }
 {
     if let Some(n) = block {
-        push_into(blocks, room, n);
+        push_into(blocks, spare, n);
     }
 }
 
@@ -60,14 +60,14 @@ impl<E: Entry> Chain<E> {
     {
         if self.find(&entry.key()).is_some() {
             return Ok(Reserve {
-                blocks: Room::none(alloc),
-                entries: Room::none(alloc),
-                order: Room::none(alloc),
+                blocks: Spare::none(alloc),
+                entries: Spare::none(alloc),
+                order: Spare::none(alloc),
             });
         }
-        let entries = self.entries.find_room(alloc)?;
-        let order = self.entries.find_place_room(alloc)?;
-        let blocks = self.find_block_room(alloc)?;
+        let entries = self.entries.find_spare(alloc)?;
+        let order = self.entries.find_place_spare(alloc)?;
+        let blocks = self.find_block_spare(alloc)?;
         Ok(Reserve {
             blocks,
             entries,
@@ -76,15 +76,15 @@ impl<E: Entry> Chain<E> {
     }
 
     /// Finds the memory for one block more, where the last one is full.
-    fn find_block_room(&self, alloc: Global) -> Result<Room<u32>, DirectoryError>
-        ensures room { IfOk result (λ room. length self.now.entries ≡ 42 * length self.now.blocks
-            → IsRoomFor (length self.now.blocks) room) }
+    fn find_block_spare(&self, alloc: Global) -> Result<Spare<u32>, DirectoryError>
+        ensures spare { IfOk result (λ spare. length self.now.entries ≡ 42 * length self.now.blocks
+            → IsSpareFor (length self.now.blocks) spare) }
         ensures err { IfErr result (λ error. error ≡ NoMemory) }
     {
         if !self.needs_block() {
-            return Ok(Room::none(alloc));
+            return Ok(Spare::none(alloc));
         }
-        Ok(find_room(alloc, self.blocks.len())?)
+        Ok(find_spare(alloc, self.blocks.len())?)
     }
 
     /// Gives a key its entry as `insert` does, in memory that `reserve_for` found before for this key: it can't fail.

@@ -187,11 +187,11 @@ impl OpenFile for Failing {
     }
 
     fn sync_all(&self) -> io::Result<()> {
-        self.answer(StdCall::Sync, ())
+        Err(io::Error::from(io::ErrorKind::Unsupported))
     }
 
     fn sync_data(&self) -> io::Result<()> {
-        Err(io::Error::from(io::ErrorKind::Unsupported))
+        self.answer(StdCall::Sync, ())
     }
 }
 

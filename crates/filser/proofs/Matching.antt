@@ -150,7 +150,7 @@ task_mark (Run at) = 348
 task_mark (Calls at) = 293
 task_mark (Put file at) = 346
 task_mark (Get file at) = 305
-task_mark (ListAll place) = 318
+task_mark (ListAll place style) = 318
 task_mark Check = 307
 
 marked : (task : Task) → mark (task_name task) ≡ task_mark task
@@ -158,7 +158,7 @@ marked (Run at) = refl
 marked (Calls at) = refl
 marked (Put file at) = refl
 marked (Get file at) = refl
-marked (ListAll place) = refl
+marked (ListAll place style) = refl
 marked Check = refl
 
 other_task : (name x : Text) (task : Task) (m : ℕ) → mark x ≡ m → (m ≡ task_mark task → ⊥) → name ≡ x
@@ -173,7 +173,7 @@ init_is_no_task name (Put file at) is asked = other_task name (codes "init") (Pu
     is asked
 init_is_no_task name (Get file at) is asked = other_task name (codes "init") (Get file at) 325 refl (λ e. omega arith)
     is asked
-init_is_no_task name (ListAll place) is asked = other_task name (codes "init") (ListAll place) 325 refl
+init_is_no_task name (ListAll place style) is asked = other_task name (codes "init") (ListAll place style) 325 refl
     (λ e. omega arith) is asked
 init_is_no_task name Check is asked = other_task name (codes "init") Check 325 refl (λ e. omega arith) is asked
 
@@ -194,7 +194,7 @@ convert_is_no_task name (Put file at) is asked = other_task name (codes "convert
     (λ e. omega arith) is asked
 convert_is_no_task name (Get file at) is asked = other_task name (codes "convert") (Get file at) 321 refl
     (λ e. omega arith) is asked
-convert_is_no_task name (ListAll place) is asked = other_task name (codes "convert") (ListAll place) 321 refl
+convert_is_no_task name (ListAll place style) is asked = other_task name (codes "convert") (ListAll place style) 321 refl
     (λ e. omega arith) is asked
 convert_is_no_task name Check is asked = other_task name (codes "convert") Check 321 refl (λ e. omega arith) is asked
 
@@ -231,7 +231,7 @@ no_run name rows is none (Put file at) asked = other_task name (codes "run") (Pu
     asked.0
 no_run name rows is none (Get file at) asked = other_task name (codes "run") (Get file at) 348 refl (λ e. omega arith) is
     asked.0
-no_run name rows is none (ListAll place) asked = other_task name (codes "run") (ListAll place) 348 refl
+no_run name rows is none (ListAll place style) asked = other_task name (codes "run") (ListAll place style) 348 refl
     (λ e. omega arith) is asked.0
 no_run name rows is none Check asked = other_task name (codes "run") Check 348 refl (λ e. omega arith) is asked.0
 
@@ -244,7 +244,7 @@ no_calls name rows is none (Put file at) asked = other_task name (codes "calls")
     (λ e. omega arith) is asked.0
 no_calls name rows is none (Get file at) asked = other_task name (codes "calls") (Get file at) 293 refl
     (λ e. omega arith) is asked.0
-no_calls name rows is none (ListAll place) asked = other_task name (codes "calls") (ListAll place) 293 refl
+no_calls name rows is none (ListAll place style) asked = other_task name (codes "calls") (ListAll place style) 293 refl
     (λ e. omega arith) is asked.0
 no_calls name rows is none Check asked = other_task name (codes "calls") Check 293 refl (λ e. omega arith) is asked.0
 
@@ -256,7 +256,7 @@ no_put name rows is none (Calls at) asked = other_task name (codes "put") (Calls
 no_put name rows is none (Put file at) asked = none file at asked.1.0 asked.1.1
 no_put name rows is none (Get file at) asked = other_task name (codes "put") (Get file at) 346 refl (λ e. omega arith) is
     asked.0
-no_put name rows is none (ListAll place) asked = other_task name (codes "put") (ListAll place) 346 refl
+no_put name rows is none (ListAll place style) asked = other_task name (codes "put") (ListAll place style) 346 refl
     (λ e. omega arith) is asked.0
 no_put name rows is none Check asked = other_task name (codes "put") Check 346 refl (λ e. omega arith) is asked.0
 
@@ -268,7 +268,7 @@ no_get name rows is none (Calls at) asked = other_task name (codes "get") (Calls
 no_get name rows is none (Put file at) asked = other_task name (codes "get") (Put file at) 305 refl (λ e. omega arith) is
     asked.0
 no_get name rows is none (Get file at) asked = none file at asked.1.0 asked.1.1
-no_get name rows is none (ListAll place) asked = other_task name (codes "get") (ListAll place) 305 refl
+no_get name rows is none (ListAll place style) asked = other_task name (codes "get") (ListAll place style) 305 refl
     (λ e. omega arith) is asked.0
 no_get name rows is none Check asked = other_task name (codes "get") Check 305 refl (λ e. omega arith) is asked.0
 

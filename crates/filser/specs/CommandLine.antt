@@ -68,7 +68,8 @@ unfoldable pub get_app : App
 get_app = formed (dated (filed (new_app (codes "get"))))
 
 unfoldable pub list_app : App
-list_app = formed (with_rule (with_rule (new_app (codes "list")) (wanted (codes "IMAGE"))) (new_rule (codes "PPN")))
+list_app = formed (with_rule (with_rule (with_rule (new_app (codes "list")) (wanted (codes "IMAGE")))
+    (new_rule (codes "PPN"))) (flag (codes "tsv")))
 
 unfoldable pub check_app : App
 check_app = formed (with_rule (new_app (codes "check")) (wanted (codes "IMAGE")))

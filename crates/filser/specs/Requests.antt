@@ -8,6 +8,8 @@ use Rattle.meaning.specs.Spellings.{IsPair}
 use Rattle.imagefile.specs.declared.form.Form.{Form}
 use Rattle.imagefile.specs.declared.form.Form.TheVariants.{Wide, Packed}
 use Rattle.meaning.specs.declared.encoding.Encoding.TheVariants.{Words}
+use Rattle.meaning.specs.declared.style.Style.{Style}
+use Rattle.meaning.specs.declared.style.Style.TheVariants.{Table}
 use Rattle.commands.specs.Files.{IsFileName}
 use Rattle.filser.specs.declared.asked.Request.{Request}
 use Rattle.filser.specs.declared.asked.Request.TheVariants.{Fresh, Init, Work, Convert}
@@ -46,13 +48,17 @@ abbrev pub IsPlace : List Row → Option ℕ → Type 0
 IsPlace rows None = first_of (codes "PPN") rows ≡ None
 IsPlace rows (Some owner) = HasOwner rows owner
 
+-- lists are a table where that is asked for
+abbrev pub IsStyle : List Row → Style → Type 0
+IsStyle rows style = (style ≡ Table) ↔ HasText rows (codes "tsv") (codes "true")
+
 -- the subcommand of a task
 abbrev pub task_name : Task → Text
 task_name (Run at) = codes "run"
 task_name (Calls at) = codes "calls"
 task_name (Put file at) = codes "put"
 task_name (Get file at) = codes "get"
-task_name (ListAll place) = codes "list"
+task_name (ListAll place style) = codes "list"
 task_name Check = codes "check"
 
 -- the date and the minute that are given
@@ -65,7 +71,7 @@ HasTask rows (Run at) = IsAt rows at
 HasTask rows (Calls at) = IsAt rows at
 HasTask rows (Put file at) = IsNamed rows file × IsAt rows at
 HasTask rows (Get file at) = IsNamed rows file × IsAt rows at
-HasTask rows (ListAll place) = IsPlace rows place
+HasTask rows (ListAll place style) = IsPlace rows place × IsStyle rows style
 HasTask rows Check = Unit
 
 abbrev pub IsTask : Text → List Row → Task → Type 0

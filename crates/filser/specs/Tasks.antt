@@ -28,7 +28,7 @@ Attends state (Put file at) source left sink full first last result =
     (keeps at file.owner file.encoding (own_file file.name)) result
 Attends state (Get file at) source left sink full first last result =
     Errand sink full (machine_over state) first last (gets at file.owner file.encoding (own_file file.name)) result
-Attends state (ListAll place) source left sink full first last result =
-    (at : Moment) × IsStart at × Survey sink full (machine_over state) first last at place result
+Attends state (ListAll place style) source left sink full first last result =
+    (at : Moment) × IsStart at × Survey sink full (machine_over state) first last at style place result
 Attends state Check source left sink full first last result =
     Checked sink full (machine_over state first) result × (last ≡ first)

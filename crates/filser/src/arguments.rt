@@ -119,7 +119,7 @@ pub(crate) fn shown<'a>(command: Command<'a>, example: &'a str) -> Command<'a>
     command.after_help(example)
 }
 
-/// An option that says nothing but that it is there.
+/// That bytes are words.
 fn words<'a>(alloc: Global) -> Arg<'a>
     ensures rule { rule_of result ≡ flag (codes "words") }
     ensures local { result.global ≡ false }
@@ -141,6 +141,17 @@ pub(crate) fn filed<'a>(alloc: Global, command: Command<'a>) -> Result<Command<'
     let command = with_argument(command, owner)?;
     let command = with_argument(command, wanted(alloc, "NAME", "The file, as FOO.TXT"))?;
     with_argument(command, words(alloc))
+}
+
+/// That lists are a table.
+pub(crate) fn tsv<'a>(alloc: Global) -> Arg<'a>
+    ensures rule { rule_of result ≡ flag (codes "tsv") }
+    ensures local { result.global ≡ false }
+{
+    Arg::new(alloc, "tsv")
+        .long("tsv")
+        .action(ArgAction::SetTrue)
+        .help("A line for each file, its fields apart by tabs, and no totals")
 }
 
 /// A directory that may be left out.

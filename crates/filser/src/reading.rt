@@ -5,7 +5,7 @@ ghost use Rattle.clap.specs.Words.{kind_of, IsAmong};
 ghost use Rattle.clap.specs.declared.error.Error.{Error as ClapError};
 ghost use Rattle.clap.specs.declared.error.kind.ErrorKind.TheVariants.{OutOfMemory};
 ghost use Rattle.filser.specs.CommandLine.{command_line};
-ghost use Rattle.filser.specs.Requests.{Asks, IsAsked, IsAt, IsNamed, IsPlace, IsTask, HasForm, HasText, HasNumber};
+ghost use Rattle.filser.specs.Requests.{Asks, IsAsked, IsAt, IsNamed, IsPlace, IsStyle, IsTask, HasForm, HasText, HasNumber};
 ghost use Rattle.filser.specs.Requests.{InRange};
 ghost use Rattle.words36.specs.declared.moment.Moment.{Moment as Moments};
 ghost use Rattle.imagefile.specs.declared.form.Form.{Form as Forms};
@@ -19,7 +19,7 @@ use crate::table::command_line;
 use crate::{NamedFile, Request, RequestError, Task};
 use clap::error::ErrorKind;
 use clap::{ArgMatches, Error};
-use commands::{Encoding, file_named, owner_named};
+use commands::{Encoding, Style, file_named, owner_named};
 use imagefile::Form;
 use std::alloc::Global;
 use words36::{Moment, Ppn};
@@ -109,7 +109,7 @@ fn task(name: &str, matches: &ArgMatches) -> Option<Task>
         "calls" => Some(Task::Calls(moment(matches)?)),
         "put" => Some(Task::Put(named(matches)?, moment(matches)?)),
         "get" => Some(Task::Get(named(matches)?, moment(matches)?)),
-        "list" => Some(Task::List(place(matches)?)),
+        "list" => Some(Task::List(place(matches)?, style(matches))),
         "check" => Some(Task::Check),
         _ => None,
     }
@@ -133,6 +133,16 @@ fn place(matches: &ArgMatches) -> Option<Option<Ppn>>
     match text(matches, "PPN") {
         Some(text) => Some(Some(owner_named(text.as_bytes())?)),
         None => Some(None),
+    }
+}
+
+/// How lists are printed: as a table where that is asked for.
+fn style(matches: &ArgMatches) -> Style
+    ensures { IsStyle (rows_of (found_of matches.now)) result }
+{
+    match text(matches, "tsv") {
+        Some("true") => Style::Table,
+        _ => Style::Columns,
     }
 }
 

@@ -112,7 +112,7 @@ fn attend<D: Disk, R: Read, W: Write>(
             file.encoding,
             file.name,
         ),
-        Task::List(place) => list(alloc, writer, monitor, no_moment(), place),
+        Task::List(place, style) => list(alloc, writer, monitor, no_moment(), style, place),
         Task::Check => check(alloc, writer, monitor),
     }
 }

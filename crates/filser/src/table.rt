@@ -6,7 +6,9 @@ ghost use Rattle.clap.specs.declared.builder.command.Command.TheViews.{out-Comma
 ghost use Rattle.filser.specs.CommandLine.{calls_app, check_app, command_line, convert_app, converting};
 ghost use Rattle.filser.specs.CommandLine.{filing, get_app, init_app, list_app, looking, put_app, run_app, serving, versioned};
 
-use crate::arguments::{about, dated, filed, formed, place, shown, sized, wanted, with_argument};
+use crate::arguments::{
+    about, dated, filed, formed, place, shown, sized, tsv, wanted, with_argument,
+};
 use clap::Command;
 use std::alloc::{AllocError, Global};
 
@@ -44,6 +46,15 @@ Each run pays for one start, which reads the whole image's files, so one run
 over many lines beats many runs. One process serves an image at a time: it
 locks the file, which keeps away other runs of filser, and neither editors nor
 copies nor, on some network file systems, other machines.";
+
+/// What stands below the arguments of `list` in its help.
+const LIST_NOTES: &str = "\
+With --tsv the fields of a line are PPN, name, extension, protection, mode,
+date, time, words and blocks; PPN, protection and mode are octal.
+
+Example:
+  filser list DISK.IMG 10,20
+  filser list --tsv DISK.IMG | cut -f 2,3,8";
 
 /// A command with one more subcommand.
 fn with_one<'a>(command: Command<'a>, subcommand: Command<'a>) -> Result<Command<'a>, AllocError>
@@ -141,9 +152,10 @@ fn list_command<'a>(alloc: Global) -> Result<Command<'a>, AllocError>
         Command::new(alloc, "list"),
         "Print the list of a directory, or of all that there are",
     );
-    let command = shown(command, "Example:\n  filser list DISK.IMG 10,20");
+    let command = shown(command, LIST_NOTES);
     let command = with_argument(command, wanted(alloc, "IMAGE", "The image to look at"))?;
-    formed(alloc, with_argument(command, place(alloc))?)
+    let command = with_argument(command, place(alloc))?;
+    formed(alloc, with_argument(command, tsv(alloc))?)
 }
 
 #[tactic(auto, unfolding(crate::specs::CommandLine::check_app))]

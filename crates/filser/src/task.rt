@@ -1,4 +1,4 @@
-use commands::Encoding;
+use commands::{Encoding, Style};
 use words36::{FileName, Moment, Ppn};
 
 /// A file as the words of a command line name it, and what the bytes are that it is put from or got as.
@@ -23,8 +23,8 @@ pub enum Task {
     Put(NamedFile, Moment),
     /// `get`: print a file.
     Get(NamedFile, Moment),
-    /// `list`: print the list of a directory, or of all that there are.
-    List(Option<Ppn>),
+    /// `list`: print the list of a directory, or of all that there are, and how.
+    List(Option<Ppn>, Style),
     /// `check`: print how many blocks it has, and how many are left.
     Check,
 }

@@ -106,8 +106,16 @@ abbrev pub asked_at : ℕ → Option ℕ → Call → List Call → List Call
 asked_at at None call earlier = SeekStart at None ∷ earlier
 asked_at at (Some place) call earlier = call ∷ SeekStart at (Some place) ∷ earlier
 
--- This call was asked for at this place, and nothing else.
-pub record AsksAt (at : ℕ) (call : Call) (done : Bool) (earlier now : List Call) : Type 0 where
-  pub place : Option ℕ
-  pub asked : now ≡ asked_at at place call earlier
-  pub reached : done ≡ true → IsSome place
+-- The next read or write begins at this place.
+abbrev pub BeginsAt : Unseen → List Call → ℕ → Type 0
+BeginsAt u calls at = IsHonestRecord u calls → (after_calls u calls).position ≡ Some at
+
+-- What is asked so that the next read or write begins at a place: nothing where it does anyway, else a seek to it.
+abbrev pub GoesTo : ℕ → List Call → List Call → Type 0
+GoesTo at earlier now = ((now ≡ earlier) × ((u : Unseen) → BeginsAt u earlier at))
+    ⊎ ((place : ℕ) × (now ≡ SeekStart at (Some place) ∷ earlier))
+
+-- This call was asked for at this place, and nothing else; or the seek to it failed, and it wasn't.
+abbrev pub AsksAt : ℕ → Call → Bool → List Call → List Call → Type 0
+AsksAt at call done earlier now = ((between : List Call) × GoesTo at earlier between × (now ≡ call ∷ between))
+    ⊎ ((now ≡ SeekStart at None ∷ earlier) × (done ≡ false))

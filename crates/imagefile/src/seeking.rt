@@ -1,8 +1,9 @@
-ghost use Rattle.std.specs.Prelude.{◌≡◌, ◌+◌, ◌≤◌, ◌∷◌, ℕ, Bool, List, Some, None, All, length, take, is_ok, IfOk};
+ghost use Rattle.std.specs.Prelude.{◌≡◌, ◌+◌, ◌≤◌, ◌∷◌, ℕ, Bool, List, Some, None, All, length, take, is_ok};
+ghost use Rattle.std.specs.Prelude.{IfOk, IfSome, OnOk, OnErr};
 ghost use Rattle.imagefile.specs.File.{FileWrites, window};
-ghost use Rattle.imagefile.specs.Calls.{Call, SeekEnd, Read, Write, Sync, answer, came};
+ghost use Rattle.imagefile.specs.Calls.{Call, SeekStart, SeekEnd, Read, Write, Sync, answer, came};
 ghost use Rattle.imagefile.specs.Unseen.{Unseen, size_of};
-ghost use Rattle.imagefile.specs.Recorded.{IsHonestRecord, AsksAt, asked_at, after_calls, recorded};
+ghost use Rattle.imagefile.specs.Recorded.{IsHonestRecord, BeginsAt, GoesTo, AsksAt, asked_at, after_calls, recorded};
 ghost use Rattle.imagefile.specs.RecordedLaws.{recorded_counts_now, recorded_only_now, recorded_reaches_back};
 ghost use Rattle.imagefile.specs.Answered.{Asked, IsWithin, answered};
 ghost use Rattle.imagefile.specs.Supposition.{unseen_in};
@@ -10,13 +11,16 @@ ghost use Rattle.imagefile.specs.Supposition.{unseen_in};
 use crate::{FileCalls, HostCalls, Supposition, SystemCalls};
 use std::io;
 
-/// A file whose calls at a place are a seek to it, and then a read or a write. What it holds is what
-/// the record of its calls shows, and it is honest while that record is one that a file gives which
-/// keeps to the model and began as is supposed.
+/// A file whose calls at a place are a seek to it, and then a read or a write; there is no seek where the last call
+/// ended at that place. What it holds is what the record of its calls shows, and it is honest while that record is one
+/// that a file gives which keeps to the model and began as is supposed.
 #[derive(Drop)]
 pub struct SeekingFile<S: SystemCalls = HostCalls> {
     calls: S,
     supposed: Supposition,
+    // Where the next read or write begins, where that is known.
+    position: Option<u64>,
+    ghost placed: { (at : ℕ) → position ≡ Some at → (u : Unseen) → BeginsAt u (S.history calls) at },
 }
 
 impl<S: SystemCalls> SeekingFile<S> {
@@ -27,8 +31,38 @@ impl<S: SystemCalls> SeekingFile<S> {
         ensures calls { system_of result ≡ calls }
         ensures supposed { unseen_of result ≡ unseen_in supposed }
     {
-        SeekingFile { calls, supposed }
+        SeekingFile {
+            calls,
+            supposed,
+            position: None,
+        }
     }
+
+    /// Sees to it that the next read or write begins at a place.
+    ///
+    /// # Errors
+    ///
+    /// The system's, where it wants a seek and that failed.
+    fn go_to(&mut self, at: u64) -> io::Result<()>
+        ensures goes { OnOk result (GoesTo at (S.history (system_of self.old)) (S.history (system_of self.new))) }
+        ensures failed { OnErr result (S.history (system_of self.new)
+            ≡ SeekStart at None ∷ S.history (system_of self.old)) }
+        ensures supposed { unseen_of self.new ≡ unseen_of self.old }
+    {
+        if self.position == Some(at) {
+            return Ok(());
+        }
+        self.position = None;
+        self.calls.seek_start(at)?;
+        Ok(())
+    }
+}
+
+/// Where a call ended that began at a place, by how many bytes it read or wrote, where that is known.
+fn place_behind(at: u64, count: io::Result<usize>) -> Option<u64>
+    ensures { IfSome result (λ behind. (n : ℕ) × (answer count ≡ Some n) × (behind ≡ at + n)) }
+{
+    at.checked_add(count.ok()? as u64)
 }
 
 /// A law: where calls are answered as the model says, an honest record stays one, whatever the file
@@ -76,6 +110,7 @@ impl<S: SystemCalls> FileCalls for SeekingFile<S> {
         ensures asked { S.history (system_of self.new) ≡ SeekEnd (answer result) ∷ S.history (system_of self.old) }
         ensures supposed { unseen_of self.new ≡ unseen_of self.old }
     {
+        self.position = None;
         self.calls.seek_end()
     }
 
@@ -88,8 +123,10 @@ impl<S: SystemCalls> FileCalls for SeekingFile<S> {
             (S.history (system_of self.old)) (S.history (system_of self.new)) }
         ensures supposed { unseen_of self.new ≡ unseen_of self.old }
     {
-        self.calls.seek_start(at)?;
-        self.calls.read(bytes)
+        self.go_to(at)?;
+        let count = self.calls.read(bytes);
+        self.position = place_behind(at, count);
+        count
     }
 
     fn write_some(&mut self, at: u64, bytes: &[u8]) -> io::Result<usize>
@@ -107,8 +144,10 @@ impl<S: SystemCalls> FileCalls for SeekingFile<S> {
             (S.history (system_of self.new)) }
         ensures supposed { unseen_of self.new ≡ unseen_of self.old }
     {
-        self.calls.seek_start(at)?;
-        self.calls.write(bytes)
+        self.go_to(at)?;
+        let count = self.calls.write(bytes);
+        self.position = place_behind(at, count);
+        count
     }
 
     fn sync_all(&mut self) -> io::Result<()>

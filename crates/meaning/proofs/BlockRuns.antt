@@ -36,7 +36,8 @@ take_more (suc a) b (x ∷ xs) =
     ap (λ k. take k (x ∷ xs)) e ∙ ap (λ ys. x ∷ ys) (take_more a b xs)
 
 -- words that are put where a body ends
-pub put_at_end : (body : List ℕ) (block : ℕ) (ws : List ℕ) → block_start block ≡ length body → splice body block ws ≡ body ++ ws
+pub put_at_end : (body : List ℕ) (block : ℕ) (ws : List ℕ) → block_start block ≡ length body
+  → splice body block ws ≡ body ++ ws
 put_at_end body block [] e = sym (append-nil body)
 put_at_end body block (w ∷ ws) e =
     let whole : take (block_start block) body ≡ body = take_all (block_start block) body (omega arith) in
@@ -69,7 +70,8 @@ module _ (pack : Pack) (s : State) (j0 : Job) (there : job_at s 1 ≡ Some j0) (
       ∙ ap (λ o. at s (with_open (with_core j (after_writes j.core (dealt (areas_or_none o) ahead))) 1
       (reading place v (n + blocks_of (min (word_count (areas_or_none o)) (length ahead)))))) names
       ∙ ap (λ ws. at s (with_open (with_core j (after_writes j.core ws)) 1
-      (reading place v (n + blocks_of (moved j.core count ahead))))) (append-nil (placed block_address (take count ahead)))
+      (reading place v (n + blocks_of (moved j.core count ahead)))))
+      (append-nil (placed block_address (take count ahead)))
 
   -- the words of the block are put behind those that were
   pub puts_done : (me : ℕ) (j : Job) (o : Output) (count : ℕ) (t : State) → IsJob me j

@@ -124,7 +124,15 @@ unfolding empty insert get remove entries size dump_list areas_from
 directories = refl
 
 listed : list (play small 1000 (foo_of 0o057 300) (ready 1)).1 1 ten_twenty
-    ≡ Ok (record { name = record { name = foo; ext = 0o647064 }; protection = 0o057; date = 0; blocks = 3 } ∷ [])
+    ≡ Ok (record {
+      name = record { name = foo; ext = 0o647064 };
+      protection = 0o057;
+      mode = 0o17;
+      date = 0;
+      time = 0;
+      length = 300;
+      blocks = 3;
+    } ∷ [])
 unfolding empty insert get entries
 listed = refl
 

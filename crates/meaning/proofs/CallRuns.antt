@@ -63,10 +63,6 @@ pub passed_test : (b : Bool) (answer rest : Reply) → answer ≢ Done → (if b
 passed_test true answer rest differs e = absurd (differs e)
 passed_test false answer rest differs e = (refl, e)
 
-pub or_false : (a b : Bool) → (a || b) ≡ false → (a ≡ false) × (b ≡ false)
-or_false true b e = let wrong = e in cc
-or_false false b e = (refl, e)
-
 module _ (pack : Pack) (s : State) (j0 : Job) (there : job_at s 1 ≡ Some j0) where
   pub job_there : (j : Job) → job_at (at s j) 1 ≡ Some j
   job_there j = slot-set_same s.jobs 1 j j0 there

@@ -43,11 +43,11 @@ use Rattle.meaning.proofs.SlotLaws.{all_append, set-slot}
 use Rattle.meaning.proofs.PlanRuns.{AllDone, IsQuiet, asked, failed, goes_on, one_done, each_done, split_done}
 use Rattle.meaning.proofs.PlanRuns.{quiet_files}
 use Rattle.meaning.proofs.PlanRuns.{answered_files}
-use Rattle.meaning.proofs.CoreWrites.{length-writes, spared}
+use Rattle.meaning.proofs.CoreWrites.{writes_length, spared}
 use Rattle.meaning.proofs.CallRuns.{at, at_again, IsJob, with_core, job_there, call_done, on_open, settled_done}
 use Rattle.meaning.proofs.CallRuns.{deposits_done}
 use Rattle.meaning.proofs.OpenRuns.{open_channel, opening, reading, writing, with_open, at_own, at_other, job_core}
-use Rattle.meaning.proofs.OpenRuns.{job_open, Found, finds_done}
+use Rattle.meaning.proofs.OpenRuns.{job_open, not_none, Found, finds_done}
 use Rattle.meaning.proofs.EnterRuns.{side, outputs, Lists, list_pair, listing, writes_done}
 use Rattle.meaning.proofs.BlockRuns.{goes_done}
 use Rattle.meaning.proofs.CopyRuns.{Copying, with_body, both_done}
@@ -57,10 +57,6 @@ use Rattle.meaning.proofs.SizeRuns.{said_blocks, sizes_done, quiet_deposits, tol
 abbrev pub Copied : ℕ → Place → Version → Place → Kind → File → Job → Type 0
 Copied me from v to kind file j = IsJob me j × ((next : ℕ) × (channel_at j 1 ≡ Some (reading from v next)))
     × ((next : ℕ) × (channel_at j 2 ≡ Some (writing (side to kind (with_body file v.file.body) next))))
-
-pub housed : {X : Type 0} (d : Option X) → is_none d ≡ false → (x : X) × (d ≡ Some x)
-housed None e = let wrong = e in cc
-housed (Some x) e = (x, refl)
 
 abbrev last_events : Moment → ℕ → ℕ → List Event
 last_events moment count n = lists count ++ goes_to moment n ∷ takes moment ∷ puts moment ∷ []
@@ -141,7 +137,8 @@ module _ (pack : Pack) (s : State) (j0 : Job) (there : job_at s 1 ≡ Some j0) (
       (each_done pack (at s j) moment (takes moment ∷ puts moment ∷ []) (copies_blocks moment more next) said new
       (tt, (tt, tt)) c)
 
-  pub last_copied : (me : ℕ) (from : Place) (v : Version) (to : Place) (kind : Kind) (file : File) (more : ℕ) (next : Plan)
+  pub last_copied : (me : ℕ) (from : Place) (v : Version) (to : Place) (kind : Kind) (file : File) (more : ℕ)
+    (next : Plan)
       (said : Spoken) (new : Service) (j : Job) → Copying me from v to kind file more j → Lists 128 j.core
       → length v.file.body ≤ longest → more * 128 < length v.file.body → length v.file.body ≤ (more + 1) * 128
       → Comes pack (Serving (at s j)) (copies_last moment (more + 1) (size_word (length v.file.body)) next) said new
@@ -154,7 +151,8 @@ module _ (pack : Pack) (s : State) (j0 : Job) (there : job_at s 1 ≡ Some j0) (
       (all_append IsQuiet (lists count) (goes_to moment (more + 1) ∷ takes moment ∷ puts moment ∷ [])
       (quiet_deposits (list_pair count) list_words) (tt, (tt, (tt, tt)))) c1))
       (sizes_done pack s j0 there moment me from v more
-      (λ count. each moment (last_events moment count (more + 1)) next) said new j is.whole (more + 1) is.first named fits low
+      (λ count. each moment (last_events moment count (more + 1)) next) said new j is.whole
+      (more + 1) is.first named fits low
       high c)
     where
       count : ℕ
@@ -162,14 +160,16 @@ module _ (pack : Pack) (s : State) (j0 : Job) (there : job_at s 1 ≡ Some j0) (
 
       behind : (j1 : Job) → IsJob me j1 → (k : ℕ) → channel_at j1 1 ≡ Some (reading from v k)
           → channel_at j1 2 ≡ channel_at j 2
-          → (t : State) → AllDone pack (at s j1) (last_events moment count (more + 1)) t → Comes pack (Serving t) next said new
+          → (t : State) → AllDone pack (at s j1) (last_events moment count (more + 1)) t
+          → Comes pack (Serving t) next said new
           → (j' : Job) × Copied me from v to kind file j' × Comes pack (Serving (at s j')) next said new
       behind j1 is1 k first1 second1 t all rest =
           let parts = split_done pack (at s j1) (lists count) (goes_to moment (more + 1) ∷ takes moment ∷ puts moment
           ∷ []) t all in
           let core = after_writes j1.core (placed list_words (list_pair count)) in
           let j2 = with_core j1 core in
-          let is2 : IsJob me j2 = job_core me j1 core is1 (length-writes j1.core (placed list_words (list_pair count))) in
+          let is2 : IsJob me j2 =
+            job_core me j1 core is1 (writes_length j1.core (placed list_words (list_pair count))) in
           let to2 = deposits_done pack s j0 there (list_pair count) j1 list_words parts.0 parts.1 in
           let j3 = with_open j2 1 (reading from v (more + 1)) in
           let to3 : parts.2.0 ≡ at s j3 = goes_done pack s j0 there moment j2 from v (more + 1) k parts.2.0 first1
@@ -179,10 +179,12 @@ module _ (pack : Pack) (s : State) (j0 : Job) (there : job_at s 1 ≡ Some j0) (
             first = at_own j2 me 1 (reading from v (more + 1)) is2 (omega arith);
             second = at_other j2 1 2 (reading from v (more + 1)) (λ e. cc) ∙ second1 ∙ is.second;
           } in
-          let d = both_done pack s j0 there moment me j3 from v to kind file more count t is3 (omega arith) (omega arith)
+          let d = both_done pack s j0 there moment me j3 from v to kind file more count t is3 (omega arith)
+            (omega arith)
           (listing j1.core count is1.core) (omega arith)
           (subst (λ u. AllDone pack u (takes moment ∷ puts moment ∷ []) t) to3 parts.2.2) in
-          let all_words : take (more * 128 + count) v.file.body ≡ v.file.body = take_all (more * 128 + count) v.file.body
+          let all_words : take (more * 128 + count) v.file.body ≡ v.file.body =
+            take_all (more * 128 + count) v.file.body
           (omega arith) in (
             d.0,
             (
@@ -273,7 +275,7 @@ module _ (pack : Pack) (s : State) (j0 : Job) (there : job_at s 1 ≡ Some j0) (
       make t (serial, files) rest =
           let e = goes_on pack t moment ok said new rest in
           let v : Version = record { file = o.pending; serial = serial } in
-          let d = housed (get s.files o.place.ppn) directory in (
+          let d = not_none (get s.files o.place.ppn) directory in (
             e.0,
             record {
               serial = serial;
@@ -304,7 +306,8 @@ module _ (pack : Pack) (s : State) (j0 : Job) (there : job_at s 1 ≡ Some j0) (
       ⊎ ((j' : Job) × Copied me from v to kind file j' × Comes pack (Serving (at s j')) next said new)
   body_copied me from v to kind file next said new j is first second named fits zero count come =
       let none : v.file.body ≡ [] = empty v.file.body (no_words (length v.file.body) count) in
-      inr (j, (is, (1, first), (1, second ∙ ap (λ b. Some (writing (side to kind (with_body file b) 1))) (sym none))), come)
+      inr (j, (is, (1, first), (1, second ∙ ap (λ b. Some (writing (side to kind (with_body file b) 1))) (sym none))),
+        come)
     where
       no_words : (len : ℕ) → 0 ≡ blocks_of len → len ≡ 0
       no_words len e = grind arith
@@ -317,7 +320,8 @@ module _ (pack : Pack) (s : State) (j0 : Job) (there : job_at s 1 ≡ Some j0) (
       (omega (arith, bounds)) (omega (arith, bounds))
       (subst (λ n. Comes pack (Serving (at s j1)) (copies_last moment n (size_word (length v.file.body)) next) said new)
       one_more rest))
-      (blocks_copied me from v to kind file (copies_last moment (suc more) (size_word (length v.file.body)) next) said new
+      (blocks_copied me from v to kind file
+      (copies_last moment (suc more) (size_word (length v.file.body)) next) said new
       more 0 j (record { whole = is; first = first; second = second }) named (omega (arith, bounds)) come)
     where
       one_more : suc more ≡ more + 1
@@ -393,7 +397,7 @@ copies_are_exact pack moment me s to from said new ready to_is from_is short com
         let core = after_writes e.job.core (placed list_words (list_pair 128)) in
         let j = with_core e.job core in
         let is : IsJob me j = job_core me e.job core e.whole
-        (length-writes e.job.core (placed list_words (list_pair 128))) in
+        (writes_length e.job.core (placed list_words (list_pair 128))) in
         let to_j : t ≡ at s j = deposits_done pack s j0 there (list_pair 128) e.job list_words t
         (subst (λ u. AllDone pack u (lists 128) t) e.is last.2) in
         let v = f.version in
@@ -405,7 +409,8 @@ copies_are_exact pack moment me s to from said new ready to_is from_is short com
         let examined = told pack s j0 there moment j (file_words + 3)
         (λ size. copies_body moment (blocks_said size) size closing) said new (let l = is.core in omega arith)
         (subst (λ u. Comes pack (Serving u) rests said new) to_j rest) in
-        let sized = subst (λ n. Comes pack (Serving (at s j)) (copies_body moment (blocks_said n) n closing) said new) size
+        let sized =
+          subst (λ n. Comes pack (Serving (at s j)) (copies_body moment (blocks_said n) n closing) said new) size
         examined in
         ⊎_elim inr (λ (j', done, more). finished v f.there e.kind e.directory j' done more)
         (body_copied pack s j0 there moment me (place_of me from) v (place_of me to) e.kind

@@ -16,7 +16,7 @@ use Rattle.meaning.specs.Runs.{Steps}
 use Rattle.meaning.specs.Plans.{takes, puts, list_words, block_address}
 use Rattle.meaning.specs.declared.call.Reply.TheVariants.{Done}
 use Rattle.meaning.proofs.PlanRuns.{AllDone}
-use Rattle.meaning.proofs.CoreWrites.{length-writes, spared, window, written}
+use Rattle.meaning.proofs.CoreWrites.{writes_length, spared, window, written}
 use Rattle.meaning.proofs.CallRuns.{at, IsJob, with_core}
 use Rattle.meaning.proofs.OpenRuns.{reading, writing, with_open, at_own, at_other, job_core, job_open}
 use Rattle.meaning.proofs.EnterRuns.{side, part, Lists}
@@ -78,14 +78,15 @@ module _ (pack : Pack) (s : State) (j0 : Job) (there : job_at s 1 ≡ Some j0) (
       let core = taken j.core count ahead in
       let c1 = with_core j core in
       let is1 : IsJob me c1 = job_core me j core is.whole
-      (length-writes j.core (placed block_address (take count ahead))) in
+      (writes_length j.core (placed block_address (take count ahead))) in
       let j1 = with_open c1 1 (reading from v (k + 2)) in
       let first : u ≡ at s j1 = takes_done pack s j0 there moment me j from v (k + 1) count u is.whole is.first some few
       lists taking ∙ ap (λ n. at s (with_open c1 1 (reading from v n))) next in
       let is2 : IsJob me j1 = job_open me c1 1 (reading from v (k + 2)) is1 in
       let o = side to kind (with_body file (take (k * 128) body)) (k + 1) in
       let out : channel_at j1 2 ≡ Some (writing o) = at_other c1 1 2 (reading from v (k + 2)) (λ e. cc) ∙ is.second in
-      let second = puts_done pack s j0 there moment me j1 o count w is2 out some few (kept_lists j.core count ahead count
+      let second =
+        puts_done pack s j0 there moment me j1 o count w is2 out some few (kept_lists j.core count ahead count
       lists) (subst (λ x. Steps pack x (puts moment) Done w) first putting) in
       let words : window core block_address count ≡ take count ahead = written j.core block_address count
       (take count ahead) (omega (arith, length-take count ahead)) (let l = is.whole.core in omega arith) in
@@ -104,7 +105,8 @@ module _ (pack : Pack) (s : State) (j0 : Job) (there : job_at s 1 ≡ Some j0) (
       let o' = side to kind (with_body file (take (k * 128 + count) body)) (k + 2) in
       let j2 = with_open j1 2 (writing o') in (
         j2,
-        same ∙ second ∙ ap {A = List ℕ × ℕ} (λ b. at s (with_open j1 2 (writing (side to kind (with_body file b.0) b.1))))
+        same ∙ second
+          ∙ ap {A = List ℕ × ℕ} (λ b. at s (with_open j1 2 (writing (side to kind (with_body file b.0) b.1))))
             (λ i. (body' i, after i)),
         job_open me j1 2 (writing o') is2,
         at_other j1 2 1 (writing o') (λ e. cc) ∙ at_own c1 me 1 (reading from v (k + 2)) is1 (omega arith),

@@ -7,9 +7,9 @@ use Rattle.std.proofs.lemmas.List.{drop-set-lt, drop-set-add, get_or-set_same, g
 use Rattle.std.proofs.lemmas.List.{length-take}
 use Rattle.meaning.specs.Cores.{after_writes, placed}
 
-pub length-writes : (core : List ℕ) (ws : List (ℕ × ℕ)) → length (after_writes core ws) ≡ length core
-length-writes core [] = refl
-length-writes core (w ∷ ws) = length-writes (slice_set core w.0 w.1) ws ∙ length-set core w.0 w.1
+pub writes_length : (core : List ℕ) (ws : List (ℕ × ℕ)) → length (after_writes core ws) ≡ length core
+writes_length core [] = refl
+writes_length core (w ∷ ws) = writes_length (slice_set core w.0 w.1) ws ∙ length-set core w.0 w.1
 
 pub writes_append : (core : List ℕ) (xs ys : List (ℕ × ℕ))
     → after_writes core (xs ++ ys) ≡ after_writes (after_writes core xs) ys

@@ -1,6 +1,7 @@
 -- The file that job 1 enters on channel 2, and the command list of its block.
 use Rattle.std.proofs.Common.{◌≡◌, ◌⊎◌, inl, inr, ℕ, suc, ◌+◌, ◌-◌, ◌*◌, ◌%◌, ◌^◌, ◌<◌, ◌≤◌, Bool}
-use Rattle.std.proofs.Common.{true, false, if◌then◌else◌, List, [], ◌∷◌, ◌++◌, length, Option, Some, None, option_map, refl}
+use Rattle.std.proofs.Common.{true, false, if◌then◌else◌, List, [], ◌∷◌, ◌++◌, length, Option, Some, None, option_map}
+use Rattle.std.proofs.Common.{refl}
 use Rattle.std.proofs.Common.{ap, subst, ◌∙◌, arith, ⊎_elim, append_assoc}
 use Rattle.std.specs.Prelude.{nat_lt, nat_le, is_none, slice_index, unwrap_or, ◌==◌}
 use Rattle.std.proofs.lemmas.Bool.Decides.{nat_tests}
@@ -26,7 +27,7 @@ use Rattle.meaning.specs.declared.command.Spec.{Spec}
 use Rattle.meaning.specs.declared.call.Call.TheVariants.{Enter}
 use Rattle.meaning.specs.declared.call.Reply.TheVariants.{Done, AddressCheck, Refused}
 use Rattle.meaning.proofs.PlanRuns.{AllDone, split_done}
-use Rattle.meaning.proofs.CoreWrites.{length-writes, found, spared}
+use Rattle.meaning.proofs.CoreWrites.{writes_length, found, spared}
 use Rattle.meaning.proofs.CallRuns.{at, IsJob, with_core, passed_test, call_done, on_open, row_done}
 use Rattle.meaning.proofs.CallRuns.{deposits_done}
 use Rattle.meaning.proofs.OpenRuns.{open_channel, with_open, at_own, at_other, job_core, job_open, opening}
@@ -38,7 +39,8 @@ side place kind file next = record { place = place; kind = kind; pending = file;
 
 output_is : (files : Files Version) (j : Job) (c : Channel) (e : ℕ) (moment : Moment) (place : Place) (digit : ℕ)
     (o : Option Version) → file_at files place ≡ o → slice_index j.core (e + 2) ≡ 0
-    → (kind : Kind) × (output_opened j c e moment place digit None o ≡ side place kind (made files place c.mode moment []) 1)
+    → (kind : Kind)
+    × (output_opened j c e moment place digit None o ≡ side place kind (made files place c.mode moment []) 1)
 output_is files j c e moment place digit None is none = (Create, rw (none, is) refl)
 output_is files j c e moment place digit (Some v) is none = (Supersede, rw is refl)
 
@@ -79,7 +81,7 @@ module _ (pack : Pack) (s : State) (j0 : Job) (there : job_at s 1 ≡ Some j0) (
       let ws : List ℕ = spec.name.name ∷ join spec.name.ext 0 ∷ 0 * 2 ^ 27 ∷ unwrap_or spec.owner 0 ∷ [] in
       let j2 = naming j new_words spec in
       let is2 : IsJob me j2 = job_core me j (after_writes j.core (placed new_words ws)) is
-      (length-writes j.core (placed new_words ws)) in
+      (writes_length j.core (placed new_words ws)) in
       let second = deposits_done pack s j0 there ws j new_words last.0 last.1 in
       let call = call_done pack s j0 there j2 (Enter 2 new_words) moment last.2.0
       (subst (λ u. Steps pack u (calls moment (Enter 2 new_words)) Done last.2.0) second last.2.1) in
@@ -91,12 +93,13 @@ module _ (pack : Pack) (s : State) (j0 : Job) (there : job_at s 1 ≡ Some j0) (
       let here = place_of me spec in
       let none : slice_index j2.core (new_words + 2) ≡ 0 = found j.core new_words ws 2 (omega arith)
       (let l = is.core in omega arith) in
-      let o = output_is s.files j2 (idle c) new_words moment here (digit_at (at s j2) j2 here) (file_at s.files here) refl
+      let o = output_is s.files j2 (idle c) new_words moment here (digit_at (at s j2) j2 here)
+        (file_at s.files here) refl
       none in
       let out = side here o.0 (made s.files here c.mode moment []) 1 in
       let core = after_writes j2.core (attributing pack j2.core new_words out.pending) in
       let is3 : IsJob me (with_core j2 core) = job_core me j2 core is2
-      (length-writes j2.core (attributing pack j2.core new_words out.pending)) in
+      (writes_length j2.core (attributing pack j2.core new_words out.pending)) in
       let j3 = with_open (with_core j2 core) 2 (outputs c out) in
       let ends : last.2.0 ≡ at s j3 = row.1
       ∙ ap (λ p. at s (enter_done pack (at s j2) j2 2 (idle c) new_words moment p)) place
@@ -128,7 +131,7 @@ module _ (pack : Pack) (s : State) (j0 : Job) (there : job_at s 1 ≡ Some j0) (
       (calls moment (Enter 2 new_words) ∷ [])) all) in
       let c0 = with_core j (opening j) in
       let is0 : IsJob me c0 = job_core me j (opening j) is
-      (length-writes j.core (placed open_words (dump_mode ∷ disk ∷ 0 ∷ []))) in
+      (writes_length j.core (placed open_words (dump_mode ∷ disk ∷ 0 ∷ []))) in
       let j1 = with_open c0 2 open_channel in
       let is1 : IsJob me j1 = job_open me c0 2 open_channel is0 in
       let first = opens_done pack s j0 there moment me j 2 both.0 is both.1 in

@@ -96,7 +96,8 @@ gets_are_exact pack moment me s encoding spec said new there few short come = �
     (λ more. reads_are_exact pack moment me (logged s me) encoding spec said new (is_ready s me there) few short more)
     (enters_done pack moment me s said new (reads moment encoding spec) come)
 
-quiet_creates : (moment : Moment) (encoding : Encoding) (spec : Spec) → AllByRecursion IsQuiet (creates moment encoding spec)
+quiet_creates : (moment : Moment) (encoding : Encoding) (spec : Spec)
+  → AllByRecursion IsQuiet (creates moment encoding spec)
 quiet_creates moment Characters spec =
     let rest : List Event = calls moment (Open 2 open_words) ∷ (names new_words spec 0
     ++ calls moment (Enter 2 new_words) ∷ calls moment (Outbuf 2 1) ∷ puts moment ∷ []) in

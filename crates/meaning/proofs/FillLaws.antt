@@ -21,7 +21,7 @@ use Rattle.meaning.specs.declared.encoding.Encoding.TheVariants.{Characters, Wor
 use Rattle.meaning.specs.declared.call.Reply.TheVariants.{Done}
 use Rattle.meaning.proofs.SlotLaws.{all_append}
 use Rattle.meaning.proofs.PlanRuns.{AllDone, IsQuiet, each_done, split_done}
-use Rattle.meaning.proofs.CoreWrites.{length-writes, window, written, passed}
+use Rattle.meaning.proofs.CoreWrites.{writes_length, window, written, passed}
 use Rattle.meaning.proofs.CallRuns.{at, IsJob, with_core, deposits_done}
 use Rattle.meaning.proofs.OpenRuns.{writing, with_open, at_own, job_core, job_open}
 use Rattle.meaning.proofs.EnterRuns.{side, list_pair, listing}
@@ -36,7 +36,8 @@ PartsAreDone pack s moment encoding W =
     → length part ≤ 128 → AllDone pack (at s j) (fills moment encoding part) t
     → (j' : Job) × (t ≡ at s j') × W (k + 1) (done ++ part) j'
 
-quiet_fills : (moment : Moment) (encoding : Encoding) (part : List ℕ) → AllByRecursion IsQuiet (fills moment encoding part)
+quiet_fills : (moment : Moment) (encoding : Encoding) (part : List ℕ)
+  → AllByRecursion IsQuiet (fills moment encoding part)
 quiet_fills moment Characters part = all_append IsQuiet (deposits (part_address Characters) part) _
     (quiet_deposits part (part_address Characters)) (tt, (tt, tt))
 quiet_fills moment Words part = all_append IsQuiet (deposits (part_address Words) part) _
@@ -78,7 +79,8 @@ module _ (pack : Pack) (s : State) (moment : Moment) (encoding : Encoding) (W : 
       (λ left. omega (arith, length-append done part, whole some, length-drop 128 words, left))
       (subst (λ u. Comes pack (Serving u) (fills_parts moment encoding more (drop 128 words) next) said new) d.1 rest)))
       (each_done pack (at s j) moment (fills moment encoding (take 128 words))
-      (fills_parts moment encoding more (drop 128 words) next) said new (quiet_fills moment encoding (take 128 words)) come)
+      (fills_parts moment encoding more (drop 128 words) next) said new
+      (quiet_fills moment encoding (take 128 words)) come)
     where
       some_words : (len : ℕ) → suc more ≡ blocks_of len → 0 < len
       some_words len e = grind arith
@@ -97,11 +99,11 @@ module _ (pack : Pack) (s : State) (j0 : Job) (there : job_at s 1 ≡ Some j0) (
       let both = split_done pack last.0 (lists count) (puts moment ∷ []) t last.2 in
       let core1 = after_writes j.core (placed block_address part) in
       let j1 = with_core j core1 in
-      let is1 : IsJob me j1 = job_core me j core1 is.whole (length-writes j.core (placed block_address part)) in
+      let is1 : IsJob me j1 = job_core me j core1 is.whole (writes_length j.core (placed block_address part)) in
       let to1 = deposits_done pack s j0 there part j block_address last.0 last.1 in
       let core2 = after_writes core1 (placed list_words (list_pair count)) in
       let j2 = with_core j1 core2 in
-      let is2 : IsJob me j2 = job_core me j1 core2 is1 (length-writes core1 (placed list_words (list_pair count))) in
+      let is2 : IsJob me j2 = job_core me j1 core2 is1 (writes_length core1 (placed list_words (list_pair count))) in
       let to2 = deposits_done pack s j0 there (list_pair count) j1 list_words both.0
       (subst (λ u. AllDone pack u (lists count) both.0) to1 both.1) in
       let o = side to kind (with_body file done) (k + 1) in

@@ -24,10 +24,11 @@ use Rattle.meaning.specs.declared.command.Spec.{Spec}
 use Rattle.meaning.specs.declared.call.Call.TheVariants.{Open, Lookup}
 use Rattle.meaning.specs.declared.call.Reply.{Reply}
 use Rattle.meaning.specs.declared.call.Reply.TheVariants.{Done, NoChannel, AddressCheck, Refused}
+use Rattle.meaning.proofs.SideLaws.{or_false}
 use Rattle.meaning.proofs.SlotLaws.{slot-set_other}
 use Rattle.meaning.proofs.PlanRuns.{AllDone, split_done}
-use Rattle.meaning.proofs.CoreWrites.{length-writes, found}
-use Rattle.meaning.proofs.CallRuns.{at, IsJob, with_core, slot_set, passed_test, or_false, call_done, on_open, row_done}
+use Rattle.meaning.proofs.CoreWrites.{writes_length, found}
+use Rattle.meaning.proofs.CallRuns.{at, IsJob, with_core, slot_set, passed_test, call_done, on_open, row_done}
 use Rattle.meaning.proofs.CallRuns.{deposits_done}
 
 -- a channel that was just opened in dump mode
@@ -57,7 +58,8 @@ at_own j me ch c is few = slot_set j.channels ch (Some c) (let l = is.channels i
 pub at_other : (j : Job) (ch k : ℕ) (c : Channel) → k ≢ ch → channel_at (with_open j ch c) k ≡ channel_at j k
 at_other j ch k c differs = slot-set_other j.channels ch k (Some c) differs
 
-pub job_core : (me : ℕ) (j : Job) (core : List ℕ) → IsJob me j → length core ≡ length j.core → IsJob me (with_core j core)
+pub job_core : (me : ℕ) (j : Job) (core : List ℕ) → IsJob me j → length core ≡ length j.core
+  → IsJob me (with_core j core)
 job_core me j core is e = record { owner = is.owner; core = e ∙ is.core; channels = is.channels }
 
 pub job_open : (me : ℕ) (j : Job) (ch : ℕ) (c : Channel) → IsJob me j → IsJob me (with_open j ch c)
@@ -114,7 +116,8 @@ naming j e spec = with_core j (after_writes j.core (placed e (spec.name.name ∷
 left_join : (ext : ℕ) → ext < 2 ^ 18 → left (join ext 0) ≡ ext
 left_join ext few = grind arith
 
-named : (j : Job) (e ppn name ext : ℕ) (me : ℕ) → j.ppn ≡ me → slice_index j.core e ≡ name → left (slice_index j.core (e + 1)) ≡ ext
+named : (j : Job) (e ppn name ext : ℕ) (me : ℕ) → j.ppn ≡ me → slice_index j.core e ≡ name
+  → left (slice_index j.core (e + 1)) ≡ ext
     → slice_index j.core (e + 3) ≡ ppn
     → place_at j e ≡ record { ppn = own_if_zero ppn me; name = record { name = name; ext = ext } }
 named j e ppn name ext me f g h i = rw (f, g, h, i) refl
@@ -133,7 +136,7 @@ place_named me j e spec is few fits =
 
 -- A LOOKUP that is done finds a version, and says how long it is.
 
-not_none : {X : Type 0} (o : Option X) → is_none o ≡ false → (x : X) × (o ≡ Some x)
+pub not_none : {X : Type 0} (o : Option X) → is_none o ≡ false → (x : X) × (o ≡ Some x)
 not_none None e = let wrong = e in cc
 not_none (Some x) e = (x, refl)
 
@@ -167,13 +170,13 @@ abbrev sized : Pack → List ℕ → ℕ → File → List ℕ
 sized pack core e f = after_writes (with_attributes pack.layout core e f) ((e + 3, size_word (length f.body)) ∷ [])
 
 length-sized : (pack : Pack) (core : List ℕ) (e : ℕ) (f : File) → length (sized pack core e f) ≡ length core
-length-sized pack core e f = length-writes (with_attributes pack.layout core e f)
-    ((e + 3, size_word (length f.body)) ∷ []) ∙ length-writes core (attributing pack core e f)
+length-sized pack core e f = writes_length (with_attributes pack.layout core e f)
+    ((e + 3, size_word (length f.body)) ∷ []) ∙ writes_length core (attributing pack core e f)
 
 sized_at : (pack : Pack) (core : List ℕ) (e : ℕ) (f : File) → e + 3 < length core
     → slice_index (sized pack core e f) (e + 3) ≡ size_word (length f.body)
 sized_at pack core e f fits = get_or-set_same (with_attributes pack.layout core e f) (e + 3)
-    (size_word (length f.body)) 0 (omega (arith, length-writes core (attributing pack core e f)))
+    (size_word (length f.body)) 0 (omega (arith, writes_length core (attributing pack core e f)))
 
 module _ (pack : Pack) (s : State) (j0 : Job) (there : job_at s 1 ≡ Some j0) (moment : Moment) where
   pub finds_done : (me : ℕ) (j : Job) (spec : Spec) (t : State) → IsJob me j → IsSpec spec
@@ -184,18 +187,19 @@ module _ (pack : Pack) (s : State) (j0 : Job) (there : job_at s 1 ≡ Some j0) (
       let both = split_done pack (at s j) (opens moment 1) (names file_words spec 0) last.0 last.1 in
       let j1 = with_open (with_core j (opening j)) 1 open_channel in
       let is1 : IsJob me j1 = job_open me (with_core j (opening j)) 1 open_channel
-      (job_core me j (opening j) is (length-writes j.core (placed open_words (dump_mode ∷ disk ∷ 0 ∷ [])))) in
+      (job_core me j (opening j) is (writes_length j.core (placed open_words (dump_mode ∷ disk ∷ 0 ∷ [])))) in
       let first = opens_done pack s j0 there moment me j 1 both.0 is both.1 in
       let ws : List ℕ = spec.name.name ∷ join spec.name.ext 0 ∷ 0 * 2 ^ 27 ∷ unwrap_or spec.owner 0 ∷ [] in
       let j2 = naming j1 file_words spec in
       let is2 : IsJob me j2 = job_core me j1 (after_writes j1.core (placed file_words ws)) is1
-      (length-writes j1.core (placed file_words ws)) in
+      (writes_length j1.core (placed file_words ws)) in
       let second = deposits_done pack s j0 there ws j1 file_words last.0
       (subst (λ u. AllDone pack u (names file_words spec 0) last.0) first both.2) in
       let call = call_done pack s j0 there j2 (Lookup 1 file_words) moment last.2.0
       (subst (λ u. Steps pack u (calls moment (Lookup 1 file_words)) Done last.2.0) second last.2.1) in
       let open1 : channel_at j2 1 ≡ Some open_channel = at_own (with_core j (opening j)) me 1 open_channel
-      (job_core me j (opening j) is (length-writes j.core (placed open_words (dump_mode ∷ disk ∷ 0 ∷ [])))) (omega arith) in
+      (job_core me j (opening j) is (writes_length j.core (placed open_words (dump_mode ∷ disk ∷ 0 ∷ []))))
+      (omega arith) in
       let row = row_done pack s j0 there j2
       (lookup_answer (at s j2) j2 open_channel file_words (place_at j2 file_words))
       (lookup_done pack (at s j2) j2 1 open_channel file_words (place_at j2 file_words)) (refused_at j2 file_words)
@@ -208,7 +212,8 @@ module _ (pack : Pack) (s : State) (j0 : Job) (there : job_at s 1 ≡ Some j0) (
       let ends : last.2.0 ≡ at s j3 = row.1
       ∙ ap (λ p. at s (lookup_done pack (at s j2) j2 1 open_channel file_words p)) place
       ∙ ap (λ o. at s (looked_up pack j2 1 open_channel file_words (place_of me spec) o)) v.1 in
-      let is3 : IsJob me (with_core j2 core) = job_core me j2 core is2 (length-sized pack j2.core file_words v.0.file) in
+      let is3 : IsJob me (with_core j2 core) =
+        job_core me j2 core is2 (length-sized pack j2.core file_words v.0.file) in
       record {
         job = j3;
         is = last.2.2 ∙ ends;

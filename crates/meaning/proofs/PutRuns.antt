@@ -27,7 +27,7 @@ use Rattle.meaning.specs.declared.call.Event.{Event}
 use Rattle.meaning.specs.declared.call.Call.TheVariants.{Open, Enter, Outbuf, Out}
 use Rattle.meaning.specs.declared.call.Reply.TheVariants.{Done}
 use Rattle.meaning.proofs.PlanRuns.{AllDone, split_done}
-use Rattle.meaning.proofs.CoreWrites.{length-writes, found, spared, written, passed}
+use Rattle.meaning.proofs.CoreWrites.{writes_length, found, spared, written, passed}
 use Rattle.meaning.proofs.CallRuns.{at, IsJob, with_core, call_done, on_open, row_done, deposits_done}
 use Rattle.meaning.proofs.OpenRuns.{with_open, at_own, job_core, job_open, open_test}
 use Rattle.meaning.proofs.EnterRuns.{side, outputs, enter_done_by, writes_done}
@@ -101,7 +101,8 @@ module _ (pack : Pack) (s : State) (j0 : Job) (there : job_at s 1 ≡ Some j0) (
       (subst (λ u. Steps pack u (calls moment (Open 2 open_words)) Done parts.2.0) first parts.2.1) in
       let row = row_done pack s j0 there j1 (open_answer j1 2 open_words) (open_done j1 2 open_words) (λ reply. j1)
       parts.2.0 (open_test (at s j1) (nat_le 2 15) _ parts.2.0 call.1) in
-      let mode : slice_index core1 open_words ≡ 0 = found j.core open_words opening_words 0 (omega arith) (omega arith) in
+      let mode : slice_index core1 open_words ≡ 0 =
+        found j.core open_words opening_words 0 (omega arith) (omega arith) in
       let named : slice_index core1 (open_words + 2) ≡ join header_words 0 = found j.core open_words opening_words 2
       (omega arith) (omega arith) in
       parts.2.2 ∙ row.1 ∙ ap (λ core. at s (with_channel (with_core j core) 2 (Some (channel_opened core1 open_words))))
@@ -133,12 +134,12 @@ module _ (pack : Pack) (s : State) (j0 : Job) (there : job_at s 1 ≡ Some j0) (
       (puts moment ∷ []) t last.2 in
       let core1 = after_writes j.core (placed buffer_data part) in
       let j1 = with_core j core1 in
-      let is1 : IsJob me j1 = job_core me j core1 is.whole (length-writes j.core (placed buffer_data part)) in
+      let is1 : IsJob me j1 = job_core me j core1 is.whole (writes_length j.core (placed buffer_data part)) in
       let to1 = deposits_done pack s j0 there part j buffer_data last.0 last.1 in
       let ends : List ℕ = join 0o010700 (buffer_data - 1 + count) ∷ [] in
       let core2 = after_writes core1 (placed (header_words + 1) ends) in
       let j2 = with_core j1 core2 in
-      let is2 : IsJob me j2 = job_core me j1 core2 is1 (length-writes core1 (placed (header_words + 1) ends)) in
+      let is2 : IsJob me j2 = job_core me j1 core2 is1 (writes_length core1 (placed (header_words + 1) ends)) in
       let to2 = deposits_done pack s j0 there ends j1 (header_words + 1) both.0
       (subst (λ u. AllDone pack u (deposits (header_words + 1) ends) both.0) to1 both.1) in
       let ring : Ring count core2 = record {
@@ -163,7 +164,7 @@ module _ (pack : Pack) (s : State) (j0 : Job) (there : job_at s 1 ≡ Some j0) (
       let o' = side to kind (with_body file (done ++ part)) (k + 1 + 1) in
       let core3 = after_writes core2 (out_writes core2 header 7) in
       let j3 = with_core j2 core3 in
-      let is3 : IsJob me j3 = job_core me j2 core3 is2 (length-writes core2 (out_writes core2 header 7)) in (
+      let is3 : IsJob me j3 = job_core me j2 core3 is2 (writes_length core2 (out_writes core2 header 7)) in (
         with_open j3 2 (outputs ring_channel o'),
         both.2.2 ∙ to3 ∙ ap {A = List ℕ × ℕ}
             (λ b. at s (with_open j3 2 (outputs ring_channel (side to kind (with_body file b.0) b.1))))
@@ -184,7 +185,8 @@ module _ (pack : Pack) (s : State) (j0 : Job) (there : job_at s 1 ≡ Some j0) (
   -- The file is entered, and nothing of it is put yet.
   abbrev pub Begins : ℕ → Spec → ℕ → (Kind → File → Job → Type 0) → State → Type 0
   Begins me spec mode W t = (j' : Job) × (kind : Kind) × (t ≡ at s j')
-      × W kind (made s.files (place_of me spec) mode moment []) j' × (is_none (get s.files (place_of me spec).ppn) ≡ false)
+      × W kind (made s.files (place_of me spec) mode moment []) j'
+      × (is_none (get s.files (place_of me spec).ppn) ≡ false)
 
   pub words_begun : (me : ℕ) (j : Job) (spec : Spec) (t : State) → IsJob me j → IsSpec spec
       → AllDone pack (at s j) (creates moment Words spec) t
@@ -199,14 +201,15 @@ module _ (pack : Pack) (s : State) (j0 : Job) (there : job_at s 1 ≡ Some j0) (
   characters_begun me j spec t is few free all =
       let rest : List Event = names new_words spec 0 ++ calls moment (Enter 2 new_words) ∷ calls moment (Outbuf 2 1)
       ∷ puts moment ∷ [] in
-      let one = split_done pack (at s j) (deposits open_words opening_words ++ calls moment (Open 2 open_words) ∷ []) rest t
+      let one =
+        split_done pack (at s j) (deposits open_words opening_words ++ calls moment (Open 2 open_words) ∷ []) rest t
       (subst (λ es. AllDone pack (at s j) es t)
       (sym (append_assoc (deposits open_words opening_words) (calls moment (Open 2 open_words) ∷ []) rest)) all) in
       let core1 = after_writes j.core (placed open_words opening_words) in
       let core2 = after_writes core1 (placed header_words header_made) in
       let c2 = with_core j core2 in
-      let is2 : IsJob me c2 = job_core me j core2 is (length-writes core1 (placed header_words header_made)
-      ∙ length-writes j.core (placed open_words opening_words)) in
+      let is2 : IsJob me c2 = job_core me j core2 is (writes_length core1 (placed header_words header_made)
+      ∙ writes_length j.core (placed open_words opening_words)) in
       let j2 = with_open c2 2 ring_channel in
       let to2 : one.0 ≡ at s j2 = opened_ring me j one.0 is one.1 in
       let two = split_done pack one.0 (names new_words spec 0 ++ calls moment (Enter 2 new_words) ∷ [])
@@ -223,7 +226,7 @@ module _ (pack : Pack) (s : State) (j0 : Job) (there : job_at s 1 ≡ Some j0) (
       ∙ spared j.core open_words opening_words first_free (inr (omega arith)) ∙ free in
       let core3 = after_writes e.job.core ring_made in
       let c3 = with_core e.job core3 in
-      let is3 : IsJob me c3 = job_core me e.job core3 e.whole (length-writes e.job.core ring_made) in
+      let is3 : IsJob me c3 = job_core me e.job core3 e.whole (writes_length e.job.core ring_made) in
       let j3 = with_open c3 2 (outputs ring_channel o) in
       let to3 : two.2.0 ≡ at s j3 = made_done me e.job o two.2.0 e.whole e.second base
       (subst (λ u. Steps pack u (calls moment (Outbuf 2 1)) Done two.2.0) e.is two.2.1) in
@@ -235,7 +238,7 @@ module _ (pack : Pack) (s : State) (j0 : Job) (there : job_at s 1 ≡ Some j0) (
       let core4 = after_writes core3 (out_writes core3 header 7) in
       let c4 = with_core j3 core4 in
       let is4 : IsJob me c4 = job_core me j3 core4 (job_open me c3 2 (outputs ring_channel o) is3)
-      (length-writes core3 (out_writes core3 header 7)) in (
+      (writes_length core3 (out_writes core3 header 7)) in (
         with_open c4 2 (outputs ring_channel o),
         e.kind,
         last.2 ∙ to4 ∙ ap (λ ws. at s (with_open c4 2 (outputs ring_channel (record o {

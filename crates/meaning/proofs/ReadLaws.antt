@@ -15,7 +15,8 @@ use Rattle.meaning.specs.Outputs.{longest}
 use Rattle.meaning.specs.Room.{Pack}
 use Rattle.meaning.specs.Runs.{Service, Serving, Steps}
 use Rattle.meaning.specs.Texts.{Spoken, prints, printed}
-use Rattle.meaning.specs.Plans.{Plan, each, finds, lists, takes, goes_to, fetches, list_words, block_address, file_words}
+use Rattle.meaning.specs.Plans.{Plan, each, finds, lists, takes, goes_to, fetches, list_words, block_address}
+use Rattle.meaning.specs.Plans.{file_words}
 use Rattle.meaning.specs.Plans.{types_blocks, types_last, types_body, reads, examines, blocks_said, until_end, ends}
 use Rattle.meaning.specs.Copies.{Comes, IsReady, IsSpec, AreShort, HasFiles, IsRefused, IsShown, place_of}
 use Rattle.meaning.specs.declared.command.Spec.{Spec}
@@ -24,7 +25,7 @@ use Rattle.meaning.specs.declared.call.Event.{Event}
 use Rattle.meaning.specs.declared.call.Reply.TheVariants.{Done}
 use Rattle.meaning.proofs.SlotLaws.{all_append}
 use Rattle.meaning.proofs.PlanRuns.{AllDone, IsQuiet, each_done, split_done, goes_on}
-use Rattle.meaning.proofs.CoreWrites.{length-writes, spared, window, written}
+use Rattle.meaning.proofs.CoreWrites.{writes_length, spared, window, written}
 use Rattle.meaning.proofs.CallRuns.{at, IsJob, with_core, deposits_done}
 use Rattle.meaning.proofs.OpenRuns.{reading, with_open, at_own, job_core, job_open, Found, finds_done}
 use Rattle.meaning.proofs.EnterRuns.{Lists, list_pair, listing}
@@ -62,7 +63,7 @@ module _ (pack : Pack) (s : State) (j0 : Job) (there : job_at s 1 ≡ Some j0) (
       let core = taken j.core count ahead in
       let c1 = with_core j core in
       let is1 : IsJob me c1 = job_core me j core is.whole
-      (length-writes j.core (placed block_address (take count ahead))) in
+      (writes_length j.core (placed block_address (take count ahead))) in
       let to : t ≡ at s (with_open c1 1 (reading place v (k + 2))) =
       takes_done pack s j0 there moment me j place v (k + 1) count t is.whole is.first some few is.named steps
       ∙ ap (λ n. at s (with_open c1 1 (reading place v n))) next in
@@ -95,7 +96,8 @@ module _ (pack : Pack) (s : State) (j0 : Job) (there : job_at s 1 ≡ Some j0) (
       let two : k + 2 ≡ k + 1 + 1 = omega arith in
       let is1 : Reads me place v (k + 1 + 1) 128 d.0 = subst (λ n. Reads me place v n 128 d.0) two d.2 in
       let behind : List ℕ → Plan = λ words. types_blocks moment more (λ others. next (words ++ others)) in
-      let got = fetched pack s j0 there moment 128 d.0 block_address behind said new (let l = d.2.whole.core in omega arith)
+      let got =
+        fetched pack s j0 there moment 128 d.0 block_address behind said new (let l = d.2.whole.core in omega arith)
       (subst (λ x. Comes pack (Serving x) (fetches moment 128 block_address behind) said new) (same ∙ d.1) rest) in
       let one : k + 1 + more + 1 ≡ k + suc more + 1 = omega arith in
       let all_words : words ++ take (more * 128) (drop ((k + 1) * 128) v.file.body)
@@ -126,7 +128,8 @@ module _ (pack : Pack) (s : State) (j0 : Job) (there : job_at s 1 ≡ Some j0) (
   last_read me place v said new more next j is fits low high come =
       ⊎_elim inl (λ (j1, (is1, (k1, first1), second1, named1), c1). ⊎_elim inl
       (λ (t, all, same, rest). inr (behind j1 is1 k1 first1 t all rest))
-      (each_done pack (at s j1) moment (last_taken moment count (more + 1)) (fetches moment count block_address next) said
+      (each_done pack (at s j1) moment (last_taken moment count (more + 1))
+      (fetches moment count block_address next) said
       new (all_append IsQuiet (lists count) (goes_to moment (more + 1) ∷ takes moment ∷ [])
       (quiet_deposits (list_pair count) list_words) (tt, (tt, tt))) c1))
       (sizes_done pack s j0 there moment me place v more (λ count. each moment (last_taken moment count (more + 1))
@@ -144,7 +147,8 @@ module _ (pack : Pack) (s : State) (j0 : Job) (there : job_at s 1 ≡ Some j0) (
           let parts = split_done pack (at s j1) (lists count) (goes_to moment (more + 1) ∷ takes moment ∷ []) t all in
           let core = after_writes j1.core (placed list_words (list_pair count)) in
           let j2 = with_core j1 core in
-          let is2 : IsJob me j2 = job_core me j1 core is1 (length-writes j1.core (placed list_words (list_pair count))) in
+          let is2 : IsJob me j2 =
+            job_core me j1 core is1 (writes_length j1.core (placed list_words (list_pair count))) in
           let to2 = deposits_done pack s j0 there (list_pair count) j1 list_words parts.0 parts.1 in
           let j3 = with_open j2 1 (reading place v (more + 1)) in
           let to3 : parts.2.0 ≡ at s j3 = goes_done pack s j0 there moment j2 place v (more + 1) k parts.2.0 first1
@@ -265,7 +269,7 @@ reads_are_exact pack moment me s encoding spec said new ready few short come = �
         let core = after_writes f.job.core (placed list_words (list_pair 128)) in
         let j = with_core f.job core in
         let is : IsJob me j = job_core me f.job core f.whole
-        (length-writes f.job.core (placed list_words (list_pair 128))) in
+        (writes_length f.job.core (placed list_words (list_pair 128))) in
         let to_j : t ≡ at s j = deposits_done pack s j0 there (list_pair 128) f.job list_words t
         (subst (λ u. AllDone pack u (lists 128) t) f.is both.2) in
         let v = f.version in
@@ -275,7 +279,8 @@ reads_are_exact pack moment me s encoding spec said new ready few short come = �
         let examined = told pack s j0 there moment j (file_words + 3)
         (λ size. types_body moment (blocks_said size) size closing) said new (let l = is.core in omega arith)
         (subst (λ u. Comes pack (Serving u) rests said new) to_j rest) in
-        let sized = subst (λ n. Comes pack (Serving (at s j)) (types_body moment (blocks_said n) n closing) said new) size
+        let sized =
+          subst (λ n. Comes pack (Serving (at s j)) (types_body moment (blocks_said n) n closing) said new) size
         examined in
         ⊎_elim inr (λ (j', is', reads', more). finished v f.there j' is' reads' more)
         (body_read pack s j0 there moment me (place_of me spec) v said new

@@ -19,7 +19,8 @@ use Rattle.meaning.specs.Opening.{output_header_at, input_header_at, ring_answer
 use Rattle.meaning.specs.Looking.{lookup_answer, lookup_done, looked_up, place_at, digit_at, with_attributes, size_word}
 use Rattle.meaning.specs.Entering.{enter_answer, enter_done, output_opened}
 use Rattle.meaning.specs.Updating.{input_updating}
-use Rattle.meaning.specs.Inputs.{in_answer, in_done, core_filled, buffer_filled, words_ahead, words_moved, moved_on, ring_in}
+use Rattle.meaning.specs.Inputs.{in_answer, in_done, core_filled, buffer_filled, words_ahead, words_moved, moved_on}
+use Rattle.meaning.specs.Inputs.{ring_in}
 use Rattle.meaning.specs.Inputs.{areas_at, useti_answer, useti_done}
 use Rattle.meaning.specs.Outputs.{Outgoing, out_answer, outgoing, put_on, put_done, out_done, useto_answer, useto_done}
 use Rattle.meaning.specs.Outputs.{ring_out}
@@ -28,7 +29,8 @@ use Rattle.meaning.specs.Closing.{close_answer, close_done, files_closed, core_c
 use Rattle.meaning.specs.Closing.{header_closed, keeps_output, keeps_input}
 use Rattle.meaning.specs.Renaming.{rename_answer, rename_done, files_renamed}
 use Rattle.meaning.specs.Making.{make_answer, remove_answer, owner_at, directory_made}
-use Rattle.meaning.specs.Rings.{setup, setup_writes, is_buffered, with_ring, kept_if, in_ready, in_is_good, out_ready, out_is_good}
+use Rattle.meaning.specs.Rings.{setup, setup_writes, is_buffered, with_ring, kept_if, in_ready, in_is_good, out_ready}
+use Rattle.meaning.specs.Rings.{out_is_good}
 use Rattle.meaning.specs.Rings.{byte_size, buffers_of, base, buffer_words, current, in_writes, out_writes, data_words}
 use Rattle.meaning.specs.Sessions.{deposit_answer, deposit_done, examine_answer, resets}
 use Rattle.meaning.specs.Step.{step, last_date, on_job, on_channel, of_job, of_files, call_of, deposit, job_of}
@@ -47,7 +49,7 @@ use Rattle.meaning.specs.declared.call.Reply.TheVariants.{NoMemory, Device, Fail
 use Rattle.meaning.proofs.OutcomeLaws.{settled_by, stopped_by}
 use Rattle.meaning.proofs.SlotLaws.{slot-set_same}
 use Rattle.meaning.proofs.StepLaws.{spares_step}
-use Rattle.meaning.proofs.CoreWrites.{length-writes}
+use Rattle.meaning.proofs.CoreWrites.{writes_length}
 use Rattle.meaning.proofs.OpenRuns.{attributing}
 
 -- How long a core is that writes, a ring or a call leave.
@@ -63,7 +65,7 @@ setup_long core header size n = by (lies_outside core (base core) (n * buffer_wo
     by : (b : Bool)
         → Long (length core) (if b then None else Some (after_writes core (setup_writes core header size n)))
     by true = tt
-    by false = length-writes core (setup_writes core header size n)
+    by false = writes_length core (setup_writes core header size n)
 
 ring_long : (core : List ℕ) (header size : ℕ) → Long (length core) (with_ring core header size)
 ring_long core header size = by (current core header == 0) (lies_outside core header 3)
@@ -164,8 +166,8 @@ module _ (pack : Pack) (serial : ℕ) (s : State) (n : ℕ) (job : Job) (there :
   found_alike ch e c place (Some v) = alike_with job
       (after_writes (with_attributes pack.layout job.core e v.file) ((e + 3, size_word (length v.file.body)) ∷ [])) ch
       (Some (record (clean c) { input = Some (record { place = place; version = v; next = 1 }) }))
-      (length-writes (with_attributes pack.layout job.core e v.file) ((e + 3, size_word (length v.file.body)) ∷ [])
-      ∙ length-writes job.core (attributing pack job.core e v.file))
+      (writes_length (with_attributes pack.layout job.core e v.file) ((e + 3, size_word (length v.file.body)) ∷ [])
+      ∙ writes_length job.core (attributing pack job.core e v.file))
 
   entered_alike : (ch : ℕ) (c : Channel) (e : ℕ) (moment : Moment)
       → Alike job (enter_done pack s job ch c e moment (place_at job e))
@@ -174,12 +176,12 @@ module _ (pack : Pack) (serial : ℕ) (s : State) (n : ℕ) (job : Job) (there :
       let o = output_opened job c e moment place (digit_at s job place) c.input (file_at s.files place) in
       alike_with job (with_attributes pack.layout job.core e o.pending) ch
       (Some (record (clean c) { input = input_updating c.input (file_at s.files place); output = Some o }))
-      (length-writes job.core (attributing pack job.core e o.pending))
+      (writes_length job.core (attributing pack job.core e o.pending))
 
   buffer_long : (c : Channel) (words : List ℕ) (o : Option (List ℕ)) → Long (length job.core) o
       → length (buffer_filled job.core c o words) ≡ length job.core
   buffer_long c words None h = refl
-  buffer_long c words (Some ready) h = length-writes ready (in_writes ready c.input_header (byte_size c.mode)
+  buffer_long c words (Some ready) h = writes_length ready (in_writes ready c.input_header (byte_size c.mode)
       (cleared c.status) (take data_words words)) ∙ h
 
   filled_long : (c : Channel) (a : ℕ) (words : List ℕ) → length (core_filled job c a words) ≡ length job.core
@@ -188,7 +190,7 @@ module _ (pack : Pack) (serial : ℕ) (s : State) (n : ℕ) (job : Job) (there :
       by : (b : Bool) → length (if b then buffer_filled job.core c (ring_in job c) words
           else after_writes job.core (dealt (areas_at job a) words)) ≡ length job.core
       by true = buffer_long c words (ring_in job c) (in_long job.core c.input_header (byte_size c.mode))
-      by false = length-writes job.core (dealt (areas_at job a) words)
+      by false = writes_length job.core (dealt (areas_at job a) words)
 
   out_alike : (ch a : ℕ) (c : Channel) → Alike job (out_done job ch c a)
   out_alike ch a c = put (outgoing job c a) (sent (is_buffered c.mode))
@@ -199,7 +201,7 @@ module _ (pack : Pack) (serial : ℕ) (s : State) (n : ℕ) (job : Job) (there :
 
       ring_sent : (o : Option (List ℕ)) → Long (length job.core) o → LongOut (option_map (ring_out c) o)
       ring_sent None h = tt
-      ring_sent (Some ready) h = length-writes ready (out_writes ready c.output_header (byte_size c.mode)) ∙ h
+      ring_sent (Some ready) h = writes_length ready (out_writes ready c.output_header (byte_size c.mode)) ∙ h
 
       list_sent : (o : Option (List Area))
           → LongOut (option_map (λ areas. record { words = joined job.core areas; core = job.core }) o)
@@ -226,7 +228,7 @@ module _ (pack : Pack) (serial : ℕ) (s : State) (n : ℕ) (job : Job) (there :
 
       by : (b : Bool) → length (if b then job.core else after_writes job.core ws) ≡ length job.core
       by true = refl
-      by false = length-writes job.core ws
+      by false = writes_length job.core ws
 
   open_keeps : (ch a : ℕ) (b : Bool) → Keeps (if b then of_job s n (opens job ch a) else (NoChannel, s)).1
   open_keeps ch a true = by_row (open_answer job ch a) (open_done job ch a) (λ r. job)
@@ -238,7 +240,7 @@ module _ (pack : Pack) (serial : ℕ) (s : State) (n : ℕ) (job : Job) (there :
           ++ header_opened (mode_at job.core a) (input_header_at job.core a)
 
       opened : (b : Bool) → length (if b then after_writes job.core ws else job.core) ≡ length job.core
-      opened true = length-writes job.core ws
+      opened true = writes_length job.core ws
       opened false = refl
   open_keeps ch a false = stays
 
@@ -261,7 +263,8 @@ module _ (pack : Pack) (serial : ℕ) (s : State) (n : ℕ) (job : Job) (there :
   call_keeps (Inbuf ch k) moment = on_channel_keeps _ (channel_at job ch) (λ c. ring_keeps ch k c.input_header c)
   call_keeps (Outbuf ch k) moment = on_channel_keeps _ (channel_at job ch) (λ c. ring_keeps ch k c.output_header c)
   call_keeps (Lookup ch e) moment = on_channel_keeps _ (channel_at job ch) (λ c.
-      by_row (lookup_answer s job c e (place_at job e)) (lookup_done pack s job ch c e (place_at job e)) (refused_at job e)
+      by_row (lookup_answer s job c e (place_at job e)) (lookup_done pack s job ch c e (place_at job e))
+        (refused_at job e)
       (found_alike ch e c (place_at job e) (file_at s.files (place_at job e))) (refused_alike e))
   call_keeps (Enter ch e) moment = on_channel_keeps _ (channel_at job ch) (λ c.
       by_row (enter_answer pack s job c e (place_at job e)) (enter_done pack s job ch c e moment (place_at job e))
@@ -284,7 +287,8 @@ module _ (pack : Pack) (serial : ℕ) (s : State) (n : ℕ) (job : Job) (there :
       by_row (useto_answer c k) (with_channel job ch (Some (useto_done c k))) (stopped_in job ch c)
       (alike_with job job.core ch (Some (useto_done c k)) refl) (stopped_alike ch c))
   call_keeps (Close ch bits) moment = on_channel_keeps _ (channel_at job ch) (λ c.
-      by_files (close_answer pack s job c bits) (close_done serial job ch c bits) (files_closed serial s.files job c bits)
+      by_files (close_answer pack s job c bits) (close_done serial job ch c bits)
+        (files_closed serial s.files job c bits)
       (stopped_in job ch c)
       (alike_with job (core_closed job.core c bits) ch (Some (channel_closed serial job c bits)) (closed_long c bits))
       (stopped_alike ch c))
@@ -339,7 +343,8 @@ module _ (pack : Pack) (serial : ℕ) (s : State) (me : ℕ) (ready : IsReady s 
       (λ differs. ready)))
   own_event (Examine n address) other one = subst (λ k. IsReady (step pack serial s (Examine k address)).1 me) (sym one)
       (own_job (λ job. (examine_answer job address, s)) ready)
-  own_event (Calls n call moment) other one = subst (λ k. IsReady (step pack serial s (Calls k call moment)).1 me) (sym one)
+  own_event (Calls n call moment) other one =
+    subst (λ k. IsReady (step pack serial s (Calls k call moment)).1 me) (sym one)
       (own_if (nat_lt (last_date pack.layout) moment.date) _ (own_job (λ job. call_of pack serial s 1 job call moment)
       (kept (call_keeps pack serial s 1 ready.job ready.logged_in call moment))))
     where

@@ -9,7 +9,8 @@ use Rattle.std.proofs.lemmas.Bool.{eqb-true, eq-eqb}
 use Rattle.std.proofs.lemmas.Bool.Decides.{nat_tests}
 use Rattle.words36.specs.Words.{right, join}
 use Rattle.meaning.specs.Cores.{after_writes, lies_outside, first_free}
-use Rattle.meaning.specs.Rings.{setup, with_ring, kept_if, out_ready, out_is_good, out_writes, is_good, is_unused, is_marked}
+use Rattle.meaning.specs.Rings.{setup, with_ring, kept_if, out_ready, out_is_good, out_writes, is_good, is_unused}
+use Rattle.meaning.specs.Rings.{is_marked}
 use Rattle.meaning.specs.Rings.{current, next, target, put_count, last_is_good, buffer_data, ring_words, emptied}
 use Rattle.meaning.specs.Rings.{last_words, has_last, unmarked, pointer}
 use Rattle.meaning.proofs.CoreWrites.{window, range_window}
@@ -211,7 +212,8 @@ module _ (core : List ℕ) (l : length core ≡ 4096) (count : ℕ) (few : count
 pub no_last : (core : List ℕ) → length core ≡ 4096 → Ring 0 core → last_words core header ≡ Some []
 unfolding last_words
 no_last core l is =
-    let last : has_last core header ≡ true = has (is_unused core header) (current core header) (used core l 0 (omega arith)
+    let last : has_last core header ≡ true =
+      has (is_unused core header) (current core header) (used core l 0 (omega arith)
     is) (used_current core l 0 (omega arith) is) in
     chosen (has_last core header) (last_is_good core header) (lies_outside core header 3) (buffer_data core header) last
     (used_good core l 0 (omega arith) is) (ap (λ n. nat_lt n (header + 3)) l)

@@ -60,7 +60,7 @@ module _ (s : State) (P : Output → Type 0) where
           (all_of_filter_map P output_of job.channels (slot_of_all (λ j. AllByRecursion P (outputs_of j)) s.jobs n job
           (all_of_flat_map P outputs_of s.jobs a) e)) h
 
-or_false : (a b : Bool) → (a || b) ≡ false → (a ≡ false) × (b ≡ false)
+pub or_false : (a b : Bool) → (a || b) ≡ false → (a ≡ false) × (b ≡ false)
 or_false true b e = let wrong = e in cc
 or_false false b e = (refl, e)
 

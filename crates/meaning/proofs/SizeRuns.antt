@@ -31,7 +31,7 @@ use Rattle.meaning.specs.declared.call.Reply.{Reply}
 use Rattle.meaning.specs.declared.call.Reply.TheVariants.{Done, Value, AddressCheck}
 use Rattle.meaning.proofs.SlotLaws.{all_append}
 use Rattle.meaning.proofs.PlanRuns.{AllDone, IsQuiet, asked, each_done, split_done}
-use Rattle.meaning.proofs.CoreWrites.{length-writes, spared, window, window-cons, overlaid, written}
+use Rattle.meaning.proofs.CoreWrites.{writes_length, spared, window, window-cons, overlaid, written}
 use Rattle.meaning.proofs.CallRuns.{at, IsJob, with_core, job_there, deposits_done}
 use Rattle.meaning.proofs.OpenRuns.{reading, with_open, at_own, at_other, job_core, job_open}
 use Rattle.meaning.proofs.EnterRuns.{Lists}
@@ -154,9 +154,11 @@ module _ (pack : Pack) (s : State) (j0 : Job) (there : job_at s 1 ≡ Some j0) (
   unfolding fetches
   fetched zero j a next said new small c = c
   fetched (suc count) j a next said new small c =
-      let first = told j a (λ word. fetches moment count (a + 1) (λ words. next (word ∷ words))) said new (omega arith) c in
+      let first =
+        told j a (λ word. fetches moment count (a + 1) (λ words. next (word ∷ words))) said new (omega arith) c in
       let rest = fetched count j (a + 1) (λ words. next (slice_index j.core a ∷ words)) said new (omega arith) first in
-      subst (λ ws. Comes pack (Serving (at s j)) (next ws) said new) (sym (window-cons j.core a count (omega arith))) rest
+      subst (λ ws. Comes pack (Serving (at s j)) (next ws) said new)
+        (sym (window-cons j.core a count (omega arith))) rest
 
   -- Block n is taken over words that are all the same: these show behind the words of the version.
   takes_over_done : (me : ℕ) (place : Place) (v : Version) (n word : ℕ) (next : List ℕ → Plan) (said : Spoken)
@@ -174,7 +176,8 @@ module _ (pack : Pack) (s : State) (j0 : Job) (there : job_at s 1 ≡ Some j0) (
       ahead = words_from v.file.body n
 
       behind : (t : State)
-          → AllDone pack (at s j) (deposits block_address (replicate 128 word) ++ goes_to moment n ∷ takes moment ∷ []) t
+          → AllDone pack (at s j)
+          (deposits block_address (replicate 128 word) ++ goes_to moment n ∷ takes moment ∷ []) t
           → Comes pack (Serving t) (fetches moment 128 block_address next) said new
           → (j' : Job) × Between me place v j j' × Comes pack (Serving (at s j'))
           (next (laid (take 128 ahead) word)) said new
@@ -184,7 +187,7 @@ module _ (pack : Pack) (s : State) (j0 : Job) (there : job_at s 1 ≡ Some j0) (
           let ws : List ℕ = replicate 128 word in
           let core1 = after_writes j.core (placed block_address ws) in
           let j1 = with_core j core1 in
-          let is1 : IsJob me j1 = job_core me j core1 is (length-writes j.core (placed block_address ws)) in
+          let is1 : IsJob me j1 = job_core me j core1 is (writes_length j.core (placed block_address ws)) in
           let first1 = deposits_done pack s j0 there ws j block_address parts.0 parts.1 in
           let lists1 : Lists 128 core1 = record {
             command = spared j.core block_address ws list_words (inl (omega arith)) ∙ lists.command;
@@ -194,13 +197,15 @@ module _ (pack : Pack) (s : State) (j0 : Job) (there : job_at s 1 ≡ Some j0) (
           let is2 : IsJob me j2 = job_open me j1 1 (reading place v n) is1 in
           let first2 : parts.2.0 ≡ at s j2 = goes_done pack s j0 there moment j1 place v n k parts.2.0 first
           (subst (λ u. Steps pack u (goes_to moment n) Done parts.2.0) first1 parts.2.1) in
-          let open2 : channel_at j2 1 ≡ Some (reading place v n) = at_own j1 me 1 (reading place v n) is1 (omega arith) in
+          let open2 : channel_at j2 1 ≡ Some (reading place v n) =
+            at_own j1 me 1 (reading place v n) is1 (omega arith) in
           let core3 = taken core1 128 ahead in
           let c3 = reading place v (n + blocks_of (moved core1 128 ahead)) in
           let j3 = with_open (with_core j2 core3) 1 c3 in
           let is3 : IsJob me (with_core j2 core3) = job_core me j2 core3 is2
-          (length-writes core1 (placed block_address (take 128 ahead))) in
-          let first3 : parts.2.2.0 ≡ at s j3 = takes_done pack s j0 there moment me j2 place v n 128 parts.2.2.0 is2 open2
+          (writes_length core1 (placed block_address (take 128 ahead))) in
+          let first3 : parts.2.2.0 ≡ at s j3 =
+            takes_done pack s j0 there moment me j2 place v n 128 parts.2.2.0 is2 open2
           (omega arith) (omega arith) lists1
           (subst (λ u. Steps pack u (takes moment) Done parts.2.2.0) first2 parts.2.2.1) in
           let here : window core3 block_address 128 ≡ laid (take 128 ahead) word =
@@ -272,4 +277,5 @@ module _ (pack : Pack) (s : State) (j0 : Job) (there : job_at s 1 ≡ Some j0) (
           (takes_over_done me place v (more + 1) 1 (λ ones. next (same_words (laid ahead 0) ones)) said new j1 is1 k1
           first1 lists1 c1))
           (takes_over_done me place v (more + 1) 0
-          (λ zeros. takes_over moment (more + 1) 1 (λ ones. next (same_words zeros ones))) said new j is k first lists c)
+          (λ zeros. takes_over moment (more + 1) 1 (λ ones. next (same_words zeros ones))) said new j is k first lists
+          c)

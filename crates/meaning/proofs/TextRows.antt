@@ -11,11 +11,12 @@ use Rattle.meaning.specs.Room.{Pack, room}
 use Rattle.meaning.specs.Sessions.{list}
 use Rattle.meaning.specs.Step.{step}
 use Rattle.meaning.specs.Lines.{Bytes, TooLong, lines}
-use Rattle.meaning.specs.Texts.{Spoken, joined, silent, prints, day_text, entry_text, listing}
+use Rattle.meaning.specs.Texts.{Spoken, joined, silent, prints, day_text, entry_text, listing, row_text, table}
 use Rattle.meaning.specs.Plans.{Plan, Ask, Show, Say, each, fetches, finds, lists, counts, copies_blocks, types_blocks}
 use Rattle.meaning.specs.Plans.{begins}
 use Rattle.meaning.specs.Transcripts.{login_said, core_words}
 use Rattle.meaning.specs.Scripts.{written}
+use Rattle.meaning.specs.declared.entry.Entry.{Entry}
 use Rattle.meaning.specs.declared.command.Spec.{Spec}
 use Rattle.meaning.specs.declared.command.Command.{Command}
 use Rattle.meaning.specs.declared.command.Command.TheVariants.{Login as LoginLine, Directory as DirectoryLine}
@@ -188,3 +189,40 @@ days : (day_text 0 ≡ codes " 1-Jan-1964") × (day_text 4095 ≡ codes " 4-Jan-
     × (day_text 4096 ≡ codes " 5-Jan-1975") × (day_text 32767 ≡ codes " 1-Feb-2052")
 unfolding digits
 days = (refl, refl, refl, refl)
+
+-- Lines of a list as a table: a file as it is in most lists; and a name with a blank inside, no extension, more blocks
+-- than one, and the last day and minute that there are.
+abbrev tabbed : List (List ℕ) → List ℕ
+tabbed [] = []
+tabbed (text ∷ []) = text ++ 10 ∷ []
+tabbed (text ∷ next ∷ texts) = text ++ 9 ∷ tabbed (next ∷ texts)
+
+abbrev foo_entry : Entry
+foo_entry = record {
+  name = record { name = foo; ext = 0o647064 };
+  protection = 0o057;
+  mode = 0;
+  date = 4095;
+  time = 605;
+  length = 2;
+  blocks = 1;
+}
+
+abbrev odd_entry : Entry
+odd_entry = record {
+  name = record { name = 0o410042000000; ext = 0 };
+  protection = 0o777;
+  mode = 0o17;
+  date = 32767;
+  time = 1439;
+  length = 129;
+  blocks = 2;
+}
+
+tables : (table ten_twenty (foo_entry ∷ odd_entry ∷ [])
+    ≡ tabbed (codes "10,20" ∷ codes "FOO" ∷ codes "TXT" ∷ codes "057" ∷ codes "00" ∷ codes "1975-01-04"
+    ∷ codes "10:05" ∷ codes "2" ∷ codes "1" ∷ [])
+    ++ tabbed (codes "10,20" ∷ codes "A B" ∷ [] ∷ codes "777" ∷ codes "17" ∷ codes "2052-02-01" ∷ codes "23:59"
+    ∷ codes "129" ∷ codes "2" ∷ [])) × (table ten_twenty [] ≡ [])
+unfolding table row_text digits
+tables = (refl, refl)

@@ -1,6 +1,7 @@
 -- What a line of a session, or an errand of job 1, comes to: the file that a copy leaves, the text that a file is shown
 -- as, the file that is put.
-use Rattle.std.specs.Prelude.{◌≡◌, ◌⊎◌, ◌≤◌, ◌<◌, ℕ, ◌^◌, Bool, true, false, IsTrue, List, length, unwrap_or, Option, Some, None}
+use Rattle.std.specs.Prelude.{◌≡◌, ◌⊎◌, ◌≤◌, ◌<◌, ℕ, ◌^◌, Bool, true, false, IsTrue, List, length, unwrap_or, Option}
+use Rattle.std.specs.Prelude.{Some, None}
 use Rattle.words36.specs.declared.moment.Moment.{Moment}
 use Rattle.blockdisk.specs.Disk.{Contents}
 use Rattle.meaning.specs.Files.{File, Files, Place}
@@ -96,7 +97,8 @@ IsCopied moment me s to from said new =
 abbrev pub CopiesAreExact : Type 0
 CopiesAreExact =
     (pack : Pack) (moment : Moment) (me : ℕ) (s : State) (to from : Spec) (said : Spoken) (new : Service)
-    → IsReady s me → IsSpec to → IsSpec from → AreShort s.files → Comes pack (Serving s) (copies moment to from) said new
+    → IsReady s me → IsSpec to → IsSpec from → AreShort s.files
+    → Comes pack (Serving s) (copies moment to from) said new
     → IsCopied moment me s to from said new ⊎ IsRefused s.files said new
 
 -- A file that is read is printed, or the line is refused; the files stay.
@@ -156,7 +158,8 @@ asks_for_login (Calls n call moment) = false
 
 abbrev pub LoginsMakeReady : Type 0
 LoginsMakeReady =
-    (pack : Pack) (s t : State) (me : ℕ) → 1 < length s.jobs → Steps pack s (Login 1 me core_words) Done t → IsReady t me
+    (pack : Pack) (s t : State) (me : ℕ) → 1 < length s.jobs → Steps pack s (Login 1 me core_words) Done t
+    → IsReady t me
 
 abbrev pub ReadyStays : Type 0
 ReadyStays =

@@ -21,6 +21,7 @@ use Rattle.meaning.specs.declared.call.Reply.{Reply}
 use Rattle.meaning.specs.declared.call.Event.TheVariants.{Login, Deposit}
 use Rattle.meaning.specs.declared.command.Spec.{Spec}
 use Rattle.meaning.specs.declared.encoding.Encoding.{Encoding}
+use Rattle.meaning.specs.declared.style.Style.{Style}
 use Rattle.meaning.specs.declared.encoding.Encoding.TheVariants.{Characters, Words}
 
 -- a file in the directory of the one who logs in
@@ -40,17 +41,18 @@ gets moment owner encoding spec = each moment (enters owner) (reads moment encod
 abbrev pub operator : ℕ
 operator = join 1 2
 
-unfoldable pub shows_all : List ℕ → Spoken → Plan
-shows_all [] said = Say said
-shows_all (owner ∷ owners) said = Show owner (λ answer. shows_all owners (joined said (list_said owner answer)))
+unfoldable pub shows_all : Style → List ℕ → Spoken → Plan
+shows_all style [] said = Say said
+shows_all style (owner ∷ owners) said =
+    Show owner (λ answer. shows_all style owners (joined said (list_said style owner answer)))
 
-abbrev pub surveys : Moment → List ℕ → Plan
-surveys moment owners = each moment (enters operator) (shows_all owners silent)
+abbrev pub surveys : Moment → Style → List ℕ → Plan
+surveys moment style owners = each moment (enters operator) (shows_all style owners silent)
 
 -- the same where it had to be asked which there are
-abbrev pub surveys_of : Moment → Result (List ℕ) Reply → Plan
-surveys_of moment (Ok owners) = surveys moment owners
-surveys_of moment (Err reply) = Say (refuses reply)
+abbrev pub surveys_of : Moment → Style → Result (List ℕ) Reply → Plan
+surveys_of moment style (Ok owners) = surveys moment style owners
+surveys_of moment style (Err reply) = Say (refuses reply)
 
 -- A file is put. Its bytes say which words it has, or that they are none: a character is a byte from 1 to 127, since a
 -- null would be lost, and a word has 36 bits.

@@ -9,6 +9,7 @@ use Rattle.meaning.specs.Opening.{disk, dump_mode}
 use Rattle.meaning.specs.Texts.{Spoken, prints, refuses, line, printed, list_said}
 use Rattle.meaning.specs.declared.encoding.Encoding.{Encoding}
 use Rattle.meaning.specs.declared.encoding.Encoding.TheVariants.{Characters}
+use Rattle.meaning.specs.declared.style.Style.TheVariants.{Columns}
 use Rattle.meaning.specs.declared.command.Spec.{Spec}
 use Rattle.meaning.specs.declared.command.Command.{Command}
 use Rattle.meaning.specs.declared.command.Command.TheVariants.{Login as LoginLine, Directory as DirectoryLine}
@@ -212,7 +213,7 @@ copies moment to from =
 
 -- the list of one directory
 abbrev pub shows : ℕ → Plan
-shows owner = Show owner (λ answer. Say (list_said owner answer))
+shows owner = Show owner (λ answer. Say (list_said Columns owner answer))
 
 -- Typing: the words of whole blocks, then those of the last.
 

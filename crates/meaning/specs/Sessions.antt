@@ -50,7 +50,10 @@ abbrev pub entry : FileName × Version → Entry
 entry e = record {
   name = e.0;
   protection = e.1.file.protection;
+  mode = e.1.file.mode;
   date = e.1.file.date;
+  time = e.1.file.time;
+  length = length e.1.file.body;
   blocks = blocks_of (length e.1.file.body);
 }
 

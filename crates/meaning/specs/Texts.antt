@@ -1,16 +1,20 @@
 -- What a session prints.
 use Rattle.std.specs.Prelude.{ℕ, ◌+◌, ◌-◌, ◌/◌, ◌%◌, ◌^◌, ◌==◌, ◌||◌, Bool, true, false, if◌then◌else◌, List, [], ◌∷◌}
-use Rattle.std.specs.Prelude.{◌++◌, length, replicate, flat_map, codes, Result, Ok, Err}
-use Rattle.std.specs.Fmt.{decimal}
-use Rattle.words36.specs.Words.{ppn_text}
+use Rattle.std.specs.Prelude.{◌++◌, length, take, replicate, flat_map, codes, Result, Ok, Err}
+use Rattle.std.specs.Fmt.{decimal, digits}
+use Rattle.std.specs.List.{suffix_len}
+use Rattle.words36.specs.Words.{left, right, ppn_text}
 use Rattle.words36.specs.Sixbit.{characters}
 use Rattle.words36.specs.Ascii.{unpacked}
+use Rattle.words36.specs.declared.names.FileName.{FileName}
 use Rattle.words36.specs.Blocks.{word_bytes}
 use Rattle.meaning.specs.Maps.{total}
 use Rattle.meaning.specs.Lines.{feed}
 use Rattle.meaning.specs.declared.entry.Entry.{Entry}
 use Rattle.meaning.specs.declared.encoding.Encoding.{Encoding}
 use Rattle.meaning.specs.declared.encoding.Encoding.TheVariants.{Characters, Words}
+use Rattle.meaning.specs.declared.style.Style.{Style}
+use Rattle.meaning.specs.declared.style.Style.TheVariants.{Columns, Table}
 use Rattle.meaning.specs.declared.call.Reply.{Reply}
 use Rattle.meaning.specs.declared.call.Reply.TheVariants.{Done, Value, Refused, Stopped, NoChannel, AddressCheck, NoJob}
 use Rattle.meaning.specs.declared.call.Reply.TheVariants.{NoMemory, Device, Failed, DateRange}
@@ -148,6 +152,57 @@ total_text owner (e ∷ es) =
 unfoldable pub listing : ℕ → List Entry → List ℕ
 listing owner entries = flat_map entry_text entries ++ total_text owner entries
 
-abbrev pub list_said : ℕ → Result (List Entry) Reply → Spoken
-list_said owner (Ok entries) = prints (listing owner entries)
-list_said owner (Err reply) = refuses reply
+-- The list of a directory as a table: a line for each file, whose fields are apart by a tab. They are its owner, name and
+-- extension, protection and mode in octal, day and minute, words and blocks.
+
+abbrev pub tab : List ℕ
+tab = 9 ∷ []
+
+-- a text without the blanks at its end
+abbrev pub trimmed : List ℕ → List ℕ
+trimmed text = take (length text - suffix_len (λ c. c == 32) text) text
+
+abbrev pub two_octal : ℕ → List ℕ
+two_octal n = (n / 8 % 8 + 48) ∷ (n % 8 + 48) ∷ []
+
+abbrev pub two_digits : ℕ → List ℕ
+two_digits n = (n / 10 % 10 + 48) ∷ (n % 10 + 48) ∷ []
+
+-- an owner as the words of a command line name it: `10,20`
+abbrev pub owner_text : ℕ → List ℕ
+owner_text owner = digits 8 false (left owner) ++ 44 ∷ digits 8 false (right owner)
+
+abbrev pub place_fields : ℕ → FileName → List ℕ
+place_fields owner name =
+    owner_text owner ++ tab ++ trimmed (characters name.name) ++ tab ++ trimmed (extension_text name.ext) ++ tab
+
+abbrev pub right_fields : ℕ → ℕ → List ℕ
+right_fields protection mode = three_digits protection ++ tab ++ two_octal mode ++ tab
+
+-- a day as `1975-01-04`: its year, its month from 01 and its number in the month
+abbrev pub day_field : ℕ → List ℕ
+day_field date = decimal (date / 372 + 1964) ++ codes "-" ++ two_digits (date / 31 % 12 + 1) ++ codes "-"
+    ++ two_digits (date % 31 + 1) ++ tab
+
+-- a minute of the day as `10:05`
+abbrev pub minute_field : ℕ → List ℕ
+minute_field minute = two_digits (minute / 60) ++ codes ":" ++ two_digits (minute % 60) ++ tab
+
+abbrev pub size_fields : ℕ → ℕ → List ℕ
+size_fields words blocks = decimal words ++ (tab ++ decimal blocks)
+
+unfoldable pub row_text : ℕ → Entry → List ℕ
+row_text owner e =
+    line (place_fields owner e.name ++ right_fields e.protection e.mode ++ day_field e.date
+    ++ minute_field e.time ++ size_fields e.length e.blocks)
+
+unfoldable pub table : ℕ → List Entry → List ℕ
+table owner entries = flat_map (row_text owner) entries
+
+abbrev pub list_text : Style → ℕ → List Entry → List ℕ
+list_text Columns owner entries = listing owner entries
+list_text Table owner entries = table owner entries
+
+abbrev pub list_said : Style → ℕ → Result (List Entry) Reply → Spoken
+list_said style owner (Ok entries) = prints (list_text style owner entries)
+list_said style owner (Err reply) = refuses reply

@@ -20,8 +20,8 @@ pub fn errands_are_exact()
     ensures gets { GetsAreExact }
 {}
 
-/// What these laws ask of a state is so: no run that began with the files of a disk comes to a body that is longer than a
-/// file may be, and job 1 is ready from its LOGIN on.
+/// What these laws ask of a state is so: no run that began with the files of a disk comes to a body that is longer than
+/// a file may be, and job 1 is ready from its LOGIN on.
 pub fn states_stay_ready()
     ensures short { BodiesStayShort }
     ensures logged_in { LoginsMakeReady }

@@ -7,8 +7,14 @@ pub struct Entry {
     pub name: FileName,
     /// Its protection: three octal digits.
     pub protection: u32,
+    /// The data mode that it was written in, by its number.
+    pub mode: u32,
     /// The day when it was written.
     pub date: u32,
+    /// The minute of that day.
+    pub time: u32,
+    /// How many words it has.
+    pub length: u32,
     /// How many blocks its words take.
     pub blocks: u32,
 }

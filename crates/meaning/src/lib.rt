@@ -23,6 +23,7 @@ mod quiet;
 mod spoiled;
 mod starts;
 mod status;
+mod style;
 mod texts;
 
 pub use act::Act;
@@ -55,4 +56,5 @@ pub use quiet::quiet_stretch;
 pub use spoiled::spoiled_images;
 pub use starts::{faults_exclude, reading_finds_the_map};
 pub use status::IoStatus;
+pub use style::Style;
 pub use texts::{lines_have_one_reading, served_acts_are_acts, texts_are_functions};

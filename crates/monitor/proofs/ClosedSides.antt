@@ -36,7 +36,7 @@ use Rattle.monitor.specs.Events.{IsIdle}
 use Rattle.monitor.specs.Publishing.{last_at, HasPublished, IsPublishing, PublishesBy, IsPublishRow, CrashesAsRow}
 use Rattle.monitor.specs.Publishing.{StillStands}
 use Rattle.monitor.specs.Readers.{ArePinned, AreRead}
-use Rattle.monitor.specs.Renewing.{Renews}
+use Rattle.monitor.specs.Renewing.{Renews, HoldsPublished}
 use Rattle.monitor.specs.Serving.{pack_of, IsState}
 use Rattle.monitor.specs.Sides.{UnderKeys, readers, pins_of, input_of, output_of, jobs_of, state_of}
 use Rattle.monitor.specs.declared.channel.Channel.{Channel}
@@ -85,27 +85,13 @@ put_here files place v some = by (get files place.ppn) refl some
         ap (λ o. file_in o place.name) (get-insert_same nat_cmp_total files place.ppn new)
         ∙ get-insert_same name_total d.files place.name v
 
--- an input side is kept by this bit alone
-pub kept_by : (k : Bool) (x : Option Input) (input : Input) → (if k then x else None) ≡ Some input → k ≡ true
-kept_by true x input is = refl
+-- an input side is kept by this bit alone, and as it is
+pub kept_by : (k : Bool) (x : Option Input) (input : Input) → (if k then x else None) ≡ Some input
+    → (k ≡ true) × (x ≡ Some input)
+kept_by true x input is = (refl, is)
 kept_by false x input is = absurd (some_none (sym is))
 
--- What an input side becomes that stays: it holds the version that is published, whose place this is.
-pub record HoldsPublished (d' : DiskState) (c b c' : VolumeCore) (key : ℕ) (job job' : Job) (number : ℕ)
-    (channel : Channel) (input : Input) : Type 0 where
-  pub renewed : Input
-  pub ppn : ℕ
-  pub file : FileName
-  pub protection : ℕ
-  pub renews : Renews b c' input renewed ppn file protection
-  pub place : (p : PendingVersion) → pending_at c.pending key ≡ Some p → (ppn ≡ p.prime.ppn) × (file ≡ p.prime.file)
-      × (protection ≡ p.prime.protection)
-  pub whole : IsWholeCore d'.size b
-  pub pinned : d'.honest → (files : Files File) → RestsAt d' files
-      → IsPinAnswer d'.contents renews.between.live file (Ok renewed.pin) (get files ppn)
-  pub job_is : job' ≡ closed_in job number channel true false (Some (output_closed channel renewed))
-
--- so it is where a side was renewed, and the disk left alone
+-- An input side that stays holds what is published where a side was renewed, and the disk left alone.
 pub holds_published : {D : Type 0} (state : D → DiskState) (mid new : D) (c b c' : VolumeCore) (failed : Bool) (key : ℕ)
     (job job' : Job) (number : ℕ) (channel : Channel) (input renewed : Input) (prime : Prime) → new ≡ mid
     → IsSound (state mid) b failed → ((is : Renews b c' input renewed prime.ppn prime.file prime.protection)

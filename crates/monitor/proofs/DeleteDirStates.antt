@@ -22,7 +22,6 @@ use Rattle.meaning.proofs.MapLaws.{some_none, same_or_other, get-empty, get-remo
 use Rattle.meaning.proofs.MapLaws.{insert-removed}
 use Rattle.meaning.proofs.MapLists.{map_values-remove}
 use Rattle.meaning.proofs.MapSums.{empty_of_size}
-use Rattle.meaning.proofs.Versions.{body_kept}
 use Rattle.volume.specs.Live.{VolumeCore, pending_at}
 use Rattle.volume.specs.Places.{prime_at}
 use Rattle.volume.specs.RemovingDirectories.{directory_removed}
@@ -36,6 +35,7 @@ use Rattle.monitor.proofs.Answering.{job_set, called, settled_with}
 use Rattle.monitor.proofs.MakeDirServing.{versions_made, none_in}
 use Rattle.monitor.proofs.ReadBookings.{versions_of}
 use Rattle.monitor.proofs.ReadStays.{reads_go}
+use Rattle.monitor.proofs.WrittenStays.{writing_stays}
 
 -- The machine's row, by its answer.
 module _ (d : DiskState) (files : Files Version) (w : UnderKeys) (jobs : List (Option Job))
@@ -127,16 +127,7 @@ module _ (d d' : DiskState) (c c' : VolumeCore) (jobs jobs' : List (Option Job))
     under = state.under;
     versions = λ key p at.
         let is = state.versions key p (was key p at) in
-        record {
-          place = is.place;
-          protection = is.protection;
-          mode = is.mode;
-          time = is.time;
-          date = is.date;
-          words = is.words;
-          body = body_kept d.contents d'.contents p.version.blocks (state.under.written key).file.body is.body
-              (writers key p (was key p at));
-        };
+        writing_stays d d' p (state.under.written key) is (writers key p (was key p at));
     absent = λ key p at new. absent_still s.files owner (state.under.written key).place
         (state.absent key p (was key p at) new);
     keyed = keyed;

@@ -17,7 +17,6 @@ use Rattle.meaning.specs.Stands.{place_of}
 use Rattle.meaning.proofs.MapLaws.{some_same, get-remove_other}
 use Rattle.meaning.proofs.MapLists.{get-from_entries}
 use Rattle.meaning.proofs.Names.{name_total, name_exact}
-use Rattle.meaning.proofs.Versions.{body_kept}
 use Rattle.directory.specs.Edits.{StandsAt}
 use Rattle.volume.specs.Beginning.{is_absent}
 use Rattle.volume.specs.Claims.{claims}
@@ -38,6 +37,7 @@ use Rattle.monitor.proofs.PublishedStates.{kept_keyed}
 use Rattle.monitor.proofs.Publications.{IsBehind}
 use Rattle.monitor.proofs.ReadsDeleted.{reads_deleted}
 use Rattle.monitor.proofs.ReadingJobs.{keeps_reading, reads_left}
+use Rattle.monitor.proofs.WrittenStays.{writing_stays}
 
 -- another name is in a directory where it was
 still_absent : (d d' : KnownDirectory) (name other : FileName) → from_entries {R = name_cmp} d'.chain.entries
@@ -144,16 +144,7 @@ module _ (d d' : DiskState) (c b c' : VolumeCore) (jobs : List (Option Job)) (n 
       versions = λ k p here.
           let was = still_there k p here in
           let written = state.versions k p was in
-          record {
-            place = written.place;
-            protection = written.protection;
-            mode = written.mode;
-            time = written.time;
-            date = written.date;
-            words = written.words;
-            body = body_kept d.contents d'.contents p.version.blocks (w.written k).file.body written.body
-                (writers k p was);
-          };
+          writing_stays d d' p (w.written k) written (writers k p was);
       absent = λ k p here new.
           let was = still_there k p here in
           left_elsewhere s.files place (w.written k).place (elsewhere k p was) ∙ state.absent k p was new;

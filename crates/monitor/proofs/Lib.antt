@@ -52,7 +52,9 @@ pub mod PublishedFiles
 pub mod PublishedRows
 pub mod PublishedStates
 pub mod PublishedAnswers
+pub mod WrittenStays
 pub mod ClosedSides
+pub mod ClosedServing
 pub mod Placing
 pub mod Closings
 pub mod Untouched

@@ -22,7 +22,6 @@ use Rattle.meaning.specs.declared.call.Event.TheVariants.{Call as Calls}
 use Rattle.meaning.specs.declared.call.Reply.{Reply}
 use Rattle.meaning.specs.declared.call.Reply.TheVariants.{Done, Refused}
 use Rattle.meaning.proofs.MapLaws.{same_or_other, get-empty, get-insert_same, get-insert_other}
-use Rattle.meaning.proofs.Versions.{body_kept}
 use Rattle.volume.specs.Live.{VolumeCore, pending_at, IsWholeCore}
 use Rattle.volume.specs.Making.{files_made}
 use Rattle.volume.specs.Places.{prime_at}
@@ -38,6 +37,7 @@ use Rattle.monitor.proofs.Knowing.{known}
 use Rattle.monitor.proofs.MakeDirCalls.{decided, refused_by, may_make, not_plain}
 use Rattle.monitor.proofs.MakeDirServing.{versions_made, none_in, shown_made, none_there}
 use Rattle.monitor.proofs.ReadStays.{reads_made}
+use Rattle.monitor.proofs.WrittenStays.{writing_stays}
 
 -- The machine's row.
 module _ (d : DiskState) (c : VolumeCore) (files : Files Version) (w : UnderKeys) (jobs : List (Option Job))
@@ -157,16 +157,7 @@ module _ (d : DiskState) (c : VolumeCore) (jobs : List (Option Job)) (job : Job)
       under = state.under;
       versions = λ key p at.
           let is = state.versions key p (was key p at) in
-          record {
-            place = is.place;
-            protection = is.protection;
-            mode = is.mode;
-            time = is.time;
-            date = is.date;
-            words = is.words;
-            body = body_kept d.contents d'.contents p.version.blocks (state.under.written key).file.body is.body
-                (writers key p (was key p at));
-          };
+          writing_stays d d' p (state.under.written key) is (writers key p (was key p at));
       absent = λ key p at new. made_elsewhere s.files (asked_owner job.core e)
           (directory_made (job_of state.under job) e) (state.under.written key).place refl
           (state.absent key p (was key p at) new);

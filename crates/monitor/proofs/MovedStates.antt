@@ -10,7 +10,6 @@ use Rattle.meaning.specs.Maps.{get}
 use Rattle.meaning.specs.Published.{Version, without_serials, file_at}
 use Rattle.meaning.specs.Sound as meaning
 use Rattle.meaning.specs.Stands.{place_of}
-use Rattle.meaning.proofs.Versions.{body_kept}
 use Rattle.volume.specs.Claims.{claims}
 use Rattle.volume.specs.Live.{VolumeCore, pending_at, IsWholeCore}
 use Rattle.volume.specs.Live.{slot as version_at}
@@ -31,6 +30,7 @@ use Rattle.monitor.proofs.Publications.{IsBehind}
 use Rattle.monitor.proofs.PublishedStates.{kept_keyed}
 use Rattle.monitor.proofs.ReadingJobs.{keeps_reading, reads_left}
 use Rattle.monitor.proofs.ReadsMoved.{with_protected, reads_moved}
+use Rattle.monitor.proofs.WrittenStays.{writing_stays}
 
 -- each version has as many readers as before
 pub readers_moved : (c c' : VolumeCore) (ppn : ℕ) (name : FileName) (to_ppn : ℕ) (to : FileName) (protection : ℕ)
@@ -115,16 +115,7 @@ module _ (c b c' : VolumeCore) (jobs : List (Option Job)) (n : ℕ) (job job' : 
         versions = λ k p here.
             let was = still_there k p here in
             let written = state.versions k p was in
-            record {
-              place = written.place;
-              protection = written.protection;
-              mode = written.mode;
-              time = written.time;
-              date = written.date;
-              words = written.words;
-              body = body_kept d.contents d'.contents p.version.blocks (w.written k).file.body written.body
-                  (writers k p was);
-            };
+            writing_stays d d' p (w.written k) written (writers k p was);
         absent = λ k p here creates.
             let was = still_there k p here in
             moved_elsewhere s.files old new protection x at home housed (w.written k).place (not_old k p was)

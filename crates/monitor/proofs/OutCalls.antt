@@ -23,7 +23,6 @@ use Rattle.meaning.specs.declared.call.Reply.TheVariants.{Done, Refused, Stopped
 use Rattle.meaning.proofs.MapLaws.{some_same}
 use Rattle.meaning.proofs.SlotLaws.{none_some}
 use Rattle.meaning.proofs.SpliceLaws.{length-splice}
-use Rattle.meaning.proofs.Versions.{body_kept}
 use Rattle.retrieval.specs.Modes.{mode_number}
 use Rattle.volume.specs.Live.{VolumeCore, pending_at, is_creation}
 use Rattle.volume.specs.Places.{prime_at}
@@ -45,6 +44,7 @@ use Rattle.monitor.proofs.Knowing.{known}
 use Rattle.monitor.proofs.OutServing.{none_found, place_found, put_writing, writing_put, state_put}
 use Rattle.monitor.proofs.ReadStays.{reads_kept}
 use Rattle.monitor.proofs.Usetos.{on_row, on_none}
+use Rattle.monitor.proofs.WrittenStays.{writing_stays}
 
 -- The rows that neither want memory nor the disk.
 module _ (job : Job) (ch a : ℕ) where
@@ -194,16 +194,8 @@ module _ (d d' : DiskState) (map map' : VolumeCore) (jobs jobs' : List (Option J
   other_version k q is apart =
       let before = sym (others k apart) ∙ is in
       let was = state.versions k q before in
-      subst (IsWriting d' q) (sym (with_other state.under key x k apart)) (record {
-        place = was.place;
-        protection = was.protection;
-        mode = was.mode;
-        time = was.time;
-        date = was.date;
-        words = was.words;
-        body = body_kept d.contents d'.contents q.version.blocks (state.under.written k).file.body was.body
-            (writers k q apart before);
-      })
+      subst (IsWriting d' q) (sym (with_other state.under key x k apart))
+      (writing_stays d d' q (state.under.written k) was (writers k q apart before))
 
   absent_is : (k : ℕ) (q : PendingVersion) → pending_at map'.pending k ≡ Some q → is_creation q ≡ true
       → file_at s.files (w.written k).place ≡ None

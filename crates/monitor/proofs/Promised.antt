@@ -36,6 +36,14 @@ use Rattle.monitor.proofs.Serving.{nobody, alone, alone_keyed, alone_reading}
 use Rattle.monitor.proofs.Slots.{unchanged}
 use Rattle.monitor.proofs.Untouched.{untouched_crashes}
 
+-- what holds of the call that a match found
+pub as_called : {D : Type 0} {state : D → DiskState} {disk disk' : D} {core core' : VolumeCore} {failed' : Bool}
+    {job job' : Job} {call found : Call} {moment : Moment} {reply : Reply} → call ≡ found
+    → ServesJob state disk disk' core core' failed' job job' found moment reply
+    → ServesJob state disk disk' core core' failed' job job' call moment reply
+as_called {D} {state} {disk} {disk'} {core} {core'} {failed'} {job} {job'} {call} {found} {moment} {reply} is serving =
+    subst (λ (x : Call). ServesJob state disk disk' core core' failed' job job' x moment reply) (sym is) serving
+
 -- a channel whose output side closes for good publishes
 pub publishes_here : (job : Job) (number bits : ℕ) (c : Channel) (o : Output) → ClosesSide job number bits c o
     → publishes_at (slot job.channels number) bits ≡ false → ⊥

@@ -14,7 +14,6 @@ use Rattle.meaning.specs.Sound.{IsSound}
 use Rattle.meaning.specs.Splices.{splice, length_after}
 use Rattle.meaning.proofs.MapLaws.{some_none}
 use Rattle.meaning.proofs.PlaceLaws.{some_is}
-use Rattle.meaning.proofs.Versions.{body_kept}
 use Rattle.volume.specs.Live.{VolumeCore, pending_at, IsWholeCore}
 use Rattle.volume.specs.Live.{slot as version_at}
 use Rattle.volume.specs.Publishing.{file_of, files_published}
@@ -36,6 +35,7 @@ use Rattle.monitor.proofs.PublishedRows.{version_with}
 use Rattle.monitor.proofs.ReadingJobs.{keeps_reading}
 use Rattle.monitor.proofs.ReadsPublished.{reads_published}
 use Rattle.monitor.proofs.SideLists.{count, count-set, each-set, each-slot}
+use Rattle.monitor.proofs.WrittenStays.{writing_stays}
 
 -- Output sides: the caller's are others, and no version is new.
 pub kept_keyed : (old new : List (Option PendingVersion)) (jobs : List (Option Job)) (n : ℕ) (job job' : Job)
@@ -162,16 +162,7 @@ module _ (d d' : DiskState) (c b c' : VolumeCore) (jobs : List (Option Job)) (n 
           versions = λ k q at.
               let was = still_there k q at in
               let is = state.versions k q was.1 in
-              record {
-                place = is.place;
-                protection = is.protection;
-                mode = is.mode;
-                time = is.time;
-                date = is.date;
-                words = is.words;
-                body = body_kept d.contents d'.contents q.version.blocks (w.written k).file.body is.body
-                    (λ m held. has.writers honest k q was.0 was.1 m held);
-              };
+              writing_stays d d' q (w.written k) is (λ m held. has.writers honest k q was.0 was.1 m held);
           absent = λ k q at new.
               let was = still_there k q at in
               put_elsewhere s.files (w.written key).place (version_with (w.written key) o.next last serial)

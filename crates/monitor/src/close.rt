@@ -1,24 +1,20 @@
-ghost use Rattle.std.specs.Prelude.{if◌then◌else◌, IfSome, ◌≡◌, ◌≤◌, ℕ, Some, None, true, false, ◌<◌, ◌+◌, ◌^◌, IsSome};
-ghost use Rattle.std.specs.Prelude.{◌&&◌, not, is_some};
+ghost use Rattle.std.specs.Prelude.{if◌then◌else◌, IfSome, ◌≡◌, ◌≤◌, ℕ, Some, None, true, false, ◌&&◌, not, is_some};
+ghost use Rattle.meaning.specs.Closing.{keeps_input, discards};
 ghost use Rattle.meaning.specs.Jobs.{slot};
 ghost use Rattle.meaning.specs.Maps.{times};
 ghost use Rattle.meaning.specs.declared.call.Call.TheVariants.{Close};
 ghost use Rattle.meaning.specs.declared.call.Reply.TheVariants.{NoMemory, Device, Failed, Refused, Done};
 ghost use Rattle.volume.specs.Live.{VolumeCore, pending_at, slot as version_at};
-ghost use Rattle.volume.specs.declared.live.LiveVersion.{LiveVersion};
+ghost use Rattle.monitor.specs.Closing.{both_closed, rings_closed, closed_in, left_open};
 ghost use Rattle.monitor.specs.Dropping.{Leaves};
+ghost use Rattle.monitor.specs.Events.{IsIdle};
+ghost use Rattle.monitor.specs.Promises.{IsReady, ServesAlways};
+ghost use Rattle.monitor.specs.Publishing.{last_at, PublishesBy};
 ghost use Rattle.monitor.specs.Readers.{readers_of};
+ghost use Rattle.monitor.specs.Renewing.{LetsGo, HoldsPublished};
 ghost use Rattle.monitor.specs.Rows.{IsRow, Keeps, KeepsReading, publishes_at, ClosesSide};
 ghost use Rattle.monitor.specs.Serving.{present};
 ghost use Rattle.monitor.specs.Sides.{sides_in, keys_of, readers_in, pins_of};
-ghost use Rattle.meaning.specs.Closing.{keeps_output, keeps_input, discards};
-ghost use Rattle.volume.specs.Publishing.{IsPlaced};
-ghost use Rattle.volume.specs.declared.pending.PendingVersion.{PendingVersion};
-ghost use Rattle.monitor.specs.Publishing.{last_at, PublishesBy, IsPublishRow, CrashesAsRow, StillStands};
-ghost use Rattle.monitor.specs.Closing.{both_closed, output_closed, rings_closed, closed_in, left_open};
-ghost use Rattle.monitor.specs.Events.{IsIdle};
-ghost use Rattle.monitor.specs.Promises.{IsReady, ServesAlways};
-ghost use Rattle.volume.specs.Rest.{IsSound};
 
 use crate::channel::Channel;
 use crate::dropping::{drop_output, release_input};
@@ -36,8 +32,8 @@ use usercore::Core;
 use volume::Volume;
 
 /// CLOSE: without bit 1 the output side closes, and becomes the file of its name, or with bit 40 (octal) is dropped;
-/// without bit 2 the input side closes, and with it it holds the version that is published. Its rows are `close_output`
-/// and `close_and_hold`, where it publishes, and `close`.
+/// without bit 2 the input side closes, and with it it holds the version that is published. Where it publishes it is
+/// `close_both` or `close_and_hold`, else `close`.
 pub fn serve_close<D: Disk>(
     alloc: Global,
     volume: &mut Volume<D>,
@@ -54,7 +50,7 @@ pub fn serve_close<D: Disk>(
     };
     match input_kept(&open, bits) {
         Some(input) => close_and_hold(alloc, volume, job, channel, open, output, input),
-        None => close_output(alloc, volume, job, channel, open, output),
+        None => close_both(alloc, volume, job, channel, open, output, true),
     }
 }
 
@@ -163,58 +159,52 @@ fn close<D: Disk>(volume: &mut Volume<D>, job: &mut Job, number: u32, bits: u32)
     Reply::Done
 }
 
-/// CLOSE of a channel with an output side, with neither bit 1 nor bit 40 (octal), that keeps no input side: publishes
-/// what the channel has written, and closes both sides and their rings. Where that isn't done they stay as they are.
-fn close_output<D: Disk>(
+/// What is left of a channel whose sides both close: the channel without them, where it stays open.
+fn channel_left(channel: Channel, stays_open: bool) -> Option<Channel>
+    ensures { result ≡ (if stays_open then Some (both_closed channel) else None) }
+{
+    if stays_open {
+        Some(Channel {
+            status: cleared(channel.status),
+            input: None,
+            output: None,
+            ..channel
+        })
+    } else {
+        None
+    }
+}
+
+/// Publishes what a channel has written, and closes both its sides and their rings, and with RELEAS the channel; with
+/// CLOSE it stays open. Where that isn't done all stays as it is.
+pub fn close_both<D: Disk>(
     alloc: Global,
     volume: &mut Volume<D>,
     job: &mut Job,
     number: u32,
     channel: Channel,
     output: Output,
+    stays_open: bool,
 ) -> Reply
-    requires sound { IsSound (D.state volume.old.disk) volume.old.core volume.old.failed }
-    requires serves { volume.old.failed ≡ false }
-    // The channel has this side, of a version that may be published.
+    requires ready { IsReady (D.state volume.old.disk) volume.old.core volume.old.failed job.old }
     requires there { slot job.old.channels number ≡ Some channel }
     requires side { channel.output ≡ Some output }
-    requires live { IsSome (pending_at volume.old.core.pending output.pending.key) }
-    requires starts { 0 < output.next }
-    requires placed { (p : PendingVersion) → pending_at volume.old.core.pending output.pending.key ≡ Some p
-        → IsPlaced volume.old.core p }
-    // What the job reads is held.
-    requires held { (key : ℕ) → times key (pins_of (readers_in (Some job.old)))
-        ≤ readers_of (version_at volume.old.core.live key) }
-    // The volume, whatever is answered.
+    // The volume, whatever is answered: it publishes, and then it lets go what the channel reads.
     ensures published { (between : VolumeCore) × PublishesBy (D.state volume.old.disk) (D.state volume.new.disk)
         volume.old.core between volume.old.failed volume.new.failed channel output (last_at job.old.core channel)
-        result }
+        result × (result ≡ Done → LetsGo between volume.new.core channel.input) }
     ensures idle { IsIdle result → (volume.new.disk ≡ volume.old.disk) × (volume.new.core ≡ volume.old.core)
         × (volume.new.failed ≡ volume.old.failed) }
     // The job: the sides and their rings close where it is done.
-    ensures closed { result ≡ Done → job.new
-        ≡ closed_in job.old number channel true (is_some channel.input) (Some (both_closed channel)) }
+    ensures closed { result ≡ Done → job.new ≡ closed_in job.old number channel true (is_some channel.input)
+        (if stays_open then Some (both_closed channel) else None) }
     ensures kept { (result ≡ Done → ⊥) → job.new ≡ left_open job.old number channel result }
-    ensures stands { StillStands volume.old.core volume.new.core volume.new.failed job.old job.new }
-    // The machine's row, for whichever bits publish and keep no input side.
-    ensures row { (bits : ℕ) → keeps_output bits ≡ false → discards bits ≡ false
-        → (if keeps_input bits then channel.input else None) ≡ None
-        → IsPublishRow (D.state volume.old.disk) (D.state volume.new.disk) volume.old.core volume.new.core
-        volume.new.failed job.old job.new (Close number bits) result }
-    ensures crash { (bits : ℕ) → keeps_output bits ≡ false → discards bits ≡ false
-        → CrashesAsRow (D.state volume.old.disk) (D.state volume.new.disk) volume.old.core job.old (Close number bits) }
 {
     let reply = publish_output(alloc, volume, &job.core, &channel, output);
     if reply == Reply::Done {
         release_input(volume, channel.input);
         close_rings(&mut job.core, &channel, true, channel.input.is_some());
-        let closed = Channel {
-            status: cleared(channel.status),
-            input: None,
-            output: None,
-            ..channel
-        };
-        job.set_channel(number, Some(closed));
+        job.set_channel(number, channel_left(channel, stays_open));
     } else {
         leave_open(job, number, channel, reply);
     }
@@ -233,40 +223,19 @@ fn close_and_hold<D: Disk>(
     output: Output,
     input: Input,
 ) -> Reply
-    requires sound { IsSound (D.state volume.old.disk) volume.old.core volume.old.failed }
-    requires serves { volume.old.failed ≡ false }
-    // The channel has these sides, of a version that may be published.
+    requires ready { IsReady (D.state volume.old.disk) volume.old.core volume.old.failed job.old }
     requires there { slot job.old.channels number ≡ Some channel }
     requires side { channel.output ≡ Some output }
     requires reads { channel.input ≡ Some input }
-    requires live { IsSome (pending_at volume.old.core.pending output.pending.key) }
-    requires starts { 0 < output.next }
-    requires placed { (p : PendingVersion) → pending_at volume.old.core.pending output.pending.key ≡ Some p
-        → IsPlaced volume.old.core p }
-    // What the job reads is held.
-    requires held { (key : ℕ) → times key (pins_of (readers_in (Some job.old)))
-        ≤ readers_of (version_at volume.old.core.live key) }
-    requires few { (key : ℕ) (v : LiveVersion) → version_at volume.old.core.live key ≡ Some v
-        → v.readers + 1 < 2 ^ 32 }
-    // The volume, whatever is answered.
+    // The volume, whatever is answered: it publishes; and the job, where it is done: the output side and its ring
+    // close, and the input side holds what is published.
     ensures published { (between : VolumeCore) × PublishesBy (D.state volume.old.disk) (D.state volume.new.disk)
         volume.old.core between volume.old.failed volume.new.failed channel output (last_at job.old.core channel)
-        result }
+        result × (result ≡ Done → HoldsPublished (D.state volume.new.disk) volume.old.core between volume.new.core
+        output.pending.key job.old job.new number channel input) }
     ensures idle { IsIdle result → (volume.new.disk ≡ volume.old.disk) × (volume.new.core ≡ volume.old.core)
         × (volume.new.failed ≡ volume.old.failed) }
-    // The job: the output side and its ring close where it is done.
-    ensures closed { result ≡ Done → (renewed : Input) × (renewed
-        ≡ record input { pin = renewed.pin; protection = renewed.protection })
-        × (job.new ≡ closed_in job.old number channel true false (Some (output_closed channel renewed))) }
     ensures kept { (result ≡ Done → ⊥) → job.new ≡ left_open job.old number channel result }
-    ensures stands { StillStands volume.old.core volume.new.core volume.new.failed job.old job.new }
-    // The machine's row, for whichever bits publish and keep the input side.
-    ensures row { (bits : ℕ) → keeps_output bits ≡ false → discards bits ≡ false
-        → keeps_input bits ≡ true
-        → IsPublishRow (D.state volume.old.disk) (D.state volume.new.disk) volume.old.core volume.new.core
-        volume.new.failed job.old job.new (Close number bits) result }
-    ensures crash { (bits : ℕ) → keeps_output bits ≡ false → discards bits ≡ false
-        → CrashesAsRow (D.state volume.old.disk) (D.state volume.new.disk) volume.old.core job.old (Close number bits) }
 {
     let prime = prime_of(volume, output.pending);
     let reply = publish_output(alloc, volume, &job.core, &channel, output);

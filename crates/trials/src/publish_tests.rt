@@ -229,12 +229,21 @@ fn expect_facts<D: Disk>(rt: &impl Abort, volume: &Volume<D>, blocks: u32, words
     assert!(rt; volume.look(ppn_of(rt), &file_name(FOO)) == Ok(facts));
 }
 
-/// The directory [10,20] has one file, FOO.TXT, of so many blocks.
-fn expect_listed<D: Disk>(rt: &impl Abort, alloc: Global, volume: &Volume<D>, blocks: u32) {
+/// The directory [10,20] has one file, FOO.TXT, of so many blocks and words.
+fn expect_listed<D: Disk>(
+    rt: &impl Abort,
+    alloc: Global,
+    volume: &Volume<D>,
+    blocks: u32,
+    words: u32,
+) {
     let line = Entry {
         name: file_name(FOO),
         protection: 0o057,
+        mode: 0o17,
         date: 4095,
+        time: moment(rt).minute,
+        length: words,
         blocks,
     };
     match volume.list(alloc, ppn_of(rt)) {
@@ -262,7 +271,7 @@ pub(crate) fn expect_file<D: Disk>(
     let length = u32::try_from(words.len()).expect(rt, "a length");
     expect_room(rt, volume, room);
     expect_facts(rt, volume, blocks, length);
-    expect_listed(rt, alloc, volume, blocks);
+    expect_listed(rt, alloc, volume, blocks, length);
     expect_held(rt, alloc, volume, words);
 }
 

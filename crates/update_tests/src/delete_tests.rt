@@ -263,8 +263,8 @@ fn delete_cut_off(
     Ok(opened_anew(rt, alloc, volume))
 }
 
-/// The record has room for so many writes and syncs of a deletion, and the next one fails. When the disk is opened again
-/// the file is gone, once the gate was opened, and else it is there with its words.
+/// The record has room for so many writes and syncs of a deletion, and the next one fails. When the disk is opened
+/// again the file is gone, once the gate was opened, and else it is there with its words.
 #[test]
 fn each_write_or_sync_of_a_deletion_may_fail(rt: HostRuntime) -> Result<(), Fail> {
     let alloc = rt.alloc();

@@ -102,7 +102,8 @@ fn fresh_file(
     Ok(volume)
 }
 
-/// FOO.TXT of [10,20], of these words, becomes BAR.TXT of [10,21] with protection 155 (octal), and FOO.TXT again with 057.
+/// FOO.TXT of [10,20], of these words, becomes BAR.TXT of [10,21] with protection 155 (octal), and FOO.TXT again with
+/// 057.
 fn move_there_and_back(
     rt: &impl Abort,
     alloc: Global,
@@ -263,7 +264,8 @@ fn a_full_directory_grows_by_a_moved_file(rt: HostRuntime) -> Result<(), Fail> {
     Ok(())
 }
 
-/// Without room for that block a file isn't moved. Once an entry goes there is a place for it, and no room is asked for.
+/// Without room for that block a file isn't moved. Once an entry goes there is a place for it, and no room is asked
+/// for.
 #[test]
 fn a_move_may_find_no_room(rt: HostRuntime) -> Result<(), Fail> {
     let alloc = rt.alloc();
@@ -312,8 +314,8 @@ fn a_move_may_find_no_memory(rt: HostRuntime) -> Result<(), Fail> {
 }
 
 /// The writes and syncs up to a volume with two directories, and a publication of a file of three blocks in the first:
-/// seven and one of `init`, one sync of `open`, eight and four of each `make_dir`; three blocks, the prime block, and then
-/// those of two images.
+/// seven and one of `init`, one sync of `open`, eight and four of each `make_dir`; three blocks, the prime block, and
+/// then those of two images.
 const STORED: usize = 8 + 1 + 2 * 12 + 3 + 1 + 11;
 
 /// The writes and syncs of a move, up to the write that opens the gate: images of the block of either directory and of
@@ -338,8 +340,8 @@ fn move_cut_off(
     Ok(opened_anew(rt, alloc, volume))
 }
 
-/// The record has room for so many writes and syncs of a move, and the next one fails. When the disk is opened again the
-/// file has its new place, once the gate was opened, and else the old one; it never has both, or none.
+/// The record has room for so many writes and syncs of a move, and the next one fails. When the disk is opened again
+/// the file has its new place, once the gate was opened, and else the old one; it never has both, or none.
 #[test]
 fn each_write_or_sync_of_a_move_may_fail(rt: HostRuntime) -> Result<(), Fail> {
     let alloc = rt.alloc();

@@ -191,8 +191,8 @@ fn update(rt: &impl Abort, alloc: Global, volume: &mut Volume<MemDisk>, words: &
     publish(alloc, volume, pending)
 }
 
-/// The disk after an update of a block of a file with the words `old`, where the record has room for so many of its writes
-/// and syncs.
+/// The disk after an update of a block of a file with the words `old`, where the record has room for so many of its
+/// writes and syncs.
 fn cut_off(
     rt: &impl Abort,
     alloc: Global,

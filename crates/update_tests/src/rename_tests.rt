@@ -231,8 +231,8 @@ fn a_renaming_takes_no_room(rt: HostRuntime) -> Result<(), Fail> {
 }
 
 /// The writes and syncs up to a volume with the directory [10,20], and a publication of a file of three blocks in it:
-/// seven and one of `init`, one sync of `open`, eight and four of `make_dir`; three blocks, the prime block, and then as
-/// a renaming.
+/// seven and one of `init`, one sync of `open`, eight and four of `make_dir`; three blocks, the prime block, and then
+/// as a renaming.
 const STORED: usize = 8 + 1 + 12 + 3 + 1 + WHOLE;
 
 /// The writes and syncs of a renaming, up to the write that opens the gate: images of the directory's block and of the
@@ -243,7 +243,8 @@ const SHUT: usize = 2 + 1 + 1;
 /// closed, then a sync.
 const WHOLE: usize = SHUT + 2 + 3 + 2;
 
-/// Renames a file of 300 words, where the record has room for so many writes and syncs of that, and opens the disk again.
+/// Renames a file of 300 words, where the record has room for so many writes and syncs of that, and opens the disk
+/// again.
 fn rename_cut_off(
     rt: &impl Abort,
     alloc: Global,
@@ -258,8 +259,8 @@ fn rename_cut_off(
     Ok(opened_anew(rt, alloc, volume))
 }
 
-/// The record has room for so many writes and syncs of a renaming, and the next one fails. When the disk is opened again
-/// the file has its new name and protection, once the gate was opened, and else the old ones.
+/// The record has room for so many writes and syncs of a renaming, and the next one fails. When the disk is opened
+/// again the file has its new name and protection, once the gate was opened, and else the old ones.
 #[test]
 fn each_write_or_sync_of_a_renaming_may_fail(rt: HostRuntime) -> Result<(), Fail> {
     let alloc = rt.alloc();

@@ -213,8 +213,8 @@ fn update_each(rt: &impl Abort, alloc: Global, volume: &mut Volume<MemDisk>, bod
     volume.unpin(reader);
 }
 
-/// Each of three blocks is updated in turn, and nothing else. Two readers, from before and from after the first of these
-/// updates, read what they found; each of their versions costs 4 blocks until they let go, whatever they share.
+/// Each of three blocks is updated in turn, and nothing else. Two readers, from before and from after the first of
+/// these updates, read what they found; each of their versions costs 4 blocks until they let go, whatever they share.
 #[test]
 fn each_block_in_turn_beside_two_readers(rt: HostRuntime) -> Result<(), Fail> {
     let alloc = rt.alloc();

@@ -16,7 +16,8 @@ use Rattle.usercore.specs.declared.byte_size.ByteSize.{ByteSize}
 use Rattle.usercore.specs.declared.byte_size.ByteSize.TheVariants.{Ascii, Whole}
 use Rattle.usercore.specs.ByteSizes.{bits_of}
 use Rattle.usercore.specs.FirstRings.{is_spared, first_is_good}
-use Rattle.usercore.proofs.WriteLaws.{after_append, length_after, read_header}
+use Rattle.meaning.proofs.CoreWrites.{writes_append, writes_length}
+use Rattle.usercore.proofs.WriteLaws.{read_header}
 
 -- the core that the setup leaves, where the ring fits
 abbrev pub ringed : List ℕ → ℕ → ℕ → List ℕ
@@ -27,7 +28,7 @@ abbrev buffered : List ℕ → List ℕ
 buffered core = after_writes core (ring_writes (base core) 2 2)
 
 long_ringed : (core : List ℕ) (h size : ℕ) → length (ringed core h size) ≡ length core
-long_ringed core h size = length_after core (setup_writes core h size 2)
+long_ringed core h size = writes_length core (setup_writes core h size 2)
 
 -- A word of that core: the later write counts.
 
@@ -40,12 +41,12 @@ read_ringed : (core : List ℕ) (h size a : ℕ) → h + 2 < length core → fir
     → slice_index (ringed core h size) a
     ≡ written_over h size (base core) (left (slice_index core first_free)) (slice_index (buffered core) a) a
 read_ringed core h size a there job =
-    ap (λ c. slice_index c a) (after_append core (ring_writes (base core) 2 2)
+    ap (λ c. slice_index c a) (writes_append core (ring_writes (base core) 2 2)
     ((first_free, join (left (slice_index core first_free)) (base core + 2 * 0o203))
     ∷ unused_header h size (buffer_at (base core) 0)))
     ∙ read_header (buffered core) first_free _ h _ (pointer size 0) 0 a
-    (omega (arith, length_after core (ring_writes (base core) 2 2)))
-    (omega (arith, length_after core (ring_writes (base core) 2 2)))
+    (omega (arith, writes_length core (ring_writes (base core) 2 2)))
+    (omega (arith, writes_length core (ring_writes (base core) 2 2)))
 
 -- The first buffer.
 

@@ -12,16 +12,8 @@ use Rattle.meaning.specs.CommandLists.{word_count}
 use Rattle.meaning.specs.Cores.{after_writes, placed, dealt, joined, lies_outside, first_free}
 use Rattle.meaning.specs.Rings.{base, buffer_at, buffer_words, unused_header, setup, ring_writes, buffer_writes}
 use Rattle.meaning.specs.Rings.{left_behind, filled, marked, in_writes, put_behind, target, out_writes}
+use Rattle.meaning.proofs.CoreWrites.{writes_append, writes_length}
 use Rattle.usercore.specs.Steps.{filled_by, emptied_by, zeroed}
-
-pub after_append : (core : List ℕ) (xs ys : List (ℕ × ℕ))
-    → after_writes core (xs ++ ys) ≡ after_writes (after_writes core xs) ys
-after_append core [] ys = refl
-after_append core (x ∷ xs) ys = after_append (slice_set core x.0 x.1) xs ys
-
-pub length_after : (core : List ℕ) (ws : List (ℕ × ℕ)) → length (after_writes core ws) ≡ length core
-length_after core [] = refl
-length_after core (w ∷ ws) = length_after (slice_set core w.0 w.1) ws ∙ length-set core w.0 w.1
 
 placed_append : (a : ℕ) (xs ys : List ℕ) → placed a (xs ++ ys) ≡ placed a xs ++ placed (a + length xs) ys
 placed_append a [] ys = grind arith
@@ -35,7 +27,7 @@ placed_more core a i w ws lt e =
     rw (
       take_more ws i 0 lt,
       placed_append a (take i ws) (slice_index ws i ∷ []),
-      after_append core (placed a (take i ws)) (placed (a + length (take i ws)) (slice_index ws i ∷ [])),
+      writes_append core (placed a (take i ws)) (placed (a + length (take i ws)) (slice_index ws i ∷ [])),
       length-take-le i ws small,
       e,
     ) refl
@@ -45,7 +37,7 @@ pub ring_more : (core : List ℕ) (b n k : ℕ) → after_writes (after_writes c
     ≡ after_writes core (ring_writes b n (k + 1))
 ring_more core b n k =
     let next : suc k ≡ k + 1 = omega arith in
-    sym (after_append core (ring_writes b n k) (buffer_writes b n k))
+    sym (writes_append core (ring_writes b n k) (buffer_writes b n k))
     ∙ ap (λ m. after_writes core (ring_writes b n m)) next
 
 -- Steps in their parts.
@@ -63,7 +55,7 @@ setup_parts core h size n first end there fits e f =
     let one : first ≡ buffer_at (base core) 0 = omega (arith, e) in
     rw (one, f)
     (setup_fits core h n _ there fits
-    ∙ ap Some (after_append core (ring_writes (base core) n n)
+    ∙ ap Some (writes_append core (ring_writes (base core) n n)
     ((first_free, join (left (slice_index core first_free)) (base core + n * buffer_words))
     ∷ unused_header h size (buffer_at (base core) 0))))
 
@@ -72,13 +64,13 @@ pub in_parts : (core : List ℕ) (h size status : ℕ) (words : List ℕ)
     (marked (slice_index core (target core h)))) ≡ after_writes core (in_writes core h size status words)
 unfolding in_writes
 in_parts core h size status words = sym
-    (after_append core (left_behind core h) (filled core h size status (target core h) words))
+    (writes_append core (left_behind core h) (filled core h size status (target core h) words))
 
 pub out_parts : (core : List ℕ) (h size : ℕ)
     → after_writes (after_writes core (put_behind core h)) (emptied_by h size (target core h))
     ≡ after_writes core (out_writes core h size)
 unfolding out_writes zeroed
-out_parts core h size = sym (after_append core (put_behind core h) (emptied_by h size (target core h)))
+out_parts core h size = sym (writes_append core (put_behind core h) (emptied_by h size (target core h)))
 
 pub take_fewer : (count n : ℕ) (xs : List ℕ) → n ≡ min count (length xs) → take n xs ≡ take count xs
 take_fewer count n xs e = rw e (std_take_min count xs)
@@ -98,7 +90,7 @@ deal_more core new areas i n first count words front back area lt is view e f b 
     (let next : suc i ≡ i + 1 = omega arith in
     let t = take_fewer count n words e in
     let s = drop_fewer count n words e in
-    rw (← next, ← t, ← s) (after_append core (placed first (take n words)) (dealt (drop (suc i) areas) (drop n words))))
+    rw (← next, ← t, ← s) (writes_append core (placed first (take n words)) (dealt (drop (suc i) areas) (drop n words))))
 
 -- one area more that is counted
 pub count_on : (areas : List Area) (i first count : ℕ) (area : Area) → i < length areas → area ≡ get_or areas i area

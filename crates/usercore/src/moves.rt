@@ -87,7 +87,7 @@ impl Core {
     }
 
     /// Puts words from an address on: those outside the core are lost.
-    #[tactic(auto, using(crate::proofs::WriteLaws::length_after, crate::proofs::WriteLaws::placed_more))]
+    #[tactic(auto, using(meaning::proofs::CoreWrites::writes_length, crate::proofs::WriteLaws::placed_more))]
     pub(crate) fn place(&mut self, first: usize, words: &[Word])
         requires { first + length words.now < 2 ^ 64 }
         ensures placed { self.new ≡ after_writes self.old (placed first words.now) }

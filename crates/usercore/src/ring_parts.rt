@@ -39,7 +39,7 @@ impl Core {
     }
 
     /// Sets up a ring that fits.
-    #[tactic(auto, using(crate::proofs::WriteLaws::length_after, crate::proofs::WriteLaws::ring_more, crate::proofs::WriteLaws::setup_parts))]
+    #[tactic(auto, using(meaning::proofs::CoreWrites::writes_length, crate::proofs::WriteLaws::ring_more, crate::proofs::WriteLaws::setup_parts))]
     pub(crate) fn set_up(&mut self, header: usize, bytes: ByteSize, count: usize)
         requires low { header < 2 ^ 32 }
         requires there { header + 3 ≤ length self.old }
@@ -111,7 +111,7 @@ impl Core {
     }
 
     /// Fills a buffer, whose own word becomes this one, and makes it the current one.
-    #[tactic(auto, using(crate::proofs::WriteLaws::after_append))]
+    #[tactic(auto, using(meaning::proofs::CoreWrites::writes_append))]
     fn fill_buffer(
         &mut self,
         header: usize,
@@ -167,7 +167,7 @@ impl Core {
     }
 
     /// Empties a buffer, and makes it the current one.
-    #[tactic(auto, using(crate::proofs::WriteLaws::after_append), unfolding(crate::specs::Steps::zeroed))]
+    #[tactic(auto, using(meaning::proofs::CoreWrites::writes_append), unfolding(crate::specs::Steps::zeroed))]
     fn empty_buffer(&mut self, header: usize, bytes: ByteSize, buffer: usize)
         requires low { header < 2 ^ 32 }
         requires fits { buffer < 2 ^ 18 }

@@ -153,7 +153,7 @@ module _ (m m' : LiveMap) (whole : IsWholeCore m.table.size (core_of m)) (key : 
           there = stands;
           directory = dk;
           directory' = dk';
-          directory_at = known_place m whole key p was placed place w stands d at;
+          directory_at = known_place m whole key was placed stands at;
           master = ap (viewed master_view) master;
           directories = ap (map (live_directory m'.versions.slots)) directories
               ∙ made_current_directories m.table.size m whole m'.versions.slots place d d' at old from stay;
@@ -166,7 +166,7 @@ module _ (m m' : LiveMap) (whole : IsWholeCore m.table.size (core_of m)) (key : 
           inside = all_times (InSpace m.table.size) (grown ++ blocks_reached prime (record p.version { ribs = ribs }))
               inside_of;
           fresh = takes.fresh;
-          once = all_once m whole key p was placed place w stands d at t1 grown prime ribs takes
+          once = all_once m whole key was placed stands at t1 grown prime ribs takes
               (λ n. given_up n (before old)) shared;
           size_is = ap (λ (t : TableState). t.size) table ∙ all_marks.size;
           bits = λ n. let same = ap (λ (t : TableState). bit t n) table in let all = bits_after n in omega arith;
@@ -217,7 +217,7 @@ module _ (m m' : LiveMap) (whole : IsWholeCore m.table.size (core_of m)) (key : 
       (others : (j : ℕ) → (j ≡ new_key → ⊥) → (j ≡ k → ⊥) → slot m'.versions.slots j ≡ slot m.versions.slots j) where
     had : (u : LiveVersion) × (slot m.versions.slots k ≡ Some u) × (u.is_current ≡ true) × (u.at ≡ v)
         × (slice_get dk.versions i ≡ Some (as_known u))
-    had = old_version m whole key p was placed place w stands d at i v k named key_at
+    had = old_version m whole key was placed stands at i v k named key_at
 
     u : LiveVersion
     u = had.0
@@ -227,14 +227,14 @@ module _ (m m' : LiveMap) (whole : IsWholeCore m.table.size (core_of m)) (key : 
         (keys_apart m.table.size c whole place i place j d.keys.items d.keys.items k keys_here key_at keys_here is).1
       where
         keys_here : slice_get c.keys place ≡ Some d.keys.items
-        keys_here = keys_place m whole key p was placed place w stands d at
+        keys_here = keys_place m whole key was placed stands at
 
     stays : (j : ℕ) (x : LiveVersion) → slot m.versions.slots j ≡ Some x → HasOtherKey (Some (k, u)) j
         → slot m'.versions.slots j ≡ Some x
     stays j x there other = others j (apart_keys m.versions.slots j new_key x there vacant) other ∙ there
 
     zip : IsKeyed m.versions.slots dk d.keys.items
-    zip = keyed_here m whole key p was placed place w stands d at
+    zip = keyed_here m whole key was placed stands at
 
     set : map file_view d'.chain.entries ≡ slice_set (map file_view d.chain.entries) i (p.prime.file, prime)
     set = items ∙ inserted_at (map file_view d.chain.entries) i (p.prime.file, prime) v named.is named.before
@@ -260,15 +260,15 @@ module _ (m m' : LiveMap) (whole : IsWholeCore m.table.size (core_of m)) (key : 
           versions = slice_set dk.versions i (as_known new);
         }) p.prime.file prime (as_known new) (Some (n, as_known u))) (sym had.3)
         (entry_replaced m.table.size dk (viewed file_view d'.chain) p.prime.file prime v i (as_known u)
-        (as_known new) (whole_here m whole key p was placed place w stands d at) named had.4 items chain names)))
-        (new_here m whole key p was placed place w stands d at ∙ ap is_none named.found)
+        (as_known new) (whole_here m whole key was placed stands at) named had.4 items chain names)))
+        (new_here m whole key was placed stands at ∙ ap is_none named.found)
         (subst (λ es. AllZip (λ e j. IsCurrent m'.versions.slots j e.1) es d'.keys.items) (sym set)
         (subst (AllZip (λ e j. IsCurrent m'.versions.slots j e.1)
         (slice_set (map file_view d.chain.entries) i (p.prime.file, prime))) (sym keys)
         (replaced_keyed m.versions.slots m'.versions.slots d.keys.items dk.chain.entries i new_key
         (k, u) new zip only here stays (p.prime.file, prime) refl refl)))
         gone_version.marks gone_version.bits gone_version.held gone_version.booked
-        (shared_named m whole key p was placed place w stands d at i v k u named had.1 had.2 had.3)
+        (shared_named m whole key was placed stands at i v k u named had.1 had.2 had.3)
 
   -- The name is new.
   module _ (absent : find name_cmp p.prime.file (map file_view d.chain.entries) ≡ None) (keys : d'.keys.items
@@ -278,7 +278,7 @@ module _ (m m' : LiveMap) (whole : IsWholeCore m.table.size (core_of m)) (key : 
     kept j x there = others j (apart_keys m.versions.slots j new_key x there vacant) ∙ there
 
     zip_new : IsKeyed m.versions.slots dk d.keys.items
-    zip_new = keyed_here m whole key p was placed place w stands d at
+    zip_new = keyed_here m whole key was placed stands at
 
     pushed : map file_view d'.chain.entries ≡ map file_view d.chain.entries ++ (p.prime.file, prime) ∷ []
     pushed = items ∙ inserted_new (map file_view d.chain.entries) (p.prime.file, prime) absent
@@ -295,8 +295,8 @@ module _ (m m' : LiveMap) (whole : IsWholeCore m.table.size (core_of m)) (key : 
         made_current_into None tt tt (λ j new_one other. others j new_one)
         (subst (λ (x : KnownDirectory). IsEntryPut dk x p.prime.file prime (as_known new) None) (sym known_new)
         (entry_added m.table.size dk (viewed file_view d'.chain) p.prime.file prime (as_known new)
-        (whole_here m whole key p was placed place w stands d at) absent items chain names))
-        (new_here m whole key p was placed place w stands d at ∙ ap is_none absent)
+        (whole_here m whole key was placed stands at) absent items chain names))
+        (new_here m whole key was placed stands at ∙ ap is_none absent)
         (subst (λ es. AllZip (λ e j. IsCurrent m'.versions.slots j e.1) es d'.keys.items) (sym pushed)
         (subst (AllZip (λ e j. IsCurrent m'.versions.slots j e.1) (map file_view d.chain.entries
         ++ (p.prime.file, prime) ∷ [])) (sym keys)
@@ -306,7 +306,7 @@ module _ (m m' : LiveMap) (whole : IsWholeCore m.table.size (core_of m)) (key : 
         (λ n. let same = ap (λ (t : TableState). bit t n) none in
         omega arith) (λ n. let same = ap (λ (t : TableState). holds t n) none in
         omega arith) (let same = ap (λ (t : TableState). t.booked) none in omega arith)
-        (λ n its set. absurd (shared_absent m whole key p was placed place w stands d at absent n its set))
+        (λ n its set. absurd (shared_absent m whole key was placed stands at absent n its set))
 
   -- By what the entry answered.
   module _ (versions : List (Option LiveVersion)) (put_others : (k : ℕ) → (k ≡ new_key → ⊥)

@@ -128,9 +128,8 @@ begun_bare Supersede prime old bare = refl
 begun_bare Update prime old bare = cc
 begun_bare Append prime old bare = cc
 
-module _ (size : ℕ) (c : VolumeCore) (whole : IsWholeCore size c) (sound : IsTable c.known.table) (kind : Kind)
-    (prime : Prime) (o : Option ℕ)
-    (is : IsBefore c prime.ppn prime.file o) where
+module _ {size : ℕ} {c : VolumeCore} (whole : IsWholeCore size c) (sound : IsTable c.known.table) (kind : Kind)
+    (prime : Prime) {o : Option ℕ} (is : IsBefore c prime.ppn prime.file o) where
   abbrev old : Before
   old = version_before c.live o
 
@@ -335,7 +334,7 @@ module _ (size : ℕ) (c : VolumeCore) (whole : IsWholeCore size c) (sound : IsT
 
 -- Which refusal comes when, said of the directory that has the number.
 
-module _ (size : ℕ) (c : VolumeCore) (whole : IsWholeCore size c) (kind : Kind) (prime : Prime) (o : Option ℕ)
+module _ {size : ℕ} {c : VolumeCore} (whole : IsWholeCore size c) (kind : Kind) (prime : Prime) {o : Option ℕ}
     (is : IsBefore c prime.ppn prime.file o) (d : KnownDirectory) (there : IsDirectoryOf c prime.ppn d) where
   same_d : is.directory ≡ d
   same_d = same_directory size c prime.ppn there.0 there.1 is.directory d whole is.there there.2.is there.3
@@ -382,7 +381,7 @@ pub known_place : (m : LiveMap) → IsWholeCore m.table.size (core_of m) → (pp
 known_place m whole ppn i v stands = element_at (core_of m).known.directories i
     (let within = stands.within in let aligned = whole.map.aligned in omega arith)
 
-module _ (size : ℕ) (c : VolumeCore) (whole : IsWholeCore size c) (kind : Kind) (prime : Prime) (o : Option ℕ)
+module _ {size : ℕ} {c : VolumeCore} (whole : IsWholeCore size c) (kind : Kind) (prime : Prime) {o : Option ℕ}
     (is : IsBefore c prime.ppn prime.file o) where
   pub named_here : (d : KnownDirectory) → IsDirectoryOf c prime.ppn d
       → IsNamed d prime.file (version_before c.live o)
@@ -392,7 +391,7 @@ module _ (size : ℕ) (c : VolumeCore) (whole : IsWholeCore size c) (kind : Kind
   pub fits_before : (d : KnownDirectory) → IsDirectoryOf c prime.ppn d → (prior : Before)
       → IsNamed d prime.file prior → is_create kind ≡ is_none prior → is_create kind ≡ is_none o
   fits_before d there prior named fits = fits ∙ named_none d prime.file prior named
-      ∙ absent_same size c whole kind prime o is d there
+      ∙ absent_same whole kind prime is d there
 
   -- no block is held more often than a number of 32 bits counts
   pub begun_hold : (n cost : ℕ) → c.known.table.booked + cost ≤ space c.known.table.size

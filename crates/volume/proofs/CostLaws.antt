@@ -35,28 +35,33 @@ zip_each P Q (x ∷ xs) (y ∷ ys) same all each = (
 
 -- A map's sum, by a list of its keys in any order, with a list of what each counts.
 
-abbrev pub Counts : {K V X Y : Type 0} {R : K → K → Ordering} → (X → ℕ) → (Y → ℕ) → FinMap R X → K × V → Y → Type 0
-Counts {X = X} f h m e y = (x : X) × (get m e.0 ≡ Some x) × (f x ≡ h y)
+abbrev pub Pairs : {K V X Y : Type 0} {R : K → K → Ordering} → (K → X → Y → Type 0) → FinMap R X → K × V → Y → Type 0
+Pairs {X = X} P m e y = (x : X) × (get m e.0 ≡ Some x) × P e.0 x y
 
-module _ {K V X Y : Type 0} {R : K → K → Ordering} (o : IsTotalOrder R) (exact : IsAntisymmetric R) (f : X
-    → ℕ) (h : Y → ℕ) where
-  still_counts : (m : FinMap R X) (k : K) (es : List (K × V)) (ys : List Y) → find R k es ≡ None
-      → AllZip (Counts f h m) es ys → AllZip (Counts f h (remove m k)) es ys
-  still_counts m k [] [] none zip = tt
-  still_counts m k [] (y ∷ ys) none zip = absurd zip
-  still_counts m k (e ∷ es) [] none zip = absurd zip
-  still_counts m k (e ∷ es) (y ∷ ys) none zip = step (eq_by_cmp R k e.0) refl none
-      (λ rest. still_counts m k es ys rest zip.1)
+module _ {K V X Y : Type 0} {R : K → K → Ordering} (o : IsTotalOrder R) (exact : IsAntisymmetric R)
+    (P : K → X → Y → Type 0) where
+  pub still_pairs : (m : FinMap R X) (k : K) (es : List (K × V)) (ys : List Y) → find R k es ≡ None
+      → AllZip (Pairs P m) es ys → AllZip (Pairs P (remove m k)) es ys
+  still_pairs m k [] [] none zip = tt
+  still_pairs m k [] (y ∷ ys) none zip = absurd zip
+  still_pairs m k (e ∷ es) [] none zip = absurd zip
+  still_pairs m k (e ∷ es) (y ∷ ys) none zip = step (eq_by_cmp R k e.0) refl none
+      (λ rest. still_pairs m k es ys rest zip.1)
     where
       other : eq_by_cmp R k e.0 ≡ false → e.0 ≢ k
       other t same = apart o k e.0 t (sym same)
 
       step : (b : Bool) → eq_by_cmp R k e.0 ≡ b → (if b then Some e.1 else find R k es) ≡ None
-          → (find R k es ≡ None → AllZip (Counts f h (remove m k)) es ys)
-          → AllZip (Counts f h (remove m k)) (e ∷ es) (y ∷ ys)
+          → (find R k es ≡ None → AllZip (Pairs P (remove m k)) es ys)
+          → AllZip (Pairs P (remove m k)) (e ∷ es) (y ∷ ys)
       step true t n rest = absurd (some_none n)
       step false t n rest = ((zip.0.0, get-remove_other o exact m k e.0 (other t) ∙ zip.0.1, zip.0.2), rest n)
 
+abbrev pub Counts : {K V X Y : Type 0} {R : K → K → Ordering} → (X → ℕ) → (Y → ℕ) → FinMap R X → K × V → Y → Type 0
+Counts f h m e y = Pairs (λ k x z. f x ≡ h z) m e y
+
+module _ {K V X Y : Type 0} {R : K → K → Ordering} (o : IsTotalOrder R) (exact : IsAntisymmetric R) (f : X
+    → ℕ) (h : Y → ℕ) where
   pub sum_counted : (m : FinMap R X) (es : List (K × V)) (ys : List Y) → size m ≡ length es → EachOnce R es
       → AllZip (Counts f h m) es ys → sum_over f m ≡ total h ys
   sum_counted m [] [] count once zip = ap (sum_over f) (empty_of_size m count) ∙ sum-empty R f
@@ -65,7 +70,8 @@ module _ {K V X Y : Type 0} {R : K → K → Ordering} (o : IsTotalOrder R) (exa
   sum_counted m (e ∷ es) (y ∷ ys) count once zip =
       let one = size-remove o exact m e.0 zip.0.0 zip.0.1 in
       let part = sum-remove o exact f m e.0 zip.0.0 zip.0.1 in
-      let rest = sum_counted (remove m e.0) es ys (omega arith) once.1 (still_counts m e.0 es ys once.0 zip.1) in
+      let rest = sum_counted (remove m e.0) es ys (omega arith) once.1
+      (still_pairs o exact (λ k x y. f x ≡ h y) m e.0 es ys once.0 zip.1) in
       let here = zip.0.2 in
       omega arith
 

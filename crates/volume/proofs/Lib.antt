@@ -51,6 +51,7 @@ pub mod Growing
 pub mod Beginnings
 pub mod Dropping
 pub mod PublishingPuts
+pub mod OneDirectory
 pub mod PublishingLaw
 pub mod PublishingEntries
 pub mod PublishingKeys
@@ -83,6 +84,7 @@ pub mod RenamingEntries
 pub mod Renamings
 pub mod RenamingLaw
 pub mod RenamedPlaces
+pub mod SameVersion
 pub mod RenamingCore
 pub mod RenamingTransactions
 pub mod RenamingAnswers

@@ -38,7 +38,15 @@ line_is k files ppn d there e l is named =
     let shown = shown_of found.0 v.version v.prime named.0 found.2 v.protection v.mode v.moment v.words v.blocks in
     let same : found.0 ≡ e.1 = some_same (sym found.1 ∙ is) in
     let here = subst (λ (f : StoredFile). IsShown f.file named.0) same shown in
-    named.2 ∙ (λ i. record { name = e.0; protection = here.protection i; date = here.date i; blocks = here.blocks i })
+    named.2 ∙ (λ i. record {
+      name = e.0;
+      protection = here.protection i;
+      mode = here.mode i;
+      date = here.date i;
+      time = here.time i;
+      length = here.words i;
+      blocks = here.blocks i;
+    })
 
 lines_by : (k : Known) (files : Files File) (ppn : ℕ) (d : KnownDirectory) (there : IsThere k files ppn d)
     (es : List (FileName × StoredFile)) (lines : List Entry)

@@ -31,7 +31,7 @@ use Rattle.volume.specs.Known.{IsWholeVersion, prime_in}
 use Rattle.volume.specs.Live.{is_creation, VolumeCore, slot, pending_at, as_known, IsCurrent, IsKeyed, pending_reaches}
 use Rattle.volume.specs.Live.{pending_cost, creates, growths, IsWholeCore}
 use Rattle.volume.specs.LiveCores.{core_of, live_directory}
-use Rattle.volume.specs.Publishing.{TakesPlaces, Retires, left_of, IsPlaced}
+use Rattle.volume.specs.Publishing.{MayRetire, TakesPlaces, Retires, left_of, IsPlaced}
 use Rattle.volume.proofs.Beginnings.{same_directory}
 use Rattle.volume.proofs.Costing.{few_blocks}
 use Rattle.volume.proofs.FoundDirectories.{mapped_at, zip_at, all_at}
@@ -63,9 +63,16 @@ index_is [] i x e below is = absurd (omega arith)
 index_is (y ∷ xs) zero x e below is = ap Some (sym is)
 index_is (y ∷ xs) (suc i) x e below is = index_is xs i x e (omega arith) is
 
+-- versions stay where one more comes under a new key
+pub vacant_stays : (versions after : List (Option LiveVersion)) (new_key : ℕ) → slot versions new_key ≡ None
+    → ((k : ℕ) → (k ≡ new_key → ⊥) → slot after k ≡ slot versions k) → (k : ℕ) (v : LiveVersion)
+    → slot versions k ≡ Some v → slot after k ≡ Some v
+vacant_stays versions after new_key vacant others k v there =
+    others k (λ same. some_none (sym there ∙ ap (slot versions) same ∙ vacant)) ∙ there
+
 -- a directory is there, at the place of its entry
-module _ (m : LiveMap) (whole : IsWholeCore m.table.size (core_of m)) (ppn place : ℕ) (w : ℕ
-    × ℕ) (stands : StandsAt nat_cmp (map master_view m.master.entries) ppn w place) where
+module _ (m : LiveMap) (whole : IsWholeCore m.table.size (core_of m)) (ppn place : ℕ) (w : ℕ × ℕ)
+    (stands : StandsAt nat_cmp (map master_view m.master.entries) ppn w place) where
   pub place_within : place < length m.directories.items
   place_within =
       let within = stands.within in
@@ -76,7 +83,14 @@ module _ (m : LiveMap) (whole : IsWholeCore m.table.size (core_of m)) (ppn place
   pub directory_there : (d : LiveDirectory) × (slice_get m.directories.items place ≡ Some d)
   directory_there = element_at m.directories.items place place_within
 
--- one number, or none
+-- and it is the one that was read there
+pub directory_read : (m : LiveMap) → IsWholeCore m.table.size (core_of m) → {ppn place : ℕ} {w : ℕ × ℕ}
+    {d : LiveDirectory} → StandsAt nat_cmp (map master_view m.master.entries) ppn w place → (e : LiveDirectory)
+    → d ≡ slice_index_or m.directories.items place e → slice_get m.directories.items place ≡ Some d
+directory_read m whole {ppn} {place} {w} {d} stands e is =
+    index_is m.directories.items place d e (place_within m whole ppn place w stands) is
+
+-- One number, or none.
 pub one_number : (o : Option ℕ) → length (option_to_list o) ≡ 1 → (n : ℕ) × (o ≡ Some n)
 one_number None one = absurd (omega arith)
 one_number (Some n) one = (n, refl)
@@ -129,10 +143,10 @@ stands_once bits taken stands given few fresh apart once shared = ⊎_elim
     (λ (clear : bits ≡ 0). omega (arith, apart its)) (some_or_none bits))
     (λ (none : stands ≡ 0). omega arith) (some_or_none stands)
 
-module _ (m : LiveMap) (whole : IsWholeCore m.table.size (core_of m)) (key : ℕ) (p : PendingVersion)
-    (was : pending_at m.pending.slots key ≡ Some p) (placed : IsPlaced (core_of m) p)
-    (place : ℕ) (w : ℕ × ℕ) (stands : StandsAt nat_cmp (map master_view m.master.entries) p.prime.ppn w place)
-    (d : LiveDirectory) (at : slice_get m.directories.items place ≡ Some d) where
+module _ (m : LiveMap) (whole : IsWholeCore m.table.size (core_of m)) (key : ℕ) {p : PendingVersion}
+    (was : pending_at m.pending.slots key ≡ Some p) (placed : IsPlaced (core_of m) p) {place : ℕ} {w : ℕ × ℕ}
+    (stands : StandsAt nat_cmp (map master_view m.master.entries) p.prime.ppn w place) {d : LiveDirectory}
+    (at : slice_get m.directories.items place ≡ Some d) where
   abbrev c : VolumeCore
   c = core_of m
 
@@ -308,12 +322,12 @@ module _ (m : LiveMap) (whole : IsWholeCore m.table.size (core_of m)) (key : ℕ
       omega arith
 
   -- What follows for the version before, once the new one has a key and its places were taken.
-  module _ (o : Option ℕ) (name : FileName) (same : name ≡ p.prime.file) (now : List ℕ → ℕ → Type 0)
+  module _ (o : Option ℕ) {name : FileName} (same : name ≡ p.prime.file) (now : List ℕ → ℕ → Type 0)
       (replaced : IfSome o (λ k. (i : ℕ) × (v : ℕ) × StandsAt name_cmp (map file_view d.chain.entries) name v i
       × (slice_get d.keys.items i ≡ Some k) × now d.keys.items i))
       (versions : List (Option LiveVersion)) (stay : (k : ℕ) (v : LiveVersion) → slot m.versions.slots k ≡ Some v
       → slot versions k ≡ Some v)
-      (t : TableState) (grown : List ℕ) (prime : ℕ) (ribs : List ℕ)
+      {t : TableState} {grown : List ℕ} {prime : ℕ} {ribs : List ℕ}
       (takes : TakesPlaces m.table t grown prime ribs) where
     -- the one under that key
     abbrev OldAt : ℕ → Type 0
@@ -341,29 +355,16 @@ module _ (m : LiveMap) (whole : IsWholeCore m.table.size (core_of m)) (key : ℕ
         by None none = tt
         by (Some k) is = give k is
 
-    pub retires_there : IfSome o (λ k. IsSome (slot versions k))
-    retires_there = each_old (λ k. IsSome (slot versions k)) (λ k is. subst IsSome (sym is.2) refl)
-
-    pub retires_set : IfSome o (λ k. IfSome (slot versions k) (λ v. (n : ℕ)
-        → times n (blocks_reached v.at v.version) ≤ bit t n))
-    retires_set = each_old (λ k. IfSome (slot versions k) (λ v. (n : ℕ)
-        → times n (blocks_reached v.at v.version) ≤ bit t n))
-        (λ k is. by_slot (λ v. (n : ℕ) → times n (blocks_reached v.at v.version) ≤ bit t n) (slot versions k) is.0 is.2
-        (λ n. let set = old_set k is.0 is.1 is.3 n in let kept = takes.bits n in omega arith))
-
-    pub retires_few : IfSome o (λ k. IfSome (slot versions k) (λ v. length v.version.blocks ≤ most_blocks))
-    retires_few = each_old (λ k. IfSome (slot versions k) (λ v. length v.version.blocks ≤ most_blocks))
-        (λ k is. by_slot (λ v. length v.version.blocks ≤ most_blocks) (slot versions k) is.0 is.2 (old_few k is.0 is.1))
-
-    pub retires_booked : IfSome o (λ k. IfSome (slot versions k) (λ v. cost_of_blocks (length v.version.blocks)
-        ≤ t.booked))
-    retires_booked = each_old (λ k. IfSome (slot versions k) (λ v. cost_of_blocks (length v.version.blocks) ≤ t.booked))
-        (λ k is. by_slot (λ v. cost_of_blocks (length v.version.blocks) ≤ t.booked) (slot versions k) is.0 is.2
-        (let booked = old_booked is.4 is.0 is.5 in let kept = takes.booked in omega arith))
-
-    pub retires_fits : IfSome o (λ k. (n : ℕ) → holds t n + 1 < 2 ^ 32)
-    retires_fits = each_old (λ k. (n : ℕ) → holds t n + 1 < 2 ^ 32) (λ k is n. let few = holds_few n in
-        let more = takes.held n in let one = takes.fresh n in omega arith)
+    pub may_retire : IfSome o (λ k. MayRetire t versions k)
+    may_retire = each_old (MayRetire t versions) (λ k is. record {
+      there = subst IsSome (sym is.2) refl;
+      set = by_slot (λ v. (n : ℕ) → times n (blocks_reached v.at v.version) ≤ bit t n) (slot versions k) is.0 is.2
+          (λ n. let set = old_set k is.0 is.1 is.3 n in let kept = takes.bits n in omega arith);
+      few = by_slot (λ v. length v.version.blocks ≤ most_blocks) (slot versions k) is.0 is.2 (old_few k is.0 is.1);
+      booked = by_slot (λ v. cost_of_blocks (length v.version.blocks) ≤ t.booked) (slot versions k) is.0 is.2
+          (let booked = old_booked is.4 is.0 is.5 in let kept = takes.booked in omega arith);
+      fits = λ n. let few = holds_few n in let more = takes.held n in let one = takes.fresh n in omega arith;
+    })
 
     -- the new version stands under its key, whatever becomes of the old one
     pub new_stands : (after : List (Option LiveVersion)) (new_key : ℕ) (new : LiveVersion)

@@ -32,9 +32,9 @@ use Rattle.alloctab.specs.TableState.{bit, holds, space, IsFree}
 use Rattle.retrieval.specs.Writing.{IsFixed}
 use Rattle.volume.specs.Known.{KnownDirectory, Known, IsHeld, reaches_in_entries, reaches_in_known, known_reaches}
 use Rattle.volume.specs.Known.{IsWholeDirectory, IsWholeMap, cost_of_directory, cost_of_known, prime_in}
-use Rattle.volume.specs.Live.{VolumeCore, slot, pending_at, IsKeyed, AreStanding, held_reaches, held_cost, current_reaches}
-use Rattle.volume.specs.Live.{entry_reaches}
-use Rattle.volume.specs.Live.{pending_reaches, pending_cost, creates, growths, AreWaiting, IsWholeCore}
+use Rattle.volume.specs.Live.{VolumeCore, slot, pending_at, IsKeyed, AreStanding, held_reaches, held_cost}
+use Rattle.volume.specs.Live.{current_reaches, entry_reaches, pending_reaches, pending_cost, creates, growths}
+use Rattle.volume.specs.Live.{AreWaiting, IsWholeCore}
 use Rattle.volume.specs.declared.pending.PendingVersion.{PendingVersion}
 use Rattle.volume.specs.Making.{LeadsTo, IsAligned, bare_known, entry_made, map_made, files_made, IsMade}
 use Rattle.volume.specs.Rest.{IsAtRest, IsSound, RestsAt, StandsForEither}

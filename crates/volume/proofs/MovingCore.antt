@@ -1,7 +1,6 @@
 -- A file moves to another directory: what is in core stays whole.
 use Rattle.std.proofs.Common.{◌≡◌, ℕ, ◌+◌, ◌-◌, ◌*◌, ◌^◌, ◌<◌, ◌≤◌, ⊎_elim, true, false, List, [], ◌∷◌, length}
 use Rattle.std.proofs.Common.{slice_get, slice_set, Option, Some, None, IfSome, refl, sym, ap, subst, ◌∙◌, arith}
-use Rattle.std.proofs.lemmas.Bool.{cases_eq}
 use Rattle.std.proofs.lemmas.List.{length-set}
 use Rattle.std.proofs.lemmas.Option.{slice_get_within}
 use Rattle.std.specs.List.{AllByRecursion}
@@ -15,7 +14,6 @@ use Rattle.meaning.specs.Faults.{InSpace, IsMasterEntryOf}
 use Rattle.meaning.specs.Maps.{total, times}
 use Rattle.meaning.specs.Room.{growth}
 use Rattle.meaning.specs.Stands.{place_of}
-use Rattle.meaning.proofs.MapLaws.{some_same}
 use Rattle.meaning.proofs.MapSums.{times-append}
 use Rattle.meaning.proofs.SlotLaws.{all_append}
 use Rattle.meaning.proofs.Walking.{all_front}
@@ -36,12 +34,12 @@ use Rattle.volume.proofs.Apart.{apart_stays}
 use Rattle.volume.proofs.FoundDirectories.{all_at}
 use Rattle.volume.proofs.Growing.{share, cost_rises, created_cost}
 use Rattle.volume.proofs.LiveLookups.{standing_at}
-use Rattle.volume.proofs.LiveTotals.{total_updated}
 use Rattle.volume.proofs.MakingHeld.{element_at}
 use Rattle.volume.proofs.MovedPlaces.{directory_stays, across_stays}
 use Rattle.volume.proofs.Pinning.{all_updated, total_at}
 use Rattle.volume.proofs.PublishingSlots.{set_total, set_each, all_places, set_growths, came}
 use Rattle.volume.proofs.RenamedPlaces.{unclaimed_place}
+use Rattle.volume.proofs.SameVersion.{version_total, version_primes, version_stays}
 
 -- Where no new entry is to come no directory is to cost more.
 no_growths : (pending : List (Option PendingVersion)) → ((ppn : ℕ) → total (creates ppn) pending ≡ 0)
@@ -95,10 +93,7 @@ module _ (size : ℕ) (c c' : VolumeCore) (ppn : ℕ) (name : FileName) (to_ppn 
   -- Sums.
 
   live_total : (f : Option LiveVersion → ℕ) → f None ≡ 0 → f (Some v') ≡ f (Some v) → total f c'.live ≡ total f c.live
-  live_total f none same =
-      let all = total_updated f none c.live c'.live key (Some v') is.here is.others in
-      let here = ap f is.there in
-      omega arith
+  live_total = version_total c c' key v is.prime is.there is.here is.others
 
   same_pending : (f : Option PendingVersion → ℕ) → total f c'.pending ≡ total f c.pending
   same_pending f = ap (total f) is.pending
@@ -208,11 +203,8 @@ module _ (size : ℕ) (c c' : VolumeCore) (ppn : ℕ) (name : FileName) (to_ppn 
 
   moved_primes : (k : ℕ) (u : LiveVersion) → slot c'.live k ≡ Some u → u.is_current ≡ true
       → holds c'.known.table u.at ≡ 0
-  moved_primes k u there current = is.held u.at ∙ ⊎_elim
-      (λ (same : k ≡ key).
-      let of : v' ≡ u = some_same (sym is.here ∙ sym (ap (slot c'.live) same) ∙ there) in
-      ap (λ (x : LiveVersion). holds c.known.table x.at) (sym of) ∙ whole.primes key v is.there is.current)
-      (λ other. whole.primes k u (sym (is.others k other) ∙ there) current) (cases_eq k key)
+  moved_primes k u there current = is.held u.at
+      ∙ version_primes c c' key v is.prime is.there is.here is.others is.current whole.primes k u there current
 
   -- What is booked.
 
@@ -281,32 +273,10 @@ module _ (size : ℕ) (c c' : VolumeCore) (ppn : ℕ) (name : FileName) (to_ppn 
     moved_current : (p : PendingVersion) → ((p.prime.ppn ≡ ppn) × (p.prime.file ≡ name) → ⊥) → (u : LiveVersion)
         → IsCurrentAt c p.prime.ppn p.prime.file u
         → (w : LiveVersion) × IsCurrentAt c' p.prime.ppn p.prime.file w × (w.version.blocks ≡ u.version.blocks)
-    moved_current p differ u current =
-        let at = across_stays size c.known c'.known ppn name to_ppn to (v.at, as_known v) (as_known v') words puts
-        is.moved p.prime.ppn p.prime.file u.at differ current.at in
-        ⊎_elim
-        (λ (same : current.key ≡ key).
-        let both : u ≡ v = some_same (sym current.there ∙ ap (slot c.live) same ∙ is.there) in (
-          v',
-          record {
-            key = key;
-            there = is.here;
-            current = is.current;
-            at = at ∙ ap (λ (x : LiveVersion). Some x.at) both;
-          },
-          ap (λ (x : LiveVersion). x.version.blocks) (sym both),
-        ))
-        (λ other. (
-          u,
-          record {
-            key = current.key;
-            there = is.others current.key other ∙ current.there;
-            current = current.current;
-            at = at;
-          },
-          refl,
-        ))
-        (cases_eq current.key key)
+    moved_current p differ u current = version_stays c c' key v is.prime is.there is.here is.others is.current
+        p.prime.ppn p.prime.file u current
+        (across_stays size c.known c'.known ppn name to_ppn to (v.at, as_known v) (as_known v') words puts is.moved
+        p.prime.ppn p.prime.file u.at differ current.at)
 
     -- nor is the block that the other directory takes one of them
     moved_own : (k : ℕ) (p : PendingVersion) → pending_at c'.pending k ≡ Some p → IsApart c' p

@@ -55,13 +55,13 @@ module _ (c c' : VolumeCore) (known : c'.known ≡ record c.known { table = c'.k
   }
 
   pub supplied_on : c'.keys ≡ c.keys → (p : PendingVersion) (v : VersionState) (room : Places)
-      (keys : List ℕ) → IsSupplied c p room keys → IsSupplied c' (record p { version = v }) room keys
+      (keys : ℕ) → IsSupplied c p room keys → IsSupplied c' (record p { version = v }) room keys
   unfolding directory_back
   supplied_on same p v room keys supplied = record {
     fits = λ d there. supplied.fits d (directory_back p.prime.ppn d there);
-    longer = λ i w d ks stands at is absent.
+    roomy = λ i w d ks stands at is absent.
         let there = directory_back p.prime.ppn d (i, w, stands, at) in
-        supplied.longer i w d ks there.2 there.3 (ap (λ l. slice_get l i) (sym same) ∙ is) absent;
+        supplied.roomy i w d ks there.2 there.3 (ap (λ l. slice_get l i) (sym same) ∙ is) absent;
   }
 
 -- There are as many ribs as the version's blocks ask for.

@@ -2,6 +2,7 @@
 use Rattle.std.proofs.Common.{◌≡◌, ℕ, zero, suc, ◌+◌, ◌<◌, ◌≤◌, ◌⊎◌, ⊎_elim, Bool, true, false, if◌then◌else◌, List, []}
 use Rattle.std.proofs.Common.{◌∷◌, ◌++◌, length, Some, slice_get, refl, sym, ap, subst, ◌∙◌, arith}
 use Rattle.std.specs.List.{AllByRecursion}
+use Rattle.blockdisk.specs.Disk.{DiskState}
 use Rattle.meaning.specs.declared.put.Put.{Put}
 use Rattle.meaning.specs.Costs.{blocks_of}
 use Rattle.meaning.specs.Faults.{InSpace}
@@ -21,6 +22,7 @@ use Rattle.volume.specs.Known.{KnownDirectory, blocks_reached}
 use Rattle.volume.specs.Live.{VolumeCore, slot, pending_at, held_reaches, current_reaches, pending_reaches}
 use Rattle.volume.specs.Live.{entry_reaches, IsWholePending, IsWholeCore}
 use Rattle.volume.specs.Publishing.{before, MakesCurrent}
+use Rattle.volume.specs.Rest.{IsSound}
 use Rattle.volume.specs.declared.live.LiveVersion.{LiveVersion}
 use Rattle.volume.specs.declared.pending.PendingVersion.{PendingVersion}
 use Rattle.volume.proofs.LiveBodies.{IsUsed, read_used, written_used}
@@ -39,13 +41,13 @@ pub record IsMadeCurrent (size : ℕ) (c c' : VolumeCore) (key : ℕ) (p : Pendi
   pub words : v.version.words ≡ p.version.words
   pub blocks : v.version.blocks ≡ p.version.blocks
 
-pub made_current_of : (size bits : ℕ) (c c' : VolumeCore) (key : ℕ) (p : PendingVersion) (v : LiveVersion)
-    (puts : List Put) (current : ℕ) → bits ≡ size
-    → (at : ℕ) × (ribs : List ℕ) × (makes_current : MakesCurrent bits c c' key p at ribs puts)
-    × (current ≡ makes_current.new_key) → Some v ≡ slot c'.live current → IsMadeCurrent size c c' key p v puts
-made_current_of size bits c c' key p v puts current size_is made_current there =
-    subst (λ (n : ℕ). IsMadeCurrent n c c' key p v puts) size_is
-    (subst (λ (u : LiveVersion). IsMadeCurrent bits c c' key p u puts)
+pub made_current_of : {s : DiskState} {c c' : VolumeCore} {key : ℕ} {p : PendingVersion} {v : LiveVersion}
+    {puts : List Put} {current : ℕ} → IsSound s c false
+    → (at : ℕ) × (ribs : List ℕ) × (makes_current : MakesCurrent c.known.table.size c c' key p at ribs puts)
+    × (current ≡ makes_current.new_key) → Some v ≡ slot c'.live current → IsMadeCurrent s.size c c' key p v puts
+made_current_of {s} {c} {c'} {key} {p} {v} {puts} sound made_current there =
+    subst (λ (n : ℕ). IsMadeCurrent n c c' key p v puts) sound.whole.map.size_is
+    (subst (λ (u : LiveVersion). IsMadeCurrent c.known.table.size c c' key p u puts)
     (sym (some_same (there ∙ ap (slot c'.live) made_current.3 ∙ made_current.2.here)))
     (record { makes_current = made_current.2; prime = refl; words = refl; blocks = refl }))
 
@@ -124,7 +126,7 @@ module _ (size : ℕ) (c : VolumeCore) (whole : IsWholeCore size c) where
 
 -- The blocks of one that is published.
 
-module _ (size : ℕ) (c c' : VolumeCore) (key : ℕ) (p : PendingVersion) (v : LiveVersion) (puts : List Put)
+module _ {size : ℕ} {c c' : VolumeCore} {key : ℕ} {p : PendingVersion} {v : LiveVersion} {puts : List Put}
     (whole : IsWholeCore size c) (made_current : IsMadeCurrent size c c' key p v puts) where
   abbrev is : MakesCurrent size c c' key p v.at v.version.ribs puts
   is = made_current.makes_current

@@ -3,15 +3,14 @@ use Rattle.std.proofs.Common.{◌≡◌, ℕ, ◌+◌, ◌-◌, ◌<◌, ◌≤�
 use Rattle.std.proofs.Common.{◌∷◌, ◌++◌, length, slice_set, Option, Some, None, IfSome, is_none, refl, sym, ap, subst}
 use Rattle.std.proofs.Common.{◌∙◌, arith}
 use Rattle.std.proofs.lemmas.Bool.{cases_eq, cases_lt}
-use Rattle.std.proofs.lemmas.List.{get_or_past, length-set}
+use Rattle.std.proofs.lemmas.List.{get_or_past}
 use Rattle.std.proofs.lemmas.Option.{slice_get_within}
-use Rattle.std.specs.List.{AllByRecursion}
 use Rattle.std.specs.Ordering.{nat_cmp}
 use Rattle.std.specs.FinMap.Entries.{find}
 use Rattle.meaning.specs.declared.put.Put.{Put}
 use Rattle.meaning.specs.Costs.{directory_cost}
 use Rattle.meaning.specs.Directories.{MasterEntry}
-use Rattle.meaning.specs.Faults.{InSpace, IsMasterEntryOf}
+use Rattle.meaning.specs.Faults.{InSpace}
 use Rattle.meaning.specs.Maps.{total, times}
 use Rattle.meaning.specs.Room.{growth}
 use Rattle.meaning.specs.Table.{fixed}
@@ -19,7 +18,7 @@ use Rattle.meaning.proofs.DiskMaps.{fixed_below}
 use Rattle.meaning.proofs.MapLaws.{some_same, some_none}
 use Rattle.meaning.proofs.MapSums.{times-append}
 use Rattle.alloctab.specs.TableState.{holds}
-use Rattle.directory.specs.Chains.{ChainState, IsChain}
+use Rattle.directory.specs.Chains.{ChainState}
 use Rattle.retrieval.proofs.RibCounts.{ribs_few}
 use Rattle.volume.specs.Known.{KnownDirectory, blocks_reached, reaches_in_known, reaches_in_entries, cost_of_directory}
 use Rattle.volume.specs.Known.{cost_of_known, IsWholeVersion, IsWholeDirectory, IsWholeMap}
@@ -34,10 +33,11 @@ use Rattle.volume.proofs.FoundDirectories.{all_at}
 use Rattle.volume.proofs.Growing.{Adds, added_total, added_growths}
 use Rattle.volume.proofs.MakingHeld.{element_at}
 use Rattle.volume.proofs.MakingLaw.{bit_few}
+use Rattle.volume.proofs.OneDirectory.{one_directory_whole}
 use Rattle.volume.proofs.OnePlace.{first_elsewhere}
 use Rattle.volume.proofs.Pinning.{all_updated, entries_within}
 use Rattle.volume.proofs.PublishingPuts.{was_whole, published_times, published_inside}
-use Rattle.volume.proofs.PublishingSlots.{set_total, set_each, all_places, set_growths, came, reaches_parts, entered}
+use Rattle.volume.proofs.PublishingSlots.{set_total, all_places, set_growths, came, reaches_parts, entered}
 use Rattle.volume.proofs.PublishingSlots.{Counts, counts, made_current_total, made_current_all, left, left_cases}
 use Rattle.volume.proofs.PublishingSlots.{slot_of}
 use Rattle.volume.proofs.PuttingCore.{waits}
@@ -124,32 +124,17 @@ module _ (size : ℕ) (c c' : VolumeCore) (key : ℕ) (p : PendingVersion) (at :
   }
 
   made_current_map : IsWholeMap size c'.known
-  made_current_map = record {
-    volume = whole.map.volume;
-    size_is = is.published.size_is ∙ whole.map.size_is;
-    chain = subst (IsChain nat_cmp (IsMasterEntryOf 1)) (sym is.published.master) whole.map.chain;
-    inside = subst (λ (m : ChainState MasterEntry). AllByRecursion (InSpace size) m.blocks)
-        (sym is.published.master) whole.map.inside;
-    aligned =
-        let now = ap (λ (ds : List KnownDirectory). length ds) is.published.directories
-        ∙ length-set c.known.directories is.published.place is.published.directory' in
-        let entries = ap (λ (m : ChainState MasterEntry). length m.entries) is.published.master in
-        let aligned = whole.map.aligned in
-        omega arith;
-    each = subst (AllByRecursion (IsWholeDirectory size)) (sym is.published.directories)
-        (set_each (IsWholeDirectory size) c.known.directories is.published.place is.published.directory'
-        whole.map.each now_whole);
-    bits = λ n.
-        let bits = is.published.bits n in
-        let old = whole.map.bits n in
-        let chain = chain_times n in
-        let fresh = fresh_times n in
-        let entry = is.published.entry.reaches n in
-        let all = directory_total (reaches_in_known n) in
-        let master = ap (λ (m : ChainState MasterEntry). times n m.blocks) is.published.master in
-        omega arith;
-    unchanged = is.unchanged;
-  }
+  made_current_map = one_directory_whole size c.known c'.known is.published.place is.published.directory' whole.map
+      is.published.master is.published.directories now_whole is.published.size_is
+      (λ n.
+      let bits = is.published.bits n in
+      let old = whole.map.bits n in
+      let chain = chain_times n in
+      let fresh = fresh_times n in
+      let entry = is.published.entry.reaches n in
+      let all = directory_total (reaches_in_known n) in
+      let master = ap (λ (m : ChainState MasterEntry). times n m.blocks) is.published.master in
+      omega arith) is.unchanged
 
   -- What is held.
 

@@ -1,28 +1,27 @@
 -- A version becomes the file of its name: what the puts make of what is held.
 use Rattle.std.proofs.Common.{◌≡◌, ℕ, ◌+◌, ◌<◌, ◌≤◌, ◌⊎◌, inl, inr, ⊎_elim, List, ◌∷◌, ◌++◌, Some, option_map}
 use Rattle.std.proofs.Common.{slice_get, refl, sym, ◌∙◌, ap, subst, arith}
-use Rattle.std.proofs.lemmas.Option.{slice_get_within}
 use Rattle.std.specs.Option.{IsSome}
 use Rattle.std.specs.Cmp.{nat_cmp_total}
 use Rattle.std.specs.FinMap.{nat_cmp-IsAntisymmetric}
 use Rattle.words36.specs.declared.names.FileName.{FileName}
 use Rattle.blockdisk.specs.Disk.{Contents}
 use Rattle.meaning.specs.declared.put.Put.{Put}
-use Rattle.meaning.specs.Maps.{times, get, insert, map_values, from_entries, sum_over}
+use Rattle.meaning.specs.Maps.{times, get, insert, from_entries, sum_over}
 use Rattle.meaning.specs.Blocks.{head_or_zero}
 use Rattle.meaning.specs.Regions.{table_blocks, table_start, space_start}
 use Rattle.meaning.specs.Log.{with_puts}
 use Rattle.meaning.specs.Table.{table_bit}
-use Rattle.meaning.specs.Directories.{MasterEntry, master_words, master_word, FileEntry, file_words, IsFileEntry}
+use Rattle.meaning.specs.Directories.{master_word, FileEntry, file_words, IsFileEntry}
 use Rattle.meaning.specs.Stands.{StoredFile, StoredDirectory, DiskMap, HasMap, IsVersion, directory_of, files_of}
-use Rattle.meaning.specs.Stands.{entry_of, place_of, reaches_in_file, reaches_in_directory, reaches}
-use Rattle.meaning.specs.Changes.{TableFollows, IsFileChain, entries_of, primes_of, reaches_in_found, with_directory}
+use Rattle.meaning.specs.Stands.{place_of, reaches_in_file, reaches_in_directory, reaches}
+use Rattle.meaning.specs.Changes.{TableFollows, IsFileChain, primes_of, reaches_in_found, with_directory}
 use Rattle.meaning.specs.Changes.{with_file}
 use Rattle.meaning.specs.Faults.{InSpace}
 use Rattle.meaning.proofs.Names.{name_total, name_exact}
-use Rattle.meaning.proofs.MapLaws.{some_same, get-insert_same, get-insert_other, insert_same}
+use Rattle.meaning.proofs.MapLaws.{some_same, get-insert_same, get-insert_other}
 use Rattle.meaning.proofs.MapLists.{get-map_values, map_values-insert}
-use Rattle.meaning.proofs.MapSums.{times-append, at-le-sum, two-le-sum}
+use Rattle.meaning.proofs.MapSums.{times-append, at-le-sum}
 use Rattle.meaning.proofs.MapParts.{found-le-sum}
 use Rattle.meaning.proofs.DiskMaps.{once}
 use Rattle.meaning.proofs.QuietLaws.{each_times}
@@ -30,15 +29,16 @@ use Rattle.meaning.proofs.Versions.{version_kept}
 use Rattle.meaning.proofs.FileChanges.{published}
 use Rattle.meaning.proofs.ChangedFiles.{files_published as files_of_published}
 use Rattle.alloctab.specs.TableState.{bit}
-use Rattle.directory.specs.Chains.{ChainState, IsOn}
+use Rattle.directory.specs.Chains.{IsOn}
 use Rattle.directory.specs.ChainLaws.{chain_stands, on_kept}
 use Rattle.volume.specs.Facts.{facts_of, known_facts}
-use Rattle.volume.specs.Known.{KnownVersion, KnownDirectory, Known, IsKnownFile, IsKnownDirectory, IsKnownMap, IsHeld}
+use Rattle.volume.specs.Known.{KnownVersion, Known, IsKnownFile, IsKnownDirectory, IsKnownMap, IsHeld}
 use Rattle.volume.specs.Known.{IsWholeMap, blocks_reached}
 use Rattle.volume.specs.Publishing.{files_put_in, files_published, IsPublished}
 use Rattle.volume.specs.Known.{Before, given_up}
-use Rattle.volume.proofs.MakingHeld.{reached_in_space, element_at}
-use Rattle.volume.proofs.PublishingPuts.{set_cases, other_key, file_times, given_up_is, was_whole, published_times}
+use Rattle.volume.proofs.MakingHeld.{reached_in_space}
+use Rattle.volume.proofs.OneDirectory.{directory_leads}
+use Rattle.volume.proofs.PublishingPuts.{file_times, given_up_is, was_whole, published_times}
 use Rattle.volume.proofs.PublishingPuts.{published_inside, published_apart, published_stays}
 use Rattle.volume.proofs.MakingLaw.{head_front, bits_same}
 use Rattle.changeset.specs.PutLaws.{some_or_none}
@@ -227,104 +227,12 @@ module _ (size : ℕ) (k k' : Known) (m : DiskMap) (ppn : ℕ) (name : FileName)
     each = each_file;
   }
 
-  changed : (i : ℕ) (x : KnownDirectory) → slice_get k'.directories i ≡ Some x → ((i ≡ is.place) × (x ≡ is.directory'))
-      ⊎ ((i ≡ is.place → ⊥) × (slice_get k.directories i ≡ Some x))
-  changed i x also = set_cases k.directories is.place i is.directory' x (ap (λ ds. slice_get ds i) (sym is.directories)
-      ∙ also)
-
-  -- an entry in another place has another key
-  apart : (i : ℕ) (e : MasterEntry) → slice_get k.master.entries i ≡ Some e → (i ≡ is.place → ⊥) → e.0 ≡ ppn → ⊥
-  apart i e here other = other_key k.master.entries i is.place ppn e is.word whole.chain.each_once here
-      is.there.is other
-
-  each_known : (i : ℕ) (e : MasterEntry) (x : KnownDirectory) → slice_get k'.master.entries i ≡ Some e
-      → slice_get k'.directories i ≡ Some x
-      → (s : StoredDirectory) × (get (insert m.directories ppn (with_file stored is.directory'.chain.blocks name f)) e.0
-      ≡ Some s) × IsKnownDirectory x s
-  each_known i e x here also = by_place (changed i x also)
-    where
-      was : slice_get k.master.entries i ≡ Some e
-      was = ap (λ (z : ChainState MasterEntry). slice_get z.entries i) (sym is.master) ∙ here
-
-      by_place : ((i ≡ is.place) × (x ≡ is.directory')) ⊎ ((i ≡ is.place → ⊥) × (slice_get k.directories i ≡ Some x))
-          → (s : StoredDirectory) × (get (insert m.directories ppn (with_file stored is.directory'.chain.blocks name f))
-          e.0 ≡ Some s) × IsKnownDirectory x s
-      by_place (inl new) =
-          let entry : e ≡ (ppn, is.word) = some_same (sym was ∙ ap (slice_get k.master.entries) new.0 ∙ is.there.is)
-          in (
-            with_file stored is.directory'.chain.blocks name f,
-            ap (λ (z : MasterEntry). get (insert m.directories ppn (with_file stored is.directory'.chain.blocks name f))
-                z.0) entry ∙ get-insert_same nat_cmp_total m.directories ppn
-                (with_file stored is.directory'.chain.blocks name f),
-            subst (λ (z : KnownDirectory). IsKnownDirectory z (with_file stored is.directory'.chain.blocks name f))
-                (sym new.1) new_known,
-          )
-      by_place (inr kept) =
-          let found = held.known.each i e x was kept.1 in (
-            found.0,
-            get-insert_other nat_cmp_total nat_cmp-IsAntisymmetric m.directories ppn
-                (with_file stored is.directory'.chain.blocks name f) e.0 (apart i e was kept.0) ∙ found.1,
-            found.2,
-          )
-
-  names : map_values entry_of (insert m.directories ppn (with_file stored is.directory'.chain.blocks name f))
-      ≡ from_entries k'.master.entries
-  names =
-      map_values-insert nat_cmp_total nat_cmp-IsAntisymmetric entry_of m.directories ppn
-      (with_file stored is.directory'.chain.blocks name f)
-      ∙ ap (λ (n : ℕ). insert (entries_of m) ppn (master_word stored.protection stored.quota, n)) first_block
-      ∙ insert_same nat_cmp_total nat_cmp-IsAntisymmetric (entries_of m) ppn (entry_of stored)
-      (get-map_values nat_cmp_total entry_of m.directories ppn ∙ ap (option_map entry_of) stored_at)
-      ∙ held.known.names ∙ ap (λ (z : ChainState MasterEntry). from_entries z.entries) (sym is.master)
-
-  master_times : (n : ℕ) → times n m.chain ≡ times n k.master.blocks
-  master_times n = ap (times n) held.known.chain
-
-  new_master : IsOn master_words (with_puts puts c) k'.master
-  new_master = subst (IsOn master_words (with_puts puts c)) (sym is.master)
-      (on_kept master_words c (with_puts puts c) k.master held.master (λ n there.
-      let most = in_map n in
-      let few = once size c m held.stands.marked n in
-      let e = master_times n in
-      reached_stays n (omega arith) (omega arith)))
-
-  -- the chains of two directories have no block in common
-  two_chains : (i : ℕ) (x : KnownDirectory) → (i ≡ is.place → ⊥) → slice_get k.directories i ≡ Some x → (n : ℕ)
-      → times n x.chain.blocks + times n is.directory.chain.blocks ≤ reaches n m
-  two_chains i x other also n =
-      let within = slice_get_within k.directories i x also in
-      let e = element_at k.master.entries i (omega (arith, within, whole.aligned)) in
-      let found = held.known.each i e.0 x e.1 also in
-      let both = two-le-sum nat_cmp_total nat_cmp-IsAntisymmetric (reaches_in_directory n) m.directories
-      e.0.0 ppn found.0 stored found.1 stored_at (λ same. apart i e.0 e.1 other (sym same)) in
-      let same = ap (times n) found.2.chain in
-      let s = stored_times n in
-      omega arith
-
-  new_chains : (i : ℕ) (x : KnownDirectory) → slice_get k'.directories i ≡ Some x
-      → IsOn file_words (with_puts puts c) x.chain
-  new_chains i x also = ⊎_elim
-      (λ new. subst (λ (z : KnownDirectory). IsOn file_words (with_puts puts c) z.chain) (sym new.1) new_on)
-      (λ kept. on_kept file_words c (with_puts puts c) x.chain (held.chains i x kept.1) (λ n there.
-      let most = two_chains i x kept.0 kept.1 n in
-      let few = once size c m held.stands.marked n in
-      reached_stays n (omega arith) (omega arith)))
-      (changed i x also)
-
   pub publishing_leads_in : IsHeld size k' (map_published m ppn stored is.directory'.chain.blocks name f)
       (with_puts puts c)
-  publishing_leads_in = record {
-    known = record {
-      layout = held.known.layout;
-      chain = held.known.chain ∙ ap (λ (z : ChainState MasterEntry). z.blocks) (sym is.master);
-      names = names;
-      each = each_known;
-    };
-    stands = new_map;
-    master = new_master;
-    chains = new_chains;
-    bits = new_bits;
-  }
+  publishing_leads_in = directory_leads size k k' m ppn is.place is.word is.directory is.directory' whole is.there
+      is.directory_at is.master is.directories stored (with_file stored is.directory'.chain.blocks name f) stored_at c
+      held puts (λ n there none. reached_stays n there (let s = stored_times n in omega arith)) new_known
+      (λ i. (master_word stored.protection stored.quota, first_block i)) new_on new_map new_bits
 
 -- In the directory that the map has for the place in core.
 

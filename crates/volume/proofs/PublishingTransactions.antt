@@ -51,7 +51,7 @@ retrieved_as contents prime prime' words words' at ribs blocks blocks' same long
 
 -- The retrieval blocks are written.
 
-module _ (s mid : DiskState) (c c' : VolumeCore) (key : ℕ) (p : PendingVersion) (v : LiveVersion) (puts : List Put)
+module _ {s mid : DiskState} {c c' : VolumeCore} {key : ℕ} {p : PendingVersion} {v : LiveVersion} {puts : List Put}
     (sound : IsSound s c false) (made_current : IsMadeCurrent s.size c c' key p v puts) (same : SameDisk s mid) where
   pub new_whole : IsWholeCore s.size c'
   new_whole = made_current_whole s.size c c' key p v.at v.version.ribs puts sound.whole made_current.makes_current
@@ -60,7 +60,7 @@ module _ (s mid : DiskState) (c c' : VolumeCore) (key : ℕ) (p : PendingVersion
   pub written_failed : IsSound mid c' true
   written_failed = sound_failed s mid c' true same.size new_whole refl
 
-module _ (s mid : DiskState) (c c' : VolumeCore) (key : ℕ) (p : PendingVersion) (v : LiveVersion) (puts : List Put)
+module _ {s mid : DiskState} {c c' : VolumeCore} {key : ℕ} {p : PendingVersion} {v : LiveVersion} {puts : List Put}
     (sound : IsSound s c false) (made_current : IsMadeCurrent s.size c c' key p v puts) (same : SameDisk s mid)
     (h : s.honest) (modified : Modifies (λ n. 0 < times n (v.at ∷ v.version.ribs)) s mid) where
   at_rest : IsAtRest s c.known
@@ -68,11 +68,11 @@ module _ (s mid : DiskState) (c c' : VolumeCore) (key : ℕ) (p : PendingVersion
 
   ignores : Ignores (λ n. 0 < times n (v.at ∷ v.version.ribs)) (IsHeld s.size c.known at_rest.map)
   ignores = ignores_clear s.size c.known at_rest.map (λ n. 0 < times n (v.at ∷ v.version.ribs)) sound.whole.map.aligned
-      (λ n there. (retrieval_free s.size c c' key p v puts sound.whole made_current n there).clear)
+      (λ n there. (retrieval_free sound.whole made_current n there).clear)
 
   not_gate : 0 < times 3 (v.at ∷ v.version.ribs) → ⊥
   not_gate there =
-      let clear = (retrieval_free s.size c c' key p v puts sound.whole made_current 3 there).clear in
+      let clear = (retrieval_free sound.whole made_current 3 there).clear in
       let set = whole_fixed s.size c.known sound.whole.map 3 (omega arith) in
       omega arith
 
@@ -96,7 +96,7 @@ module _ (s mid : DiskState) (c c' : VolumeCore) (key : ℕ) (p : PendingVersion
 
   -- nor a reader, nor a writer
   kept_written : (n : ℕ) → IsKept s.size c n → mid.contents n ≡ s.contents n
-  kept_written n kept = modified.contents n (kept_retrieved s.size c c' key p v puts sound.whole made_current n kept)
+  kept_written n kept = modified.contents n (kept_retrieved sound.whole made_current n kept)
 
   pub written_readers : (k : ℕ) (u : LiveVersion) → slot c.live k ≡ Some u → 0 < u.readers → (n : ℕ)
       → 0 < times n u.version.blocks → mid.contents n ≡ s.contents n
@@ -160,7 +160,7 @@ module _ (s mid : DiskState) (c c' : VolumeCore) (key : ℕ) (p : PendingVersion
 
     ignores_new : Ignores (IsGateOrLog s.size) (IsHeld s.size c'.known new_map)
     ignores_new = ignores_log s.size c'.known new_map
-        (new_whole s mid c c' key p v puts sound made_current same).map.aligned
+        (new_whole sound made_current same).map.aligned
 
     -- the commit leaves the files of before, or those with the new one
     pub committed_crash : (s' : DiskState) → LeavesOnly mid s' (AllOrNone puts mid) → (f : Files File)
@@ -197,7 +197,7 @@ module _ (s mid : DiskState) (c c' : VolumeCore) (key : ℕ) (p : PendingVersion
   module _ (s' : DiskState) (after : Modifies (λ n. IsGateOrLog mid.size n ⊎ IsPutIn puts n) mid s') where
     kept_committed : (n : ℕ) → IsKept s.size c n → s'.contents n ≡ s.contents n
     kept_committed n kept =
-        after.contents n (λ there. kept_put s.size c c' key p v puts sound.whole made_current n kept
+        after.contents n (λ there. kept_put sound.whole made_current n kept
         (subst (λ (b : ℕ). IsGateOrLog b n ⊎ IsPutIn puts n) same.size there)) ∙ kept_written n kept
 
     pub committed_readers : (k : ℕ) (u : LiveVersion) → slot c.live k ≡ Some u → 0 < u.readers → (n : ℕ)
@@ -219,12 +219,12 @@ module _ (s mid : DiskState) (c c' : VolumeCore) (key : ℕ) (p : PendingVersion
 
 -- The whole of it: a volume that was sound is sound.
 
-module _ (s mid s' : DiskState) (c c' : VolumeCore) (key : ℕ) (p : PendingVersion) (v : LiveVersion) (puts : List Put)
+module _ {s mid s' : DiskState} {c c' : VolumeCore} {key : ℕ} {p : PendingVersion} {v : LiveVersion} {puts : List Put}
     (sound : IsSound s c false) (made_current : IsMadeCurrent s.size c c' key p v puts) (same : SameDisk s mid)
     (after : SameDisk mid s') where
   pub committed_failed : IsSound s' c' true
   committed_failed = sound_failed s s' c' true (after.size
-      ∙ same.size) (new_whole s mid c c' key p v puts sound made_current same) refl
+      ∙ same.size) (new_whole sound made_current same) refl
 
   pub committed_sound : (mid.honest → Modifies (λ n. 0 < times n (v.at ∷ v.version.ribs)) s mid)
       → (mid.honest
@@ -234,15 +234,15 @@ module _ (s mid s' : DiskState) (c c' : VolumeCore) (key : ℕ) (p : PendingVers
       → (s'.honest → NoneOpen s') → (s'.honest → IsShut mid → IsShut s')
       → IsSound s' c' false
   committed_sound modified retrieved put all none shut = sound_for s s' c' false (after.size
-      ∙ same.size) (new_whole s mid c c' key p v puts sound made_current same)
+      ∙ same.size) (new_whole sound made_current same)
       (λ h' ok.
       let m = after.was_honest h' in
       let h = same.was_honest m in
-      committed_bodies s mid c c' key p v puts sound made_current same h (modified m) s' (put h'))
+      committed_bodies sound made_current same h (modified m) s' (put h'))
       (λ h' ok.
       let m = after.was_honest h' in
       let h = same.was_honest m in
       let has = sound.written h refl key p made_current.makes_current.written in
-      committed_at s mid c c' key p v puts sound made_current same h (modified m) (retrieved m) has.0 has.1 has.2 s'
+      committed_at sound made_current same h (modified m) (retrieved m) has.0 has.1 has.2 s'
       (all h') (none h')
-      (shut h' (mid_shut s mid c c' key p v puts sound made_current same h (modified m))))
+      (shut h' (mid_shut sound made_current same h (modified m))))

@@ -219,9 +219,9 @@ none_damaged contents v has k there none = undamaged_at contents v.blocks has.2.
 
 -- The whole of it.
 
-module _ (s s' : DiskState) (c : VolumeCore) (sound : IsSound s c false) (same : SameDisk s s') (key : ℕ)
-    (p : PendingVersion) (was : pending_at c.pending key ≡ Some p)
-    (t : TableState) (pending : List (Option PendingVersion)) (v : VersionState)
+module _ {s s' : DiskState} {c : VolumeCore} (sound : IsSound s c false) (same : SameDisk s s') (key : ℕ)
+    {p : PendingVersion} (was : pending_at c.pending key ≡ Some p) {t : TableState}
+    (pending : List (Option PendingVersion)) {v : VersionState}
     (is : Regrown s.size c.known.table t pending key p v) (others : (k : ℕ) → (k ≡ key → ⊥)
     → pending_at pending k ≡ pending_at c.pending k)
     (modified : s'.honest → Modifies (IsOwn c.known.table p.version.blocks) s s') where

@@ -17,6 +17,7 @@ use Rattle.meaning.specs.Files.{name_cmp}
 use Rattle.meaning.specs.Log.{IsTarget, targets, with_puts}
 use Rattle.meaning.specs.Maps.{total, times, remove, from_entries}
 use Rattle.meaning.specs.Regions.{table_blocks}
+use Rattle.meaning.specs.Retrieval.{most_blocks}
 use Rattle.meaning.specs.Room.{growth}
 use Rattle.meaning.proofs.MapLaws.{some_same, some_none}
 use Rattle.meaning.proofs.MapSums.{times-append}
@@ -33,18 +34,19 @@ use Rattle.volume.specs.declared.pending.PendingVersion.{PendingVersion}
 use Rattle.volume.specs.Beginning.{entries_with}
 use Rattle.volume.specs.Cores.{file_view, master_view}
 use Rattle.volume.specs.Known.{KnownDirectory, blocks_reached, reaches_in_known, cost_of_version, cost_of_directory}
-use Rattle.volume.specs.Known.{IsWholeDirectory}
+use Rattle.volume.specs.Known.{IsWholeVersion, IsWholeDirectory}
 use Rattle.volume.specs.Live.{VolumeCore, slot, as_known, IsCurrent, IsKeyed, held_reaches, held_cost, cost_beyond}
 use Rattle.volume.specs.Live.{pending_reaches, pending_cost, creates, IsWholeCore}
 use Rattle.volume.specs.LiveCores.{core_of, known_at, live_directory}
 use Rattle.volume.specs.Pins.{IsKeyOf}
-use Rattle.volume.specs.Publishing.{Marks, ClearsBits, Retires, left_of}
+use Rattle.volume.specs.Publishing.{Marks, ClearsBits, MayRetire, Retires, left_of}
 use Rattle.volume.specs.Removing.{IsEntryRemoved, RemovesFile}
 use Rattle.volume.proofs.Beginnings.{same_directory}
 use Rattle.volume.proofs.BlockLists.{marks_then}
+use Rattle.volume.proofs.Costing.{few_blocks}
 use Rattle.volume.proofs.FoundDirectories.{mapped_at, zip_at, all_at}
 use Rattle.volume.proofs.Growing.{cost_rises, entries_few}
-use Rattle.volume.proofs.LiveLookups.{as_many, kept_at}
+use Rattle.volume.proofs.LiveLookups.{as_many, kept_at, standing_at}
 use Rattle.volume.proofs.LiveTotals.{core_holds}
 use Rattle.volume.proofs.MakingCurrent.{part_of, share_within, changed_many}
 use Rattle.volume.proofs.MakingTables.{puts_marked}
@@ -201,18 +203,11 @@ module _ (m : LiveMap) (whole : IsWholeCore m.table.size (core_of m)) (ppn : ℕ
     by_slot : (P : LiveVersion → Type 0) → P u → IfSome (slot m.versions.slots k) P
     by_slot P has = subst (λ o. IfSome o P) (sym had.1) has
 
-    pub retires_there : IsSome (slot m.versions.slots k)
-    retires_there = subst IsSome (sym had.1) refl
-
     old_set : (n : ℕ) → times n (blocks_reached u.at u.version) ≤ bit m.table n
     old_set n =
         let stand = current_stands m.table.size c whole k had.0 had.1 had.2 n in
         let bits = whole.map.bits n in
         omega arith
-
-    pub retires_set : IfSome (slot m.versions.slots k) (λ x. (n : ℕ)
-        → times n (blocks_reached x.at x.version) ≤ bit m.table n)
-    retires_set = by_slot (λ x. (n : ℕ) → times n (blocks_reached x.at x.version) ≤ bit m.table n) old_set
 
     -- what its version and the directory cost is booked
     costs_booked : cost_of_version (as_known u)
@@ -227,10 +222,16 @@ module _ (m : LiveMap) (whole : IsWholeCore m.table.size (core_of m)) (ppn : ℕ
         let booked = whole.booked in
         omega arith
 
-    pub retires_booked : IfSome (slot m.versions.slots k) (λ x. cost_of_blocks (length x.version.blocks)
-        ≤ m.table.booked)
-    retires_booked = by_slot (λ x. cost_of_blocks (length x.version.blocks) ≤ m.table.booked)
-        (let booked = costs_booked in omega arith)
+    pub may_retire : MayRetire m.table m.versions.slots k
+    may_retire = record {
+      there = subst IsSome (sym had.1) refl;
+      set = by_slot (λ x. (n : ℕ) → times n (blocks_reached x.at x.version) ≤ bit m.table n) old_set;
+      few = by_slot (λ x. length x.version.blocks ≤ most_blocks) (few_blocks (as_known u)
+          (standing_at (λ x. IsWholeVersion (as_known x)) m.versions.slots k u whole.standing had.1));
+      booked = by_slot (λ x. cost_of_blocks (length x.version.blocks) ≤ m.table.booked)
+          (let booked = costs_booked in omega arith);
+      fits = holds_few m.table.size c whole;
+    }
 
     -- With the entry taken out.
     module _ (d' : LiveDirectory) (block : List ℕ) (blocks : d.chain.blocks ≡ d'.chain.blocks ++ block)

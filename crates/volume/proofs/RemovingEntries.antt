@@ -51,7 +51,8 @@ zip_places P (x ∷ xs) (y ∷ ys) same each = (
   zip_places P xs ys (omega arith) (λ j z w at there. each (suc j) z w at there),
 )
 
-pub zip_length : {A B : Type 0} (P : A → B → Type 0) (xs : List A) (ys : List B) → AllZip P xs ys → length xs ≡ length ys
+pub zip_length : {A B : Type 0} (P : A → B → Type 0) (xs : List A) (ys : List B) → AllZip P xs ys → length xs
+    ≡ length ys
 zip_length P [] [] zip = refl
 zip_length P [] (y ∷ ys) zip = absurd zip
 zip_length P (x ∷ xs) [] zip = absurd zip

@@ -114,7 +114,8 @@ pub unclaimed_place : (pending : List (Option PendingVersion)) (ppn : ℕ) (name
     (p : PendingVersion) → claims pending (place_of ppn name) ≡ false → pending_at pending key ≡ Some p
     → (p.prime.ppn ≡ ppn) × (p.prime.file ≡ name) → ⊥
 unclaimed_place pending ppn name key p none at same =
-    let claimed : claims_at (place_of ppn name) (Some p) ≡ false = none_of (claims_at (place_of ppn name)) pending key p at
+    let claimed : claims_at (place_of ppn name) (Some p) ≡ false = none_of (claims_at (place_of ppn name)) pending key p
+    at
     none in
     let here : same_place (place_of p.prime.ppn p.prime.file) (place_of ppn name)
     ≡ same_place (place_of ppn name) (place_of ppn name) = λ i. same_place (place_of (same.0 i) (same.1 i))

@@ -1,8 +1,6 @@
 -- A file gets another name in its directory: what is in core stays whole.
 use Rattle.std.proofs.Common.{◌≡◌, ℕ, ◌+◌, ◌-◌, ◌<◌, ⊎_elim, true, false, List, length, slice_set, Option}
 use Rattle.std.proofs.Common.{Some, None, IfSome, refl, sym, ap, subst, ◌∙◌, arith}
-use Rattle.std.proofs.lemmas.Bool.{cases_eq}
-use Rattle.std.proofs.lemmas.List.{length-set}
 use Rattle.std.proofs.lemmas.Option.{slice_get_within}
 use Rattle.std.specs.List.{AllByRecursion}
 use Rattle.std.specs.Ordering.{nat_cmp}
@@ -11,12 +9,11 @@ use Rattle.words36.specs.declared.names.FileName.{FileName}
 use Rattle.meaning.specs.declared.put.Put.{Put}
 use Rattle.meaning.specs.Costs.{directory_cost}
 use Rattle.meaning.specs.Directories.{MasterEntry}
-use Rattle.meaning.specs.Faults.{InSpace, IsMasterEntryOf}
+use Rattle.meaning.specs.Faults.{InSpace}
 use Rattle.meaning.specs.Maps.{total, times}
 use Rattle.meaning.specs.Stands.{place_of}
-use Rattle.meaning.proofs.MapLaws.{some_same}
 use Rattle.alloctab.specs.TableState.{TableState, bit, holds}
-use Rattle.directory.specs.Chains.{ChainState, IsChain}
+use Rattle.directory.specs.Chains.{ChainState}
 use Rattle.retrieval.specs.Versions.{VersionState}
 use Rattle.volume.specs.Claims.{claims}
 use Rattle.volume.specs.Known.{KnownVersion, KnownDirectory, reaches_in_known, reaches_in_entries}
@@ -31,11 +28,12 @@ use Rattle.volume.proofs.Apart.{apart_stays}
 use Rattle.volume.proofs.FoundDirectories.{all_at}
 use Rattle.volume.proofs.Growing.{share}
 use Rattle.volume.proofs.LiveLookups.{standing_at}
-use Rattle.volume.proofs.LiveTotals.{total_updated}
 use Rattle.volume.proofs.MakingHeld.{element_at}
+use Rattle.volume.proofs.OneDirectory.{one_directory_whole}
 use Rattle.volume.proofs.Pinning.{all_updated}
-use Rattle.volume.proofs.PublishingSlots.{set_total, set_each, all_places, set_growths}
+use Rattle.volume.proofs.PublishingSlots.{set_total, all_places, set_growths}
 use Rattle.volume.proofs.RenamedPlaces.{moved_stays, unclaimed_place}
+use Rattle.volume.proofs.SameVersion.{version_total, version_primes, version_stays}
 
 module _ (size : ℕ) (c c' : VolumeCore) (ppn : ℕ) (name to : FileName) (protection key : ℕ) (v : LiveVersion)
     (words : List ℕ) (puts : List Put) (whole : IsWholeCore size c)
@@ -46,10 +44,7 @@ module _ (size : ℕ) (c c' : VolumeCore) (ppn : ℕ) (name to : FileName) (prot
   -- Sums.
 
   live_total : (f : Option LiveVersion → ℕ) → f None ≡ 0 → f (Some v') ≡ f (Some v) → total f c'.live ≡ total f c.live
-  live_total f none same =
-      let all = total_updated f none c.live c'.live key (Some v') is.here is.others in
-      let here = ap f is.there in
-      omega arith
+  live_total = version_total c c' key v is.prime is.there is.here is.others
 
   directory_total : (f : KnownDirectory → ℕ) → f is.moved.directory' ≡ f is.moved.directory
       → total f c'.known.directories ≡ total f c.known.directories
@@ -97,30 +92,15 @@ module _ (size : ℕ) (c c' : VolumeCore) (ppn : ℕ) (name to : FileName) (prot
   }
 
   moved_map : IsWholeMap size c'.known
-  moved_map = record {
-    volume = whole.map.volume;
-    size_is = ap (λ (t : TableState). t.size) is.moved.table ∙ whole.map.size_is;
-    chain = subst (IsChain nat_cmp (IsMasterEntryOf 1)) (sym is.moved.master) whole.map.chain;
-    inside = subst (λ (m : ChainState MasterEntry). AllByRecursion (InSpace size) m.blocks)
-        (sym is.moved.master) whole.map.inside;
-    aligned =
-        let now = ap (λ (ds : List KnownDirectory). length ds) is.moved.directories
-        ∙ length-set c.known.directories is.moved.place is.moved.directory' in
-        let entries = ap (λ (m : ChainState MasterEntry). length m.entries) is.moved.master in
-        let aligned = whole.map.aligned in
-        omega arith;
-    each = subst (AllByRecursion (IsWholeDirectory size)) (sym is.moved.directories)
-        (set_each (IsWholeDirectory size) c.known.directories is.moved.place is.moved.directory'
-        whole.map.each now_whole);
-    bits = λ n.
-        let bits = ap (λ (t : TableState). bit t n) is.moved.table in
-        let old = whole.map.bits n in
-        let all = directory_total (reaches_in_known n) (let chain = chain_times n in
-        let entry = is.moved.entry.reaches n in omega arith) in
-        let master = master_times n in
-        omega arith;
-    unchanged = ap (λ (t : TableState). t.changed) is.moved.table ∙ whole.map.unchanged;
-  }
+  moved_map = one_directory_whole size c.known c'.known is.moved.place is.moved.directory' whole.map is.moved.master
+      is.moved.directories now_whole (ap (λ (t : TableState). t.size) is.moved.table)
+      (λ n.
+      let bits = ap (λ (t : TableState). bit t n) is.moved.table in
+      let old = whole.map.bits n in
+      let all = directory_total (reaches_in_known n) (let chain = chain_times n in
+      let entry = is.moved.entry.reaches n in omega arith) in
+      let master = master_times n in
+      omega arith) (ap (λ (t : TableState). t.changed) is.moved.table ∙ whole.map.unchanged)
 
   -- What is booked.
 
@@ -151,43 +131,17 @@ module _ (size : ℕ) (c c' : VolumeCore) (ppn : ℕ) (name to : FileName) (prot
 
   moved_primes : (k : ℕ) (u : LiveVersion) → slot c'.live k ≡ Some u → u.is_current ≡ true
       → holds c.known.table u.at ≡ 0
-  moved_primes k u there current = ⊎_elim
-      (λ (same : k ≡ key).
-      let of : v' ≡ u = some_same (sym is.here ∙ sym (ap (slot c'.live) same) ∙ there) in
-      ap (λ (x : LiveVersion). holds c.known.table x.at) (sym of) ∙ whole.primes key v is.there is.current)
-      (λ other. whole.primes k u (sym (is.others k other) ∙ there) current) (cases_eq k key)
+  moved_primes = version_primes c c' key v is.prime is.there is.here is.others is.current whole.primes
 
   -- Where nothing is written for the file, what is written shares nothing with it.
   module _ (unclaimed : claims c.pending (place_of ppn name) ≡ false) where
     moved_current : (p : PendingVersion) → ((p.prime.ppn ≡ ppn) × (p.prime.file ≡ name) → ⊥) → (u : LiveVersion)
         → IsCurrentAt c p.prime.ppn p.prime.file u
         → (w : LiveVersion) × IsCurrentAt c' p.prime.ppn p.prime.file w × (w.version.blocks ≡ u.version.blocks)
-    moved_current p differ u current =
-        let at = moved_stays size c.known c'.known ppn name to (v.at, as_known v) (as_known v') words puts is.moved
-        p.prime.ppn p.prime.file u.at differ current.at in
-        ⊎_elim
-        (λ (same : current.key ≡ key).
-        let both : u ≡ v = some_same (sym current.there ∙ ap (slot c.live) same ∙ is.there) in (
-          v',
-          record {
-            key = key;
-            there = is.here;
-            current = is.current;
-            at = at ∙ ap (λ (x : LiveVersion). Some x.at) both;
-          },
-          ap (λ (x : LiveVersion). x.version.blocks) (sym both),
-        ))
-        (λ other. (
-          u,
-          record {
-            key = current.key;
-            there = is.others current.key other ∙ current.there;
-            current = current.current;
-            at = at;
-          },
-          refl,
-        ))
-        (cases_eq current.key key)
+    moved_current p differ u current = version_stays c c' key v is.prime is.there is.here is.others is.current
+        p.prime.ppn p.prime.file u current
+        (moved_stays size c.known c'.known ppn name to (v.at, as_known v) (as_known v') words puts is.moved
+        p.prime.ppn p.prime.file u.at differ current.at)
 
     moved_own : (k : ℕ) (p : PendingVersion) → pending_at c'.pending k ≡ Some p → IsApart c' p
     moved_own k p there =
@@ -235,7 +189,8 @@ module _ (size : ℕ) (c c' : VolumeCore) (ppn : ℕ) (name to : FileName) (prot
           let was_booked = whole.booked in
           let held = moved_held_cost in
           let waiting = moved_pending_cost in
-          let all = directory_total cost_of_directory (let blocks = ap (λ (l : List ℕ). length l) is.moved.entry.blocks in
+          let all = directory_total cost_of_directory
+          (let blocks = ap (λ (l : List ℕ). length l) is.moved.entry.blocks in
           let entry = is.moved.entry.cost in omega arith) in
           let grown = moved_growths in
           let master = ap (λ (m : ChainState MasterEntry). length m.blocks) is.moved.master in

@@ -1,7 +1,8 @@
--- A file gets another name in its directory: its prime block is read, and the puts are committed, over plain disk states.
-use Rattle.std.proofs.Common.{◌≡◌, ℕ, ◌<◌, ◌⊎◌, inl, ⊎_elim, Bool, true, false, if◌then◌else◌, List, ◌++◌}
-use Rattle.std.proofs.Common.{Some, None, refl, sym, ap, subst, ◌∙◌, arith}
-use Rattle.std.proofs.lemmas.Bool.{cases_eq, cases_lt}
+-- A file gets another place: its prime block is read, and the puts are committed, over plain disk states.
+use Rattle.std.proofs.Common.{◌≡◌, ℕ, ◌<◌, ◌≤◌, ◌⊎◌, inl, ⊎_elim, Bool, true, false, if◌then◌else◌, List, length}
+use Rattle.std.proofs.Common.{◌++◌, Some, None, refl, sym, ap, subst, ◌∙◌, arith}
+use Rattle.std.proofs.lemmas.Bool.{cases_lt}
+use Rattle.std.specs.List.{AllByRecursion}
 use Rattle.words36.specs.declared.names.FileName.{FileName}
 use Rattle.blockdisk.specs.Disk.{Contents, DiskState, MayLeave, Keeps, Modifies, NoneOpen, SameDisk, SameOutside}
 use Rattle.blockdisk.specs.Disk.{LeavesOnly}
@@ -13,26 +14,26 @@ use Rattle.changeset.specs.Rest.{commit_rest}
 use Rattle.meaning.specs.declared.put.Put.{Put}
 use Rattle.meaning.specs.Faults.{InSpace}
 use Rattle.meaning.specs.Files.{File, Files}
-use Rattle.meaning.specs.Log.{with_puts}
+use Rattle.meaning.specs.Log.{IsTarget, targets, with_puts}
 use Rattle.meaning.specs.Maps.{get, times}
-use Rattle.meaning.specs.Regions.{space_start}
-use Rattle.meaning.specs.Stands.{StoredFile, StoredDirectory, DiskMap, files_of, place_of}
+use Rattle.meaning.specs.Regions.{space_start, log_images}
+use Rattle.meaning.specs.Stands.{StoredDirectory, DiskMap, files_of, place_of}
 use Rattle.meaning.proofs.DiskMaps.{fixed_below}
-use Rattle.meaning.proofs.MapLaws.{some_same, some_none}
+use Rattle.meaning.proofs.MapLaws.{some_none}
 use Rattle.meaning.proofs.MapSums.{times-append}
 use Rattle.alloctab.specs.TableState.{IsTable, holds}
 use Rattle.changeset.specs.PutLaws.{times_head}
 use Rattle.retrieval.specs.declared.prime.Prime.{Prime}
 use Rattle.volume.specs.Claims.{claims}
 use Rattle.volume.specs.Facts.{Facts}
-use Rattle.volume.specs.Known.{KnownDirectory, IsKnownFile, IsHeld, blocks_reached}
+use Rattle.volume.specs.Known.{KnownVersion, KnownDirectory, IsKnownFile, IsKnownDirectory, IsHeld, blocks_reached}
 use Rattle.volume.specs.Live.{VolumeCore, slot, pending_at, as_known, held_reaches, pending_reaches, IsWholeCore}
 use Rattle.volume.specs.Moving.{files_moved, MovesWithin}
 use Rattle.volume.specs.Pins.{IsKeyOf}
-use Rattle.volume.specs.Rest.{IsAtRest, HasSomeBody, IsSound, RestsAt, StandsForEither, KeepsRead, KeepsEachWritten}
+use Rattle.volume.specs.Rest.{IsAtRest, IsSound, RestsAt, StandsForEither, KeepsRead, KeepsEachWritten}
 use Rattle.volume.specs.declared.live.LiveVersion.{LiveVersion}
 use Rattle.volume.specs.declared.pending.PendingVersion.{PendingVersion}
-use Rattle.volume.proofs.LiveBodies.{HaveBodies, body_stays}
+use Rattle.volume.proofs.LiveBodies.{HaveBodies}
 use Rattle.volume.proofs.MakingDirectories.{files_are, crash_for, rest_for, sound_for, sound_failed}
 use Rattle.volume.proofs.MakingHeld.{ignores_log}
 use Rattle.volume.proofs.MakingLaw.{bit_few}
@@ -40,8 +41,10 @@ use Rattle.volume.proofs.OnePlace.{first_set, first_no_data}
 use Rattle.volume.proofs.Pinning.{total_at, current_stands}
 use Rattle.volume.proofs.PublishingBlocks.{IsKept, read_kept, written_kept, total_place}
 use Rattle.volume.proofs.RenamingCore.{moved_whole}
-use Rattle.volume.proofs.RenamingLaw.{map_moved, moved_files, moving_leads, moved_elsewhere, new_times}
+use Rattle.volume.proofs.RenamingLaw.{map_moved, moved_files, moving_leads, moved_elsewhere, moved_in_range, moved_few}
+use Rattle.volume.proofs.RenamingLaw.{new_times}
 use Rattle.volume.proofs.Retiring.{set_inside}
+use Rattle.volume.proofs.SameVersion.{version_held, versions_have}
 
 -- The prime block of a current version.
 
@@ -148,176 +151,194 @@ module _ (s mid : DiskState) (c : VolumeCore) (sound : IsSound s c false) (same 
         (ignores_nothing (IsHeld s.size c.known at_rest.map)) (λ none. none) at_rest.rest only_now quiet))
         (λ d held. inl (held.0, held.1, (at_rest.map, held.2.stands, is)))
 
--- A version is the same but for what its prime block says, and the others stay.
-
-module _ (c c' : VolumeCore) (key : ℕ) (v : LiveVersion) (prime : Prime) (there : slot c.live key ≡ Some v)
-    (here : slot c'.live key ≡ Some (record v { prime = prime }))
-    (others : (k : ℕ) → (k ≡ key → ⊥) → slot c'.live k ≡ slot c.live k) where
-  pub version_held : (k : ℕ) (u : LiveVersion) → slot c.live k ≡ Some u
-      → (p : Prime) × (slot c'.live k ≡ Some (record u { prime = p }))
-  version_held k u at = ⊎_elim
-      (λ (is_key : k ≡ key).
-      let of : v ≡ u = some_same (sym there ∙ sym (ap (slot c.live) is_key) ∙ at) in (
-        prime,
-        ap (slot c'.live) is_key ∙ here ∙ ap (λ (x : LiveVersion). Some (record x { prime = prime })) of,
-      ))
-      (λ other. (u.prime, others k other ∙ at)) (cases_eq k key)
-
-  pub versions_have : (s : DiskState) (d : Contents) → IsSound s c false → s.honest → c'.pending ≡ c.pending
-      → KeepsRead s.contents d c → KeepsEachWritten s.contents d c → HaveBodies d c'
-  versions_have s d sound h pending readers writers = record {
-    read = λ k u at some. ⊎_elim
-        (λ (is_key : k ≡ key).
-        let of : record v { prime = prime } ≡ u = some_same (sym here ∙ sym (ap (slot c'.live) is_key) ∙ at) in
-        let reads = ap (λ (x : LiveVersion). x.readers) of in
-        subst (λ (x : LiveVersion). HasSomeBody d x.version) of
-        (body_stays s.contents d v.version (sound.read h refl key v there (omega arith))
-        (readers key v there (omega arith))))
-        (λ other.
-        let was : slot c.live k ≡ Some u = sym (others k other) ∙ at in
-        body_stays s.contents d u.version (sound.read h refl k u was some) (readers k u was some))
-        (cases_eq k key);
-    written = λ k q at.
-        let was : pending_at c.pending k ≡ Some q = ap (λ l. pending_at l k) (sym pending) ∙ at in
-        body_stays s.contents d q.version (sound.written h refl k q was) (writers k q was);
-  }
+-- What a move does, whichever directory the file comes to: its version stays where it is, and the puts make of any map
+-- that the disk has the one with the file so.
+pub record IsMove (size : ℕ) (c c' : VolumeCore) (ppn : ℕ) (name : FileName) (to_ppn : ℕ) (to : FileName)
+    (protection key : ℕ) (v : LiveVersion) (words : List ℕ) (puts : List Put) : Type 0 where
+  pub whole : IsWholeCore size c'
+  pub pending : c'.pending ≡ c.pending
+  pub prime : Prime
+  pub there : slot c.live key ≡ Some v
+  pub current : v.is_current ≡ true
+  pub here : slot c'.live key ≡ Some (record v { prime = prime })
+  pub others : (k : ℕ) → (k ≡ key → ⊥) → slot c'.live k ≡ slot c.live k
+  pub in_range : InSpace size v.at → AllByRecursion (IsTarget size) (targets puts)
+  pub few : length puts ≤ log_images size
+  pub spares : (n : ℕ) → IsKept size c n → (n ≡ v.at → ⊥) → IsPutIn puts n → ⊥
+  pub leads : (m : DiskMap) (d : Contents) → IsHeld size c.known m d → d v.at ≡ Some words → (m' : DiskMap)
+      × IsHeld size c'.known m' (with_puts puts d)
+      × (files_of m' ≡ files_moved (files_of m) ppn name to_ppn to protection)
 
 -- The puts are committed.
 
-module _ (s mid : DiskState) (c c' : VolumeCore) (ppn : ℕ) (name to : FileName) (protection key : ℕ) (v : LiveVersion)
-    (words : List ℕ) (puts : List Put) (sound : IsSound s c false)
-    (moves : MovesWithin s.size c c' ppn name to protection key v words puts) (fits : protection < 512)
-    (unclaimed : claims c.pending (place_of ppn name) ≡ false) (same : SameDisk s mid) where
-  pub new_whole : IsWholeCore s.size c'
-  new_whole = moved_whole s.size c c' ppn name to protection key v words puts sound.whole moves unclaimed
+module _ {s mid : DiskState} {c c' : VolumeCore} {ppn : ℕ} {name : FileName} {to_ppn : ℕ} {to : FileName}
+    {protection key : ℕ} {v : LiveVersion} {words : List ℕ} {puts : List Put} (sound : IsSound s c false)
+    (move : IsMove s.size c c' ppn name to_ppn to protection key v words puts) (same : SameDisk s mid) where
+  -- what is asked of them
+  pub move_in_range : IsTable c.known.table → AllByRecursion (IsTarget mid.size) (targets puts)
+  move_in_range table = subst (λ (n : ℕ). AllByRecursion (IsTarget n) (targets puts)) (sym same.size)
+      (move.in_range (first_inside s.size c sound.whole key v move.there move.current table))
 
-  -- which blocks stay
+  pub move_few : length puts ≤ log_images mid.size
+  move_few = subst (λ (n : ℕ). length puts ≤ log_images n) (sym same.size) move.few
 
-  kept_put : (n : ℕ) → IsKept s.size c n → (n ≡ v.at → ⊥) → IsGateOrLog s.size n ⊎ IsPutIn puts n → ⊥
-  kept_put n kept other = ⊎_elim
-      (λ log. let from = kept.from in let below = log.1 in omega arith)
-      (λ put. moved_elsewhere s.size c.known c'.known ppn name to (v.at, as_known v) _ words puts sound.whole.map
-      moves.moved n other
-      (let part = total_place (λ (d : KnownDirectory). times n d.chain.blocks) c.known.directories moves.moved.place
-      moves.moved.directory moves.moved.directory_at in
-      let apart = kept.apart in
-      let chain = new_times s.size c.known c'.known ppn name to (v.at, as_known v) _ words puts sound.whole.map
-      moves.moved n in
-      omega arith) put)
+  module _ (keeps : Keeps s mid) (s' : DiskState)
+      (after : Modifies (λ n. IsGateOrLog mid.size n ⊎ IsPutIn puts n) mid s') where
+    -- which blocks stay
+    stays : (n : ℕ) → IsKept s.size c n → (n ≡ v.at → ⊥) → s'.contents n ≡ s.contents n
+    stays n kept other =
+        after.contents n (λ there. ⊎_elim
+        (λ (log : IsGateOrLog s.size n). let from = kept.from in let below = log.1 in omega arith)
+        (λ put. move.spares n kept other put)
+        (subst (λ (b : ℕ). IsGateOrLog b n ⊎ IsPutIn puts n) same.size there)) ∙ keeps.contents n
 
-  module _ (keeps : Keeps s mid) (s' : DiskState) (after : Modifies (λ n. IsGateOrLog mid.size n ⊎ IsPutIn puts n) mid s')
-    where
-      stays : (n : ℕ) → IsKept s.size c n → (n ≡ v.at → ⊥) → s'.contents n ≡ s.contents n
-      stays n kept other =
-          after.contents n (λ there. kept_put n kept other
-          (subst (λ (b : ℕ). IsGateOrLog b n ⊎ IsPutIn puts n) same.size there)) ∙ keeps.contents n
+    pub move_readers : KeepsRead s.contents s'.contents c
+    move_readers k u at some n there = stays n (read_kept s.size c sound.whole k u at some n there)
+        (not_read s.size c sound.whole key v move.there move.current k u at n there)
 
-      pub committed_readers : KeepsRead s.contents s'.contents c
-      committed_readers k u at some n there = stays n (read_kept s.size c sound.whole k u at some n there)
-          (not_read s.size c sound.whole key v moves.there moves.current k u at n there)
+    pub move_writers : KeepsEachWritten s.contents s'.contents c
+    move_writers k q at n there = stays n (written_kept s.size c sound.whole k q at n there)
+        (not_written s.size c sound.whole key v move.there move.current k q at n there)
 
-      pub committed_writers : KeepsEachWritten s.contents s'.contents c
-      committed_writers k q at n there = stays n (written_kept s.size c sound.whole k q at n there)
-          (not_written s.size c sound.whole key v moves.there moves.current k q at n there)
-
-      committed_bodies : s.honest → HaveBodies s'.contents c'
-      committed_bodies h = versions_have c c' key v moves.prime moves.there moves.here moves.others s s'.contents sound
-          h moves.pending committed_readers committed_writers
+    move_bodies : s.honest → HaveBodies s'.contents c'
+    move_bodies h = versions_have c c' key v move.prime move.there move.here move.others s s'.contents sound h
+        move.pending move_readers move_writers
 
   module _ (h : s.honest) (keeps : Keeps s mid) (read : s.contents v.at ≡ Some words) where
     abbrev rest : IsAtRest s c.known
     rest = sound.rest h refl
 
-    held : IsHeld s.size c.known rest.map s.contents
-    held = rest.rest.all s.contents (λ n closed. refl)
-
-    -- the directory and the file in the map
-
-    abbrev in_map : StoredDirectory
-    in_map = (held.known.each moves.moved.place (ppn, moves.moved.word) moves.moved.directory moves.moved.there.is
-        moves.moved.directory_at).0
-
-    in_map_at : get rest.map.directories ppn ≡ Some in_map
-    in_map_at = (held.known.each moves.moved.place (ppn, moves.moved.word) moves.moved.directory moves.moved.there.is
-        moves.moved.directory_at).1
-
-    found : IsKnownFile in_map (name, v.at) (as_known v)
-    found = (held.known.each moves.moved.place (ppn, moves.moved.word) moves.moved.directory moves.moved.there.is
-        moves.moved.directory_at).2.each moves.moved.entry.was.0 (name, v.at) (as_known v) moves.moved.entry.was.1.is
-        moves.moved.entry.was.2
-
-    abbrev f : StoredFile
-    f = found.0
-
-    abbrev new_map : DiskMap
-    new_map = map_moved rest.map ppn in_map moves.moved.directory'.chain.blocks name to f protection
-
-    leads : IsHeld s.size c'.known new_map (with_puts puts mid.contents)
-    leads = moving_leads s.size c.known c'.known rest.map ppn name to protection (v.at, as_known v)
-        (record { prime = moves.prime; version = v.version }) words puts sound.whole.map moves.moved moves.prime_is fits
-        in_map in_map_at f found.1 mid.contents
+    leads : (m : DiskMap) × IsHeld s.size c'.known m (with_puts puts mid.contents)
+        × (files_of m ≡ files_moved (files_of rest.map) ppn name to_ppn to protection)
+    leads = move.leads rest.map mid.contents
         ((mid_rest s mid c sound same h keeps).all mid.contents (λ n closed. refl)) (keeps.contents v.at ∙ read)
 
-    names : (files : Files File) → RestsAt s files → files_of new_map ≡ files_moved files ppn name ppn to protection
-    names files rests =
-        moved_files rest.map ppn in_map moves.moved.directory'.chain.blocks name to f protection in_map_at found.1
-        ∙ ap (λ (x : Files File). files_moved x ppn name ppn to protection)
+    abbrev new_map : DiskMap
+    new_map = leads.0
+
+    names : (files : Files File) → RestsAt s files
+        → files_of new_map ≡ files_moved files ppn name to_ppn to protection
+    names files rests = leads.2 ∙ ap (λ (x : Files File). files_moved x ppn name to_ppn to protection)
         (files_are s c.known rest.map files rest.rest rests)
 
     ignores_new : Ignores (IsGateOrLog s.size) (IsHeld s.size c'.known new_map)
-    ignores_new = ignores_log s.size c'.known new_map new_whole.map.aligned
+    ignores_new = ignores_log s.size c'.known new_map move.whole.map.aligned
 
     -- the commit leaves the files of before, or those with the file so
-    pub committed_crash : (s' : DiskState) → LeavesOnly mid s' (AllOrNone puts mid) → (files : Files File)
+    pub move_crash : (s' : DiskState) → LeavesOnly mid s' (AllOrNone puts mid) → (files : Files File)
         → RestsAt s files → ((d : Contents) → s.left_since s.clock d → MayLeave s d)
-        → LeavesOnly s s' (StandsForEither s.size files (files_moved files ppn name ppn to protection))
-    committed_crash s' leaves files rests only_now =
-        crash_for s s' c.known c'.known rest.map new_map files (files_moved files ppn name ppn to protection)
+        → LeavesOnly s s' (StandsForEither s.size files (files_moved files ppn name to_ppn to protection))
+    move_crash s' leaves files rests only_now =
+        crash_for s s' c.known c'.known rest.map new_map files (files_moved files ppn name to_ppn to protection)
         (files_are s c.known rest.map files rest.rest rests) (names files rests)
         (transaction_leaves Nowhere puts s mid s' (IsHeld s.size c.known rest.map)
         (IsHeld s.size c'.known new_map) (ignores_nothing (IsHeld s.size c.known rest.map)) (λ none. none)
         (ignores_log s.size c.known rest.map sound.whole.map.aligned) ignores_new same.size rest.rest
-        only_now (quiet s mid c sound same h keeps) leads leaves)
+        only_now (quiet s mid c sound same h keeps) leads.1 leaves)
 
-    committed_rest : (s' : DiskState) → SameOutside (IsGateOrLog mid.size) (with_puts puts mid.contents) s'.contents
+    move_rest : (s' : DiskState) → SameOutside (IsGateOrLog mid.size) (with_puts puts mid.contents) s'.contents
         → NoneOpen s' → IsShut s' → AtRest s' (IsHeld s.size c'.known new_map)
-    committed_rest s' all none shut =
+    move_rest s' all none shut =
         commit_rest puts mid s' (IsHeld s.size c'.known new_map)
         (subst (λ (b : ℕ). Ignores (IsGateOrLog b) (IsHeld s.size c'.known new_map)) (sym same.size) ignores_new)
-        leads all none shut
+        leads.1 all none shut
 
-    pub committed_done : (s' : DiskState) → SameDisk mid s'
+    pub move_done : (s' : DiskState) → SameDisk mid s'
         → SameOutside (IsGateOrLog mid.size) (with_puts puts mid.contents) s'.contents → NoneOpen s' → IsShut s'
-        → (files : Files File) → RestsAt s files → RestsAt s' (files_moved files ppn name ppn to protection)
-    committed_done s' after all none shut files rests = rest_for s s' c'.known new_map
-        (files_moved files ppn name ppn to protection) (after.size ∙ same.size) (names files rests)
-        (committed_rest s' all none shut)
+        → (files : Files File) → RestsAt s files → RestsAt s' (files_moved files ppn name to_ppn to protection)
+    move_done s' after all none shut files rests = rest_for s s' c'.known new_map
+        (files_moved files ppn name to_ppn to protection) (after.size ∙ same.size) (names files rests)
+        (move_rest s' all none shut)
 
-    committed_at : (s' : DiskState) → SameOutside (IsGateOrLog mid.size) (with_puts puts mid.contents) s'.contents
+    move_at : (s' : DiskState) → SameOutside (IsGateOrLog mid.size) (with_puts puts mid.contents) s'.contents
         → NoneOpen s' → IsShut s' → (m : DiskMap) × AtRest s' (IsHeld s.size c'.known m)
-    committed_at s' all none shut = (new_map, committed_rest s' all none shut)
+    move_at s' all none shut = (new_map, move_rest s' all none shut)
 
   -- The whole of it: a volume that was sound is sound.
 
   module _ (s' : DiskState) (after : SameDisk mid s') where
-    pub committed_failed : IsSound s' c' true
-    committed_failed = sound_failed s s' c' true (after.size ∙ same.size) new_whole refl
+    pub move_failed : IsSound s' c' true
+    move_failed = sound_failed s s' c' true (after.size ∙ same.size) move.whole refl
 
-    pub committed_sound : (mid.honest → Keeps s mid) → (mid.honest → s.contents v.at ≡ Some words)
+    pub move_sound : (mid.honest → Keeps s mid) → (mid.honest → s.contents v.at ≡ Some words)
         → (s'.honest → Modifies (λ n. IsGateOrLog mid.size n ⊎ IsPutIn puts n) mid s')
         → (s'.honest → SameOutside (IsGateOrLog mid.size) (with_puts puts mid.contents) s'.contents)
         → (s'.honest → NoneOpen s') → (s'.honest → IsShut mid → IsShut s')
         → IsSound s' c' false
-    committed_sound keeps read put all none shut = sound_for s s' c' false (after.size ∙ same.size) new_whole
+    move_sound keeps read put all none shut = sound_for s s' c' false (after.size ∙ same.size) move.whole
         (λ h' ok.
         let m = after.was_honest h' in
-        committed_bodies (keeps m) s' (put h') (same.was_honest m))
+        move_bodies (keeps m) s' (put h') (same.was_honest m))
         (λ h' ok.
         let m = after.was_honest h' in
         let h = same.was_honest m in
-        committed_at h (keeps m) (read m) s' (all h') (none h') (shut h' (read_shut s mid c sound same h (keeps m))))
+        move_at h (keeps m) (read m) s' (all h') (none h') (shut h' (read_shut s mid c sound same h (keeps m))))
 
   -- each version is there still
-  pub moved_held : (k : ℕ) (u : LiveVersion) → slot c.live k ≡ Some u
+  pub move_held : (k : ℕ) (u : LiveVersion) → slot c.live k ≡ Some u
       → (prime : Prime) × (slot c'.live k ≡ Some (record u { prime = prime }))
-  moved_held = version_held c c' key v moves.prime moves.there moves.here moves.others
+  move_held = version_held c c' key v move.prime move.there move.here move.others
+
+-- A move within one directory is such a one.
+
+module _ (size : ℕ) (c c' : VolumeCore) (ppn : ℕ) (name to : FileName) (protection key : ℕ) (v : LiveVersion)
+    (words : List ℕ) (puts : List Put) (whole : IsWholeCore size c)
+    (moves : MovesWithin size c c' ppn name to protection key v words puts) (fits : protection < 512)
+    (unclaimed : claims c.pending (place_of ppn name) ≡ false) where
+  abbrev with_prime : KnownVersion
+  with_prime = record { prime = moves.prime; version = v.version }
+
+  kept_chain : (n : ℕ) → IsKept size c n → times n moves.moved.directory'.chain.blocks ≡ 0
+  kept_chain n kept =
+      let part = total_place (λ (d : KnownDirectory). times n d.chain.blocks) c.known.directories moves.moved.place
+      moves.moved.directory moves.moved.directory_at in
+      let apart = kept.apart in
+      let chain = new_times size c.known c'.known ppn name to (v.at, as_known v) with_prime words puts whole.map
+      moves.moved n in
+      omega arith
+
+  -- the directory and the file in the map
+  module _ (m : DiskMap) (d : Contents) (held : IsHeld size c.known m d) (read : d v.at ≡ Some words) where
+    stored : (x : StoredDirectory) × (get m.directories ppn ≡ Some x) × IsKnownDirectory moves.moved.directory x
+    stored = held.known.each moves.moved.place (ppn, moves.moved.word) moves.moved.directory moves.moved.there.is
+        moves.moved.directory_at
+
+    file : IsKnownFile stored.0 (name, v.at) (as_known v)
+    file = stored.2.each moves.moved.entry.was.0 (name, v.at) (as_known v) moves.moved.entry.was.1.is
+        moves.moved.entry.was.2
+
+    leads_within : (m' : DiskMap) × IsHeld size c'.known m' (with_puts puts d)
+        × (files_of m' ≡ files_moved (files_of m) ppn name ppn to protection)
+    leads_within = (
+      map_moved m ppn stored.0 moves.moved.directory'.chain.blocks name to file.0 protection,
+      moving_leads size c.known c'.known m ppn name to protection (v.at, as_known v) with_prime words puts whole.map
+          moves.moved moves.prime_is fits stored.0 stored.1 file.0 file.1 d held read,
+      moved_files m ppn stored.0 moves.moved.directory'.chain.blocks name to file.0 protection stored.1 file.1,
+    )
+
+  within_of_size : IsMove size c c' ppn name ppn to protection key v words puts
+  within_of_size = record {
+    whole = moved_whole size c c' ppn name to protection key v words puts whole moves unclaimed;
+    pending = moves.pending;
+    prime = moves.prime;
+    there = moves.there;
+    current = moves.current;
+    here = moves.here;
+    others = moves.others;
+    in_range = moved_in_range size c.known c'.known ppn name to (v.at, as_known v) with_prime words puts whole.map
+        moves.moved;
+    few = moved_few size c.known c'.known ppn name to (v.at, as_known v) with_prime words puts whole.map moves.moved;
+    spares = λ n kept other. moved_elsewhere size c.known c'.known ppn name to (v.at, as_known v) with_prime words puts
+        whole.map moves.moved n other (kept_chain n kept);
+    leads = leads_within;
+  }
+
+-- so it is where core says it of a disk of the size that it knows
+pub within_move : {s : DiskState} {c c' : VolumeCore} {ppn : ℕ} {name to : FileName} {protection key : ℕ}
+    {v : LiveVersion} {words : List ℕ} {puts : List Put} → IsSound s c false
+    → MovesWithin c.known.table.size c c' ppn name to protection key v words puts → protection < 512
+    → claims c.pending (place_of ppn name) ≡ false → IsMove s.size c c' ppn name ppn to protection key v words puts
+within_move {s} {c} {c'} {ppn} {name} {to} {protection} {key} {v} {words} {puts} sound moves fits unclaimed =
+    within_of_size s.size c c' ppn name to protection key v words puts sound.whole
+    (subst (λ (n : ℕ). MovesWithin n c c' ppn name to protection key v words puts) sound.whole.map.size_is moves) fits
+    unclaimed

@@ -1,6 +1,7 @@
 -- A file gets another name in its directory in core: what each step asks for, and the whole of it from what each did.
-use Rattle.std.proofs.Common.{◌≡◌, ℕ, zero, suc, ◌≤◌, ◌⊎◌, ◌==◌, ◌&&◌, inl, inr, Bool, true, false, List, [], ◌∷◌, map, filter_map, length, slice_get}
-use Rattle.std.proofs.Common.{slice_set, Option, Some, None, IfSome, IfNone, IsSome, is_some, refl, sym, ap, subst, ◌∙◌, arith}
+use Rattle.std.proofs.Common.{◌≡◌, ℕ, zero, suc, ◌≤◌, ◌⊎◌, ◌==◌, ◌&&◌, inl, inr, Bool, true, false, List, [], ◌∷◌, map}
+use Rattle.std.proofs.Common.{filter_map, length, slice_get, slice_set, Option, Some, None, IfSome, IfNone, IsSome}
+use Rattle.std.proofs.Common.{is_some, refl, sym, ap, subst, ◌∙◌, arith}
 use Rattle.std.proofs.lemmas.Bool.Decides.{nat_tests}
 use Rattle.std.specs.List.{AllZip}
 use Rattle.std.specs.Ordering.{nat_cmp}
@@ -35,7 +36,8 @@ use Rattle.volume.proofs.PublishingKeys.{keys_apart, made_current_directories, m
 use Rattle.volume.proofs.PublishingKeys.{replaced_keyed}
 use Rattle.volume.proofs.RenamingEntries.{set_itself, renamed_is, entry_renamed}
 
-map_set : {A B : Type 0} (f : A → B) (xs : List A) (i : ℕ) (x : A) → map f (slice_set xs i x) ≡ slice_set (map f xs) i (f x)
+map_set : {A B : Type 0} (f : A → B) (xs : List A) (i : ℕ) (x : A) → map f (slice_set xs i x)
+    ≡ slice_set (map f xs) i (f x)
 map_set f [] i x = refl
 map_set f (y ∷ xs) zero x = refl
 map_set f (y ∷ xs) (suc i) x = ap (λ ys. f y ∷ ys) (map_set f xs i x)
@@ -110,7 +112,8 @@ module _ (m : LiveMap) (whole : IsWholeCore m.table.size (core_of m)) (ppn : ℕ
       k.1 ∙ ap Some same
 
   only : (j : ℕ) → slice_get d.keys.items j ≡ Some key → j ≡ file.index
-  only j is = sym (keys_apart m.table.size c whole place file.index place j d.keys.items d.keys.items key keys_here key_at
+  only j is = sym (keys_apart m.table.size c whole place file.index place j d.keys.items d.keys.items key keys_here
+      key_at
       keys_here is).1
 
   -- With the entry renamed, and the version's prime another.
@@ -222,7 +225,8 @@ module _ (m : LiveMap) (whole : IsWholeCore m.table.size (core_of m)) (ppn place
     (d : LiveDirectory) (at : slice_get m.directories.items place ≡ Some d) where
   -- the directory is the one at its place
   one_directory : (x : KnownDirectory) → IsDirectoryOf (core_of m) ppn x → x ≡ live_directory m.versions.slots d
-  one_directory x there = same_directory m.table.size (core_of m) ppn place w x (live_directory m.versions.slots d) whole
+  one_directory x there = same_directory m.table.size (core_of m) ppn place w x (live_directory m.versions.slots d)
+      whole
       there stands.is (mapped_at (live_directory m.versions.slots) m.directories.items place d at)
 
   pub name_free : (to : FileName) (found : Option ℕ) → is_some found ≡ false

@@ -1,4 +1,4 @@
--- The memory that a publication takes: lists with one place more, in the directory that is meant.
+-- The memory that a publication takes, in the directory that is meant.
 use Rattle.std.proofs.Common.{◌≡◌, ℕ, ◌-◌, List, [], ◌∷◌, ◌++◌, map, length, slice_get, slice_set, get_or, None, refl}
 use Rattle.std.proofs.Common.{sym, ap, subst, ◌∙◌, arith, length-append}
 use Rattle.std.proofs.lemmas.List.{length-map}
@@ -9,6 +9,7 @@ use Rattle.meaning.specs.Files.{name_cmp}
 use Rattle.meaning.proofs.MapLaws.{some_same, some_none}
 use Rattle.directory.specs.Chains.{viewed}
 use Rattle.directory.specs.Edits.{StandsAt, Places, IsReserve}
+use Rattle.directory.specs.Spares.{IsSpareFor}
 use Rattle.volume.specs.declared.live.LiveDirectory.{LiveDirectory}
 use Rattle.volume.specs.declared.live.LiveMap.{LiveMap}
 use Rattle.volume.specs.declared.pending.PendingVersion.{PendingVersion}
@@ -20,30 +21,18 @@ use Rattle.volume.specs.Publishing.{IsPlaced, IsSupplied}
 use Rattle.volume.proofs.Beginnings.{place_of, directory_at, same_directory}
 use Rattle.volume.proofs.Growing.{one_place}
 
-set_behind : (xs : List ℕ) (k key : ℕ) → slice_set (xs ++ k ∷ []) (length xs) key ≡ xs ++ key ∷ []
-set_behind [] k key = refl
-set_behind (x ∷ xs) k key = ap (λ (ys : List ℕ). x ∷ ys) (set_behind xs k key)
-
--- the last place of a longer list is set
-pub last_set : (keys old : List ℕ) (k key n : ℕ) → keys ≡ old ++ k ∷ [] → n ≡ length keys
-    → slice_set keys (n - 1) key ≡ old ++ key ∷ []
-last_set keys old k key n longer many =
-    let one = ap length longer ∙ length-append old (k ∷ []) in
-    let at : n - 1 ≡ length old = omega arith in
-    (λ i. slice_set (longer i) (at i) key) ∙ set_behind old k key
-
 -- the directory of a version that may be published is there
 pub is_there : (c : VolumeCore) (p : PendingVersion) → IsPlaced c p
     → find nat_cmp p.prime.ppn c.known.master.entries ≡ None → ⊥
 is_there c p placed none = some_none (sym placed.there.2.found ∙ none)
 
--- lists for the directory at the place of its entry
+-- memory for the directory at the place of its entry
 pub supplied : (size : ℕ) (m : LiveMap) (p : PendingVersion) (i : ℕ) (v : ℕ
-    × ℕ) (x : LiveDirectory) (room : Places) (keys : List ℕ) → IsWholeCore size (core_of m)
+    × ℕ) (x : LiveDirectory) (room : Places) (keys : ℕ) → IsWholeCore size (core_of m)
     → StandsAt nat_cmp (map master_view m.master.entries) p.prime.ppn v i → x ≡ get_or m.directories.items i x
-    → IsReserve name_cmp (viewed file_view x.chain) p.prime.file room → keys ≡ x.keys.items ++ 0 ∷ []
+    → IsReserve name_cmp (viewed file_view x.chain) p.prime.file room → IsSpareFor (length x.keys.items) keys
     → IsSupplied (core_of m) p room keys
-supplied size m p i v x room keys whole stands is fits longer =
+supplied size m p i v x room keys whole stands is fits roomy =
     let c = core_of m in
     let at = directory_at size m p.prime.ppn i v x whole stands is in
     record {
@@ -51,7 +40,7 @@ supplied size m p i v x room keys whole stands is fits longer =
           let same : d ≡ live_directory m.versions.slots x = same_directory size c p.prime.ppn i v d
           (live_directory m.versions.slots x) whole there stands.is at in
           subst (λ (e : KnownDirectory). IsReserve name_cmp e.chain p.prime.file room) (sym same) fits;
-      longer = λ j w d ks stands' is_d is_ks none.
+      roomy = λ j w d ks stands' is_d is_ks none.
           let place = one_place c.known.master.entries i j p.prime.ppn v w whole.map.chain.each_once stands.is
           stands'.is in
           let within = stands.within in
@@ -59,5 +48,5 @@ supplied size m p i v x room keys whole stands is fits longer =
           let many = length-map m.directories.items (live_directory m.versions.slots) in
           let here = place_of (λ (d : LiveDirectory). d.keys.items) m.directories.items i x x (omega arith) is in
           let same : x.keys.items ≡ ks = some_same (sym here ∙ ap (slice_get c.keys) place ∙ is_ks) in
-          (0, longer ∙ ap (λ (ns : List ℕ). ns ++ 0 ∷ []) same);
+          subst (λ (ns : List ℕ). IsSpareFor (length ns) keys) same roomy;
     }

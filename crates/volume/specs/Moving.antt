@@ -18,13 +18,15 @@ use Rattle.meaning.specs.Regions.{table_blocks}
 use Rattle.meaning.specs.Room.{growth}
 use Rattle.alloctab.specs.TableState.{IsTable, IsFree, bit, holds, space}
 use Rattle.directory.specs.Chains.{IsChain, viewed}
-use Rattle.directory.specs.Edits.{StandsAt, PutsChain, inserted, removed, last_first}
+use Rattle.directory.specs.Edits.{StandsAt, Places, IsReserve, PutsChain, inserted, removed, last_first}
+use Rattle.directory.specs.Spares.{IsSpareFor}
 use Rattle.retrieval.specs.Primes.{IsRewritten}
 use Rattle.retrieval.specs.declared.prime.Prime.{Prime}
 use Rattle.volume.specs.Beginning.{entries_with, IsDirectoryOf}
 use Rattle.volume.specs.Cores.{file_view, master_view}
 use Rattle.volume.specs.Known.{IsNamed, KnownVersion, KnownDirectory, Known, reaches_in_entries, cost_of_version}
 use Rattle.volume.specs.Live.{VolumeCore, as_known, slot, creates, IsKeyed}
+use Rattle.volume.specs.LiveCores.{core_of}
 use Rattle.volume.specs.Making.{PutsTable}
 use Rattle.volume.specs.Pins.{IsKeyOf, IsNoFile}
 use Rattle.volume.specs.Publishing.{Marks, IsEntryPut, files_published}
@@ -80,7 +82,8 @@ pub record IsEntryRenamed (d d' : KnownDirectory) (name to : FileName) (old : �
   pub blocks : d'.chain.blocks ≡ d.chain.blocks
   pub aligned : length d'.versions ≡ length d'.chain.entries
   pub count : length d'.chain.entries ≡ length d.chain.entries
-  pub names : from_entries {R = name_cmp} d'.chain.entries ≡ insert (remove (from_entries d.chain.entries) name) to old.0
+  pub names : from_entries {R = name_cmp} d'.chain.entries
+      ≡ insert (remove (from_entries d.chain.entries) name) to old.0
   -- each entry is the new one, or one of another name, as it was
   pub each : (i : ℕ) (e : FileEntry) (u : KnownVersion) → slice_get d'.chain.entries i ≡ Some e
       → slice_get d'.versions i ≡ Some u
@@ -239,6 +242,18 @@ pub record MovesAcross (size : ℕ) (c c' : VolumeCore) (ppn : ℕ) (name : File
 -- how many entries the directory has, with those that are being created in it
 abbrev pub entries_there : LiveMap → LiveDirectory → ℕ → ℕ
 entries_there m d ppn = length (map file_view d.chain.entries) + total (creates ppn) m.pending.slots
+
+-- What is so of a directory that is to get an entry of this name more: it is there, the name is new in it, there is
+-- room for what it costs more, and this is memory enough for the entry and for its key.
+pub record MayArrive (m : LiveMap) (ppn : ℕ) (name : FileName) (reserve : Places) (keys : ℕ) : Type 0 where
+  pub target : find nat_cmp ppn (core_of m).known.master.entries ≡ None → ⊥
+  pub free : (d : KnownDirectory) → IsDirectoryOf (core_of m) ppn d → find name_cmp name d.chain.entries ≡ None
+  pub room : (d : KnownDirectory) → IsDirectoryOf (core_of m) ppn d → 0 < growth (entries_with (core_of m) d ppn)
+      → m.table.booked + growth (entries_with (core_of m) d ppn) ≤ space m.table.size
+  pub fits : (d : LiveDirectory) (place : ℕ) (v : ℕ × ℕ)
+      → StandsAt nat_cmp (map master_view m.master.entries) ppn v place
+      → slice_get m.directories.items place ≡ Some d
+      → IsReserve name_cmp (viewed file_view d.chain) name reserve × IsSpareFor (length d.keys.items) keys
 
 -- A directory has an entry of this name more, for the version under the key.
 pub record Arrives (m m' : LiveMap) (ppn : ℕ) (name : FileName) (key : ℕ) (puts : List Put) : Type 0 where

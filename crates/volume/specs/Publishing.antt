@@ -1,6 +1,7 @@
 -- A version that was written becomes the file of its name: what this does to core, to the table and to the disk.
-use Rattle.std.specs.Prelude.{◌≡◌, ◌⊎◌, ℕ, ◌+◌, ◌/◌, ◌<◌, ◌≤◌, ◌==◌, true, false, if◌then◌else◌, List, [], ◌∷◌, ◌++◌}
-use Rattle.std.specs.Prelude.{length, replicate, slice_get, slice_set, Option, None, Some, is_none}
+use Rattle.std.specs.Prelude.{◌≡◌, ◌⊎◌, ℕ, ◌+◌, ◌/◌, ◌^◌, ◌<◌, ◌≤◌, ◌==◌, true, false, if◌then◌else◌, List, [], ◌∷◌}
+use Rattle.std.specs.Prelude.{◌++◌, length, replicate, slice_get, slice_set, Option, None, Some, IsSome, IfSome}
+use Rattle.std.specs.Prelude.{is_none}
 use Rattle.std.specs.List.{AllByRecursion, AllZip}
 use Rattle.std.specs.Ordering.{nat_cmp}
 use Rattle.std.specs.FinMap.Entries.{find}
@@ -15,7 +16,9 @@ use Rattle.meaning.specs.Maps.{get, insert, from_entries, total, times}
 use Rattle.alloctab.specs.TableState.{TableState, IsTable, IsChanged, IsFree, bit, holds}
 use Rattle.directory.specs.Chains.{IsChain}
 use Rattle.directory.specs.Edits.{StandsAt, Places, IsReserve, PutsChain}
+use Rattle.directory.specs.Spares.{IsSpareFor}
 use Rattle.meaning.specs.Regions.{table_blocks}
+use Rattle.meaning.specs.Retrieval.{most_blocks}
 use Rattle.retrieval.specs.Modes.{mode_number}
 use Rattle.retrieval.specs.Versions.{VersionState}
 use Rattle.retrieval.specs.Runs.{ribs_of}
@@ -75,6 +78,15 @@ pub record Retires (t u : TableState) (v : LiveVersion) (left : Option LiveVersi
   pub bits : (n : ℕ) → bit u n + times n (blocks_reached v.at v.version) ≡ bit t n
   pub held : (n : ℕ) → holds u n ≡ holds t n + held_reaches n left
   pub booked : u.booked + cost_of_blocks (length v.version.blocks) ≡ t.booked + held_cost left
+
+-- What is asked of the version under a key that is to go out of use: its bits are set, its cost is booked, and no block
+-- is held too often.
+pub record MayRetire (t : TableState) (slots : List (Option LiveVersion)) (key : ℕ) : Type 0 where
+  pub there : IsSome (slot slots key)
+  pub set : IfSome (slot slots key) (λ v. (n : ℕ) → times n (blocks_reached v.at v.version) ≤ bit t n)
+  pub few : IfSome (slot slots key) (λ v. length v.version.blocks ≤ most_blocks)
+  pub booked : IfSome (slot slots key) (λ v. cost_of_blocks (length v.version.blocks) ≤ t.booked)
+  pub fits : (n : ℕ) → holds t n + 1 < 2 ^ 32
 
 -- Files.
 
@@ -211,14 +223,14 @@ pub record IsPlaced (c : VolumeCore) (p : PendingVersion) : Type 0 where
   pub there : IsDirectoryOf c p.prime.ppn directory
   pub is_new : is_creation p ≡ is_absent p.prime.file directory
 
--- Lists with a place for its entry and its key, where its name is new.
+-- Memory for its entry and its key, where its name is new.
 pub record IsSupplied (c : VolumeCore) (p : PendingVersion) (reserve : Places)
-    (keys : List ℕ) : Type 0 where
+    (keys : ℕ) : Type 0 where
   pub fits : (d : KnownDirectory) → IsDirectoryOf c p.prime.ppn d → IsReserve name_cmp d.chain p.prime.file reserve
-  pub longer : (i : ℕ) (w : ℕ × ℕ) (d : KnownDirectory) (ks : List ℕ)
+  pub roomy : (i : ℕ) (w : ℕ × ℕ) (d : KnownDirectory) (ks : List ℕ)
       → StandsAt nat_cmp c.known.master.entries p.prime.ppn w i → slice_get c.known.directories i ≡ Some d
       → slice_get c.keys i ≡ Some ks
-      → find name_cmp p.prime.file d.chain.entries ≡ None → (k : ℕ) × (keys ≡ ks ++ k ∷ [])
+      → find name_cmp p.prime.file d.chain.entries ≡ None → IsSpareFor (length ks) keys
 
 -- What a publication does to core: the version has its last words put, so that it has so many, and turns into the file
 -- of its name.

@@ -1,10 +1,11 @@
 -- Words are put into a version that is being written: what this does to it and to the table.
-use Rattle.std.specs.Prelude.{◌≡◌, ℕ, ◌+◌, ◌*◌, ◌<◌, ◌≤◌, List, length, Option, Some}
+use Rattle.std.specs.Prelude.{◌≡◌, ◌⊎◌, ℕ, ◌+◌, ◌-◌, ◌*◌, ◌<◌, ◌≤◌, List, length, Option, Some}
 use Rattle.std.specs.List.{AllByRecursion}
-use Rattle.meaning.specs.Costs.{blocks_of, cost_of_blocks}
+use Rattle.meaning.specs.Costs.{blocks_of, cost_of_blocks, version_cost}
 use Rattle.meaning.specs.Faults.{InSpace}
 use Rattle.meaning.specs.Maps.{times}
 use Rattle.meaning.specs.Retrieval.{most_blocks}
+use Rattle.meaning.specs.Splices.{length_after}
 use Rattle.alloctab.specs.TableState.{TableState, holds, uses, space}
 use Rattle.retrieval.specs.Bodies.{AddsFree}
 use Rattle.retrieval.specs.Versions.{VersionState}
@@ -36,6 +37,12 @@ pub record Regrows (size : ℕ) (t t' : TableState) (old new : VersionState) : T
   pub held : (n : ℕ) → holds t' n + times n old.blocks ≡ holds t n + times n new.blocks
   pub booked : t'.booked + cost_of_blocks (length old.blocks) ≡ t.booked + cost_of_blocks (length new.blocks)
   pub within : t'.booked ≤ space size
+
+-- So many words find no place at a block of a version of so many: it would have more blocks than a file may have, or
+-- cost more than there is room for.
+abbrev pub HasNoPlace : (size booked words block count : ℕ) → Type 0
+HasNoPlace size booked words block count = (most_blocks * 128 < length_after words block count)
+    ⊎ (space size < booked + (version_cost (length_after words block count) - version_cost words))
 
 -- The version under this key is so.
 abbrev pub Regrown : ℕ → TableState → TableState → List (Option PendingVersion) → ℕ → PendingVersion → VersionState

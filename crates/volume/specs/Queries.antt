@@ -65,12 +65,28 @@ pub record IsNamedVersion (d : KnownDirectory) (name : FileName) (facts : FileFa
 
 -- The line of a file in the list of its directory.
 abbrev pub line : FileName × File → Entry
-line e = record { name = e.0; protection = e.1.protection; date = e.1.date; blocks = blocks_of (length e.1.body) }
+line e = record {
+  name = e.0;
+  protection = e.1.protection;
+  mode = e.1.mode;
+  date = e.1.date;
+  time = e.1.time;
+  length = length e.1.body;
+  blocks = blocks_of (length e.1.body);
+}
 
 -- The line of the entry with this name in a directory in core.
 abbrev pub IsLine : KnownDirectory → FileName → Entry → Type 0
 IsLine d name l = (facts : FileFacts) × IsNamedVersion d name facts
-    × (l ≡ record { name = name; protection = facts.protection; date = facts.moment.date; blocks = facts.blocks })
+    × (l ≡ record {
+      name = name;
+      protection = facts.protection;
+      mode = mode_number facts.mode;
+      date = facts.moment.date;
+      time = facts.moment.minute;
+      length = facts.words;
+      blocks = facts.blocks;
+    })
 
 -- What a list is refused by.
 abbrev pub IsListRefusal : CallError → Type 0

@@ -2,14 +2,13 @@ ghost use Rattle.std.specs.Prelude.{◌≡◌, ◌↔◌, ◌+◌, ◌<◌, ◌�
 ghost use Rattle.std.specs.Prelude.{slice_get, slice_set, option_to_list, Some, None, IsSome, IfSome, IfNone, IsTrue};
 ghost use Rattle.std.specs.Ordering.{nat_cmp};
 ghost use Rattle.std.specs.FinMap.Entries.{find};
-ghost use Rattle.meaning.specs.Costs.{cost_of_blocks};
 ghost use Rattle.meaning.specs.Directories.{file_words, IsFileEntry};
 ghost use Rattle.meaning.specs.Files.{name_cmp};
 ghost use Rattle.meaning.specs.Maps.{insert, from_entries, times};
-ghost use Rattle.meaning.specs.Retrieval.{most_blocks};
 ghost use Rattle.alloctab.specs.TableState.{IsTable, bit, holds, space, used_in_space};
 ghost use Rattle.directory.specs.Chains.{IsChain, viewed};
 ghost use Rattle.directory.specs.Edits.{StandsAt, TakesBlock, IsReserve, PutsChain, inserted};
+ghost use Rattle.directory.specs.Spares.{IsSpareFor};
 ghost use Rattle.retrieval.specs.Runs.{ribs_of};
 ghost use Rattle.retrieval.specs.Writing.{rib_count, Takes, IsFixed};
 ghost use Rattle.slab.specs.Slab.{HasRoomFor};
@@ -17,8 +16,8 @@ ghost use Rattle.volume.specs.Cores.{file_view, master_view};
 ghost use Rattle.volume.specs.Known.{blocks_reached};
 ghost use Rattle.volume.specs.Live.{slot, pending_at, IsWholeCore};
 ghost use Rattle.volume.specs.LiveCores.{core_of};
-ghost use Rattle.volume.specs.Publishing.{ClearsBits, PutsInUse, Retires, TakesPlaces, left_of, MakesCurrent, IsPlaced};
-ghost use Rattle.volume.specs.Publishing.{IsSupplied};
+ghost use Rattle.volume.specs.Publishing.{ClearsBits, PutsInUse, MayRetire, Retires, TakesPlaces, left_of};
+ghost use Rattle.volume.specs.Publishing.{MakesCurrent, IsPlaced, IsSupplied};
 ghost use Rattle.volume.specs.declared.live.LiveDirectory.{LiveDirectory};
 ghost use Rattle.volume.specs.declared.live.LiveVersion.{LiveVersion};
 ghost use Rattle.volume.specs.declared.pending.PendingVersion.{PendingVersion};
@@ -32,7 +31,7 @@ use crate::query::directory_place;
 use crate::supplies::Supplies;
 use alloctab::Table;
 use changeset::ChangeSet;
-use directory::{Chain, FileEntry, MasterEntry, Reserve};
+use directory::{Chain, FileEntry, MasterEntry, Reserve, Spare};
 use retrieval::{Version, take_retrieval_blocks};
 use slab::Slab;
 use words36::{FileName, Ppn};
@@ -115,11 +114,11 @@ fn use_current(table: &mut Table, versions: &Slab<LiveVersion>, key: usize, grow
 }
 
 /// Gives a name its entry in a directory in core, with the key of its version. Answers the key of the version that
-/// it had. `reserve` and `keys` are lists with a place for it, where its name is new.
+/// it had. `reserve` and `keys` are memory for the entry and the key, where its name is new.
 pub(crate) fn put_entry(
     directory: &mut LiveDirectory,
     reserve: Reserve<FileEntry>,
-    keys: Vec<usize>,
+    keys: Spare<usize>,
     entry: FileEntry,
     key: usize,
     grown: Option<u32>,
@@ -127,7 +126,7 @@ pub(crate) fn put_entry(
 ) -> Option<usize>
     requires reserve { IsReserve name_cmp (viewed file_view directory.old.chain) entry.name reserve }
     requires keys { find name_cmp entry.name (map file_view directory.old.chain.entries) ≡ None
-        → (k : ℕ) × (keys.items ≡ directory.old.keys.items ++ k ∷ []) }
+        → IsSpareFor (length directory.old.keys.items) keys }
     requires grown { TakesBlock name_cmp (viewed file_view directory.old.chain) entry.name
         → (n : ℕ) × (grown ≡ Some n) × (times n directory.old.chain.blocks ≡ 0) }
     requires aligned { length directory.old.keys.items ≡ length directory.old.chain.entries }
@@ -157,13 +156,11 @@ pub(crate) fn put_entry(
     directory.chain.insert_into(reserve, entry, grown, set);
     let _blocks = directory.chain.blocks(); // any chain is one as it should be
     if let Some(i) = place {
-        let old = directory.keys[i];
-        directory.keys[i] = key;
+        let old = directory.keys.at(i);
+        directory.keys.set(i, key);
         return Some(old);
     }
-    directory.keys = keys;
-    let last = directory.keys.len() - 1;
-    directory.keys[last] = key;
+    directory.keys.push_into(keys, key);
     None
 }
 
@@ -215,7 +212,7 @@ pub(crate) fn make_current(
     requires ribs { (p : PendingVersion) → pending_at (core_of core.old).pending key ≡ Some p
         → length supplies.ribs.items ≡ rib_count (length p.version.blocks) }
     requires supplied { (p : PendingVersion) → pending_at (core_of core.old).pending key ≡ Some p
-        → IsSupplied (core_of core.old) p supplies.reserve supplies.keys.items }
+        → IsSupplied (core_of core.old) p supplies.reserve supplies.keys }
     requires slot { HasRoomFor core.old.versions 1 }
     requires empty { set.old ≡ [] }
     ensures { (p : PendingVersion) → pending_at (core_of core.old).pending key ≡ Some p
@@ -295,13 +292,7 @@ fn hold_version(table: &mut Table, version: &LiveVersion)
 /// While readers hold it, its blocks are held and its cost stays booked; else it goes.
 pub(crate) fn retire(versions: &mut Slab<LiveVersion>, table: &mut Table, key: usize)
     requires sound { IsTable table.old }
-    requires there { IsSome (slot versions.old.slots key) }
-    requires set { IfSome (slot versions.old.slots key) (λ v. (n : ℕ)
-        → times n (blocks_reached v.at v.version) ≤ bit table.old n) }
-    requires few { IfSome (slot versions.old.slots key) (λ v. length v.version.blocks ≤ most_blocks) }
-    requires booked { IfSome (slot versions.old.slots key) (λ v. cost_of_blocks (length v.version.blocks)
-        ≤ table.old.booked) }
-    requires fits { (n : ℕ) → holds table.old n + 1 < 2 ^ 32 }
+    requires may { MayRetire table.old versions.old.slots key }
     ensures retired { (v : LiveVersion) → slot versions.old.slots key ≡ Some v
         → Retires table.old table.new v (left_of (Some (key, v))) }
     ensures left { (v : LiveVersion) → slot versions.old.slots key ≡ Some v
@@ -324,14 +315,7 @@ pub(crate) fn retire(versions: &mut Slab<LiveVersion>, table: &mut Table, key: u
 /// Takes the version under a key out of use, where an entry had one.
 fn retire_before(versions: &mut Slab<LiveVersion>, table: &mut Table, old: Option<usize>)
     requires sound { IsTable table.old }
-    requires there { IfSome old (λ key. IsSome (slot versions.old.slots key)) }
-    requires set { IfSome old (λ key. IfSome (slot versions.old.slots key) (λ v. (n : ℕ)
-        → times n (blocks_reached v.at v.version) ≤ bit table.old n)) }
-    requires few { IfSome old (λ key. IfSome (slot versions.old.slots key) (λ v. length v.version.blocks
-        ≤ most_blocks)) }
-    requires booked { IfSome old (λ key. IfSome (slot versions.old.slots key)
-        (λ v. cost_of_blocks (length v.version.blocks) ≤ table.old.booked)) }
-    requires fits { IfSome old (λ key. (n : ℕ) → holds table.old n + 1 < 2 ^ 32) }
+    requires may { IfSome old (λ key. MayRetire table.old versions.old.slots key) }
     ensures retired { (key : ℕ) (v : LiveVersion) → old ≡ Some key → slot versions.old.slots key ≡ Some v
         → Retires table.old table.new v (left_of (Some (key, v))) }
     ensures left { (key : ℕ) (v : LiveVersion) → old ≡ Some key → slot versions.old.slots key ≡ Some v

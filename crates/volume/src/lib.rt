@@ -41,14 +41,14 @@
 //!    of it stands for the files from before, or for these without the file. At Ok it is the latter. All versions that
 //!    readers hold and all that are being written stay, and but for `Device` their blocks do. (`crash`, `done`,
 //!    `removed`, `pending`, `held`, `readers`, `writers`)
-//! 13. `rename` gives a file another place, in its directory or in another one, and another protection, by one change of
-//!    the directories and the prime block. A crash finds it so, or as it was; no block is taken but for a directory that
-//!    grows, and its version stays under its key, for whoever reads it. (`crash`, `done`, `within`, `across`, `pending`,
-//!    `held`, `here`, `gone`, `primes`)
+//! 13. `rename` gives a file another place, in its directory or in another one, and another protection, by one change
+//!    of the directories and the prime block. A crash finds it so, or as it was; no block is taken but for a directory
+//!    that grows, and its version stays under its key, for whoever reads it. (`crash`, `done`, `within`, `across`,
+//!    `pending`, `held`, `here`, `gone`, `primes`)
 //!
-//! 14. `copy_image` copies a volume to another disk of as many blocks: what `open` says of its disk holds of the one that
-//!    is copied, and at Ok the copy stands for the same files, with its gate closed and no block open. (`files`, `settled`,
-//!    `copied`, `crash`, `refused`)
+//! 14. `copy_image` copies a volume to another disk of as many blocks: what `open` says of its disk holds of the one
+//!    that is copied, and at Ok the copy stands for the same files, with its gate closed and no block open. (`files`,
+//!    `settled`, `copied`, `crash`, `refused`)
 //!
 //! Between two calls the volume knows the map of its disk: the chains of its directories with their entries
 //! in the order of the disk, for each entry where its version lies, and the allocation table with what is

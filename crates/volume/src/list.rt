@@ -47,7 +47,10 @@ fn push_line(
     let line = Entry {
         name: entry.name,
         protection: u32::from(facts.protection),
+        mode: facts.mode.number() as u32,
         date: facts.moment.date,
+        time: facts.moment.minute,
+        length: facts.words,
         blocks: facts.blocks,
     };
     if lines.push(line).is_err() {

@@ -18,7 +18,7 @@ use crate::map::{DiskMap, StoredDirectory};
 use crate::pending::PendingVersion;
 use alloctab::Table;
 use blockdisk::NoMemory;
-use directory::{Chain, FileEntry, MasterEntry};
+use directory::{Chain, FileEntry, Keys, MasterEntry};
 use retrieval::{Prime, Version};
 use slab::Slab;
 use std::alloc::Global;
@@ -44,7 +44,7 @@ pub struct LiveDirectory {
     /// The chain with its entries.
     pub chain: Chain<FileEntry>,
     /// The keys of the versions of the entries.
-    pub keys: Vec<usize>,
+    pub keys: Keys,
 }
 
 /// What a volume keeps in core.
@@ -98,7 +98,7 @@ fn keep_versions(
     entries: &[FileEntry],
     stored: Vec<StoredVersion>,
     versions: &mut Slab<LiveVersion>,
-) -> Result<Vec<usize>, NoMemory>
+) -> Result<Keys, NoMemory>
     requires aligned { length stored.items ≡ length entries.now }
     requires whole { AllByRecursion IsWholeVersion (map known_version stored.items) }
     requires read { (key : ℕ) → IfSome (slot versions.old.slots key) IsFirstRead }
@@ -113,12 +113,10 @@ fn keep_versions(
         ≡ total (current_reaches n) versions.old.slots + reaches_in_entries n (map file_view entries.now)
         (map known_version stored.items)) }
 {
-    let mut keys = Vec::new(alloc);
+    let mut keys = Keys::new(alloc);
     for (entry, version) in entries.iter().zip(stored) {
         let key = keep_version(entry, version, versions)?;
-        if keys.push(key).is_err() {
-            return Err(NoMemory);
-        }
+        keys.push(key)?;
     }
     Ok(keys)
 }

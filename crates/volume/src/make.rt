@@ -31,7 +31,7 @@ use crate::transaction::write_and_commit;
 use alloctab::Table;
 use blockdisk::{Disk, NoMemory};
 use changeset::ChangeSet;
-use directory::{Chain, MasterEntry};
+use directory::{Chain, Keys, MasterEntry};
 use meaning::ErrorCode;
 use std::alloc::Global;
 use words36::{BLOCK_WORDS, Ppn, Word};
@@ -147,7 +147,7 @@ fn enter(
     let _blocks = core.master.blocks(); // any chain is one as it should be
     core.directories.push_reserved(LiveDirectory {
         chain,
-        keys: Vec::new(alloc),
+        keys: Keys::new(alloc),
     });
     Ok(())
 }

@@ -38,7 +38,7 @@ pub(crate) fn find_version(map: &LiveMap, ppn: Ppn, name: &FileName) -> Result<u
     let place = directory_place(&map.master, ppn)?;
     let directory = &map.directories[place];
     match directory.chain.find(name) {
-        Some(i) => Ok(directory.keys[i]),
+        Some(i) => Ok(directory.keys.at(i)),
         None => Err(CallError::Refused(ErrorCode::NotFound)),
     }
 }

@@ -1,15 +1,14 @@
-ghost use Rattle.std.specs.Prelude.{◌≡◌, ◌⊎◌, ◌↔◌, ◌+◌, ◌-◌, ◌*◌, ◌<◌, ◌≤◌, ℕ, Bool, List, false, true, length, OnOk};
+ghost use Rattle.std.specs.Prelude.{◌≡◌, ◌⊎◌, ◌↔◌, ◌<◌, ◌≤◌, ℕ, Bool, List, false, true, length, OnOk};
 ghost use Rattle.std.specs.Prelude.{OnErr, IfOk, IfErr, IsErrOf, IsSome, Some, None};
 ghost use Rattle.blockdisk.specs.Disk.{LeavesOnly, SameDisk, one_more};
 ghost use Rattle.meaning.specs.declared.code.ErrorCode.{ErrorCode};
 ghost use Rattle.meaning.specs.declared.code.ErrorCode.TheVariants.{NoRoom};
 ghost use Rattle.meaning.specs.declared.put.Put.{Put};
-ghost use Rattle.meaning.specs.Costs.{blocks_of, version_cost};
+ghost use Rattle.meaning.specs.Costs.{blocks_of};
 ghost use Rattle.meaning.specs.Files.{File, Files};
 ghost use Rattle.meaning.specs.Maps.{times};
-ghost use Rattle.meaning.specs.Retrieval.{HasBody, most_blocks};
+ghost use Rattle.meaning.specs.Retrieval.{HasBody};
 ghost use Rattle.meaning.specs.Splices.{splice, length_after};
-ghost use Rattle.alloctab.specs.TableState.{space};
 ghost use Rattle.directory.specs.Chains.{viewed};
 ghost use Rattle.retrieval.specs.Versions.{VersionState};
 ghost use Rattle.retrieval.specs.Writing.{rib_count};
@@ -19,6 +18,7 @@ ghost use Rattle.volume.specs.Live.{VolumeCore, slot, pending_at, IsWholeCore};
 ghost use Rattle.volume.specs.LiveCores.{core_of};
 ghost use Rattle.volume.specs.Publishing.{MakesCurrent, IsPlaced, IsPublishedCore, IsSupplied, file_of};
 ghost use Rattle.volume.specs.Publishing.{files_published};
+ghost use Rattle.volume.specs.Putting.{HasNoPlace};
 ghost use Rattle.volume.specs.Rest.{IsSound, RestsAt, StandsForEither, KeepsRead, KeepsWritten};
 ghost use Rattle.volume.specs.declared.error.CallError.TheVariants.{Refused, Device, Failed, NoMemory};
 ghost use Rattle.volume.specs.declared.live.LiveVersion.{LiveVersion};
@@ -52,9 +52,7 @@ fn last_blocks(map: &LiveMap, key: usize, block: u32, count: usize) -> Result<us
         → blocks ≡ blocks_of (length_after p.version.words block count)) }
     ensures room { (p : PendingVersion) → pending_at (core_of map.now).pending key ≡ Some p
         → (IsErrOf result (Refused NoRoom)
-        ↔ ((0 < count) × ((most_blocks * 128 < length_after p.version.words block count)
-        ⊎ (space map.now.table.size < map.now.table.booked
-        + (version_cost (length_after p.version.words block count) - version_cost p.version.words))))) }
+        ↔ ((0 < count) × HasNoPlace map.now.table.size map.now.table.booked p.version.words block count)) }
     ensures only { IfErr result (λ error. error ≡ Refused NoRoom) }
 {
     let Some(pending) = map.pending.get(key) else {
@@ -96,7 +94,7 @@ fn publish_written<D: Disk>(
     requires ribs { (p : PendingVersion) → pending_at (core_of map.old).pending key ≡ Some p
         → length supplies.ribs.items ≡ rib_count (length p.version.blocks) }
     requires supplied { (p : PendingVersion) → pending_at (core_of map.old).pending key ≡ Some p
-        → IsSupplied (core_of map.old) p supplies.reserve supplies.keys.items }
+        → IsSupplied (core_of map.old) p supplies.reserve supplies.keys }
     requires slot { HasRoomFor map.old.versions 1 }
 
     // What it does to core and disk.
@@ -212,10 +210,8 @@ impl<D: Disk> Volume<D> {
         ensures room { self.old.failed ≡ false → (p : PendingVersion) → pending_at self.old.core.pending pending.key
             ≡ Some p
             → (IsErrOf result (Refused NoRoom)
-            ↔ ((0 < length words.now) × ((most_blocks * 128 < length_after p.version.words block (length words.now))
-            ⊎ (space (D.state self.old.disk).size < self.old.core.known.table.booked
-            + (version_cost (length_after p.version.words block (length words.now))
-            - version_cost p.version.words))))) }
+            ↔ ((0 < length words.now) × HasNoPlace (D.state self.old.disk).size self.old.core.known.table.booked
+            p.version.words block (length words.now))) }
         ensures codes { (code : ErrorCode) → IsErrOf result (Refused code) → code ≡ NoRoom }
         ensures refused { (code : ErrorCode) → IsErrOf result (Refused code) → (self.new.disk ≡ self.old.disk)
             × (self.new.core ≡ self.old.core) }

@@ -19,7 +19,7 @@ ghost use Rattle.retrieval.specs.Writing.{IsFixed};
 ghost use Rattle.retrieval.specs.declared.error.BodyError.TheVariants as body;
 ghost use Rattle.volume.specs.Live.{IsWholeCore, pending_at};
 ghost use Rattle.volume.specs.LiveCores.{core_of};
-ghost use Rattle.volume.specs.Putting.{IsReady, Regrows, Regrown};
+ghost use Rattle.volume.specs.Putting.{HasNoPlace, IsReady, Regrows, Regrown};
 ghost use Rattle.volume.specs.Rest.{IsSound, RestsAt, KeepsRead, KeepsWritten};
 ghost use Rattle.volume.specs.declared.error.CallError.TheVariants.{Refused, Device, Failed, NoMemory};
 ghost use Rattle.volume.specs.declared.pending.PendingVersion.{PendingVersion};
@@ -182,9 +182,7 @@ fn put_pending<D: Disk>(
     // Which refusal comes when, and what it leaves.
     ensures room { (p : PendingVersion) → pending_at pending.old.slots key ≡ Some p
         → (IsErrOf result (Refused NoRoom)
-        ↔ ((most_blocks * 128 < length_after p.version.words block (length words.now))
-        ⊎ (space table.old.size < table.old.booked
-        + (version_cost (length_after p.version.words block (length words.now)) - version_cost p.version.words)))) }
+        ↔ HasNoPlace table.old.size table.old.booked p.version.words block (length words.now)) }
     ensures codes { (code : ErrorCode) → IsErrOf result (Refused code) → code ≡ NoRoom }
     ensures refused { (code : ErrorCode) → IsErrOf result (Refused code) → (disk.new ≡ disk.old)
         × (table.new ≡ table.old) × (pending.new.slots ≡ pending.old.slots) }
@@ -265,9 +263,8 @@ pub(crate) fn put_in_core<D: Disk>(
     ensures given_up { IsErrOf result Failed → (failed.old ≡ true) ⊎ ((D.state disk.new).honest → ⊥) }
     ensures room { failed.old ≡ false → (p : PendingVersion) → pending_at (core_of map.old).pending key ≡ Some p
         → (IsErrOf result (Refused NoRoom)
-        ↔ ((0 < length words.now) × ((most_blocks * 128 < length_after p.version.words block (length words.now))
-        ⊎ (space (D.state disk.old).size < (core_of map.old).known.table.booked
-        + (version_cost (length_after p.version.words block (length words.now)) - version_cost p.version.words))))) }
+        ↔ ((0 < length words.now) × HasNoPlace (D.state disk.old).size (core_of map.old).known.table.booked
+        p.version.words block (length words.now))) }
     ensures codes { (code : ErrorCode) → IsErrOf result (Refused code) → code ≡ NoRoom }
     ensures refused { (code : ErrorCode) → IsErrOf result (Refused code) → (disk.new ≡ disk.old)
         × (core_of map.new ≡ core_of map.old) }
@@ -353,10 +350,8 @@ impl<D: Disk> Volume<D> {
         ensures room { self.old.failed ≡ false → (p : PendingVersion) → pending_at self.old.core.pending pending.key
             ≡ Some p
             → (IsErrOf result (Refused NoRoom)
-            ↔ ((0 < length words.now) × ((most_blocks * 128 < length_after p.version.words block (length words.now))
-            ⊎ (space (D.state self.old.disk).size < self.old.core.known.table.booked
-            + (version_cost (length_after p.version.words block (length words.now))
-            - version_cost p.version.words))))) }
+            ↔ ((0 < length words.now) × HasNoPlace (D.state self.old.disk).size self.old.core.known.table.booked
+            p.version.words block (length words.now))) }
         ensures codes { (code : ErrorCode) → IsErrOf result (Refused code) → code ≡ NoRoom }
         ensures refused { (code : ErrorCode) → IsErrOf result (Refused code) → (self.new.disk ≡ self.old.disk)
             × (self.new.core ≡ self.old.core) }

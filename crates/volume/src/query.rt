@@ -61,7 +61,7 @@ pub fn named_facts(
     let Some(i) = directory.chain.find(name) else {
         return Err(CallError::Refused(ErrorCode::NotFound));
     };
-    let Some(live) = versions.get(directory.keys[i]) else {
+    let Some(live) = versions.get(directory.keys.at(i)) else {
         unreachable!() // each entry has a version
     };
     Ok(FileFacts {

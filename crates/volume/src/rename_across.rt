@@ -1,4 +1,4 @@
-ghost use Rattle.std.specs.Prelude.{◌≡◌, ◌↔◌, ◌⊎◌, ◌+◌, ◌<◌, ◌≤◌, ◌∷◌, ◌++◌, [], ℕ, List, true, false, length, map};
+ghost use Rattle.std.specs.Prelude.{◌≡◌, ◌↔◌, ◌⊎◌, ◌+◌, ◌<◌, ◌≤◌, [], ℕ, List, true, false, length, map};
 ghost use Rattle.std.specs.Prelude.{slice_get, option_to_list, Some, None, IsSome, IfOk, IfErr, OnOk, IsErrOf};
 ghost use Rattle.std.specs.Ordering.{nat_cmp};
 ghost use Rattle.std.specs.FinMap.Entries.{find};
@@ -12,16 +12,16 @@ ghost use Rattle.meaning.specs.Maps.{times};
 ghost use Rattle.meaning.specs.Room.{growth};
 ghost use Rattle.meaning.specs.Stands.{place_of};
 ghost use Rattle.alloctab.specs.TableState.{IsTable, bit, holds, space};
-ghost use Rattle.directory.specs.Chains.{viewed};
-ghost use Rattle.directory.specs.Edits.{StandsAt, IsReserve};
+ghost use Rattle.directory.specs.Edits.{StandsAt};
 ghost use Rattle.retrieval.specs.declared.prime.Prime.{Prime as PrimeValue};
 ghost use Rattle.volume.specs.Beginning.{entries_with, IsDirectoryOf};
 ghost use Rattle.volume.specs.Claims.{claims};
-ghost use Rattle.volume.specs.Cores.{file_view, master_view};
+ghost use Rattle.volume.specs.Cores.{master_view};
 ghost use Rattle.volume.specs.Known.{KnownDirectory};
 ghost use Rattle.volume.specs.Live.{slot, IsWholeCore};
 ghost use Rattle.volume.specs.LiveCores.{core_of};
-ghost use Rattle.volume.specs.Moving.{files_moved, HasFile, HasNoRoom, MovesAcross, Arrives, MayLeave, Leaves};
+ghost use Rattle.volume.specs.Moving.{files_moved, HasFile, HasNoRoom, MovesAcross, MayArrive, Arrives, MayLeave};
+ghost use Rattle.volume.specs.Moving.{Leaves};
 ghost use Rattle.volume.specs.Pins.{IsKeyOf};
 ghost use Rattle.volume.specs.Places.{prime_at};
 ghost use Rattle.volume.specs.Publishing.{PutsInUse};
@@ -111,18 +111,8 @@ fn arrive(
 )
     requires whole { IsWholeCore core.old.table.size (core_of core.old) }
     requires key { IsSome (slot core.old.versions.slots key) }
-    requires target { find nat_cmp ppn (core_of core.old).known.master.entries ≡ None → ⊥ }
-    requires free { (d : KnownDirectory) → IsDirectoryOf (core_of core.old) ppn d
-        → find name_cmp name.now d.chain.entries ≡ None }
-    requires room { (d : KnownDirectory) → IsDirectoryOf (core_of core.old) ppn d
-        → 0 < growth (entries_with (core_of core.old) d ppn)
-        → core.old.table.booked + growth (entries_with (core_of core.old) d ppn) ≤ space core.old.table.size }
+    requires may_arrive { MayArrive core.old ppn name.now supplies.reserve supplies.keys }
     requires named { 0 < name.now.name }
-    requires fits { (d : LiveDirectory) (place : ℕ) (v : ℕ × ℕ)
-        → StandsAt nat_cmp (map master_view core.old.master.entries) ppn v place
-        → slice_get core.old.directories.items place ≡ Some d
-        → IsReserve name_cmp (viewed file_view d.chain) name.now supplies.reserve
-        × (supplies.keys.items ≡ d.keys.items ++ 0 ∷ []) }
     requires empty { set.old ≡ [] }
     ensures { Arrives core.old core.new ppn name.now key set.new }
 {
@@ -183,20 +173,9 @@ fn move_to_directory(
     requires whole { IsWholeCore core.old.table.size (core_of core.old) }
     requires there { IsKeyOf (core_of core.old) ppn name.now key }
     requires apart { to_ppn ≡ ppn → ⊥ }
-    requires target { find nat_cmp to_ppn (core_of core.old).known.master.entries ≡ None → ⊥ }
-    requires free { (d : KnownDirectory) → IsDirectoryOf (core_of core.old) to_ppn d
-        → find name_cmp to.now d.chain.entries ≡ None }
-    requires room { (d : KnownDirectory) → IsDirectoryOf (core_of core.old) to_ppn d
-        → 0 < growth (entries_with (core_of core.old) d to_ppn)
-        → core.old.table.booked + growth (entries_with (core_of core.old) d to_ppn) ≤ space core.old.table.size }
+    requires may_arrive { MayArrive core.old to_ppn to.now supplies.reserve supplies.keys }
     requires named { 0 < to.now.name }
     requires protection { protection < 512 }
-    // Lists with a place for the entry and for its key.
-    requires fits { (d : LiveDirectory) (place : ℕ) (v : ℕ × ℕ)
-        → StandsAt nat_cmp (map master_view core.old.master.entries) to_ppn v place
-        → slice_get core.old.directories.items place ≡ Some d
-        → IsReserve name_cmp (viewed file_view d.chain) to.now supplies.reserve
-        × (supplies.keys.items ≡ d.keys.items ++ 0 ∷ []) }
     requires empty { set.old ≡ [] }
     ensures { (v : LiveVersion) × MovesAcross core.old.table.size (core_of core.old) (core_of core.new) ppn name.now
         to_ppn to.now protection key v words.now set.new }
@@ -232,26 +211,16 @@ fn move_across<D: Disk>(
     requires alive { failed.old ≡ false }
     requires there { IsKeyOf (core_of core.old) ppn name.now key }
     requires apart { to_ppn ≡ ppn → ⊥ }
-    requires target { find nat_cmp to_ppn (core_of core.old).known.master.entries ≡ None → ⊥ }
-    requires free { (d : KnownDirectory) → IsDirectoryOf (core_of core.old) to_ppn d
-        → find name_cmp to.now d.chain.entries ≡ None }
-    requires room { (d : KnownDirectory) → IsDirectoryOf (core_of core.old) to_ppn d
-        → 0 < growth (entries_with (core_of core.old) d to_ppn)
-        → core.old.table.booked + growth (entries_with (core_of core.old) d to_ppn) ≤ space core.old.table.size }
+    requires may_arrive { MayArrive core.old to_ppn to.now supplies.reserve supplies.keys }
     requires named { 0 < to.now.name }
     requires protection { protection < 512 }
-    requires fits { (d : LiveDirectory) (place : ℕ) (v : ℕ × ℕ)
-        → StandsAt nat_cmp (map master_view core.old.master.entries) to_ppn v place
-        → slice_get core.old.directories.items place ≡ Some d
-        → IsReserve name_cmp (viewed file_view d.chain) to.now supplies.reserve
-        × (supplies.keys.items ≡ d.keys.items ++ 0 ∷ []) }
     requires unclaimed { claims (core_of core.old).pending (place_of ppn name.now) ≡ false }
 
     // What it does to core and disk.
     ensures sound { IsSound (D.state disk.new) (core_of core.new) failed.new }
     ensures moved { OnOk result ((v : LiveVersion) × (words : List ℕ) × (puts : List Put)
-        × MovesAcross (D.state disk.old).size (core_of core.old) (core_of core.new) ppn name.now to_ppn to.now protection
-        key v words puts × ((D.state disk.new).honest → (D.state disk.old).contents v.at ≡ Some words)) }
+        × MovesAcross (D.state disk.old).size (core_of core.old) (core_of core.new) ppn name.now to_ppn to.now
+        protection key v words puts × ((D.state disk.new).honest → (D.state disk.old).contents v.at ≡ Some words)) }
     ensures pending { (core_of core.new).pending ≡ (core_of core.old).pending }
     ensures held { (k : ℕ) (v : LiveVersion) → slot (core_of core.old).live k ≡ Some v
         → (prime : PrimeValue) × (slot (core_of core.new).live k ≡ Some (record v { prime = prime })) }

@@ -4,6 +4,7 @@ ghost use Rattle.retrieval.specs.Writing.{rib_count};
 ghost use Rattle.slab.specs.Slab.{HasRoomFor};
 ghost use Rattle.directory.specs.Chains.{viewed};
 ghost use Rattle.directory.specs.Edits.{IsReserve};
+ghost use Rattle.directory.specs.Spares.{IsSpareFor};
 ghost use Rattle.volume.specs.Cores.{file_view};
 ghost use Rattle.volume.specs.Live.{pending_at, IsWholeCore};
 ghost use Rattle.volume.specs.LiveCores.{core_of};
@@ -14,7 +15,7 @@ ghost use Rattle.volume.specs.declared.pending.PendingVersion.{PendingVersion};
 use crate::live::LiveMap;
 use crate::query::directory_place;
 use blockdisk::NoMemory;
-use directory::{FileEntry, Reserve};
+use directory::{FileEntry, Reserve, Spare};
 use retrieval::rib_count;
 use std::alloc::Global;
 use words36::FileName;
@@ -26,20 +27,8 @@ pub(crate) struct Supplies {
     pub ribs: Vec<u32>,
     /// Memory for the entry in its directory.
     pub reserve: Reserve<FileEntry>,
-    /// The keys of the directory's versions with a place behind, where the entry is new.
-    pub keys: Vec<usize>,
-}
-
-/// These keys, with a place behind them.
-fn longer(alloc: Global, keys: &[usize]) -> Result<Vec<usize>, NoMemory>
-    ensures { IfOk result (λ longer. longer.items ≡ keys.now ++ 0 ∷ []) }
-{
-    let mut longer = Vec::new(alloc);
-    longer.extend_from_slice(keys)?;
-    match longer.push(0) {
-        Ok(()) => Ok(longer),
-        Err(_) => Err(NoMemory),
-    }
+    /// Memory for the key of its version, where the entry is new.
+    pub keys: Spare<usize>,
 }
 
 /// The memory that a new entry of a directory takes.
@@ -47,8 +36,8 @@ fn longer(alloc: Global, keys: &[usize]) -> Result<Vec<usize>, NoMemory>
 pub(crate) struct EntrySupplies {
     /// Memory for the entry in its chain.
     pub reserve: Reserve<FileEntry>,
-    /// The keys of the directory's versions with a place behind.
-    pub keys: Vec<usize>,
+    /// Memory for the key of its version.
+    pub keys: Spare<usize>,
 }
 
 /// Finds the memory that an entry of this name takes in the directory at a place.
@@ -66,8 +55,8 @@ pub(crate) fn find_entry_supplies(
     requires named { 0 < name.name }
     ensures fits { IfOk result (λ supplies. (d : LiveDirectory) → slice_get map.now.directories.items place ≡ Some d
         → IsReserve name_cmp (viewed file_view d.chain) name supplies.reserve) }
-    ensures longer { IfOk result (λ supplies. (d : LiveDirectory) → slice_get map.now.directories.items place ≡ Some d
-        → supplies.keys.items ≡ d.keys.items ++ 0 ∷ []) }
+    ensures roomy { IfOk result (λ supplies. (d : LiveDirectory) → slice_get map.now.directories.items place ≡ Some d
+        → IsSpareFor (length d.keys.items) supplies.keys) }
 {
     let Some(entry) = FileEntry::new(name, 0) else {
         unreachable!() // its name isn't zero
@@ -76,7 +65,7 @@ pub(crate) fn find_entry_supplies(
     let Ok(reserve) = directory.chain.reserve_for(alloc, &entry) else {
         return Err(NoMemory);
     };
-    let keys = longer(alloc, &directory.keys)?;
+    let keys = directory.keys.find_spare(alloc)?;
     Ok(EntrySupplies { reserve, keys })
 }
 
@@ -98,7 +87,7 @@ pub(crate) fn find_supplies(
     ensures core { core_of map.new ≡ core_of map.old }
     ensures ribs { IfOk result (λ supplies. length supplies.ribs.items ≡ rib_count blocks) }
     ensures supplied { IfOk result (λ supplies. (p : PendingVersion) → pending_at (core_of map.old).pending key ≡ Some p
-        → IsSupplied (core_of map.old) p supplies.reserve supplies.keys.items) }
+        → IsSupplied (core_of map.old) p supplies.reserve supplies.keys) }
     ensures slot { IfOk result (λ supplies. HasRoomFor map.new.versions 1) }
 {
     let Some(version) = map.pending.get(key) else {

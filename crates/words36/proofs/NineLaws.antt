@@ -2,7 +2,8 @@
 use Rattle.std.proofs.Common.{ℕ, zero, suc, ◌≡◌, ◌∙◌, ◌+◌, ◌-◌, ◌*◌, ◌/◌, ◌%◌, ◌^◌, ◌<◌, ◌≤◌, List, [], ◌∷◌, ◌++◌, All}
 use Rattle.std.proofs.Common.{length, length-drop, get_or, take, drop, set, arith, refl, ap, sym}
 use Rattle.std.specs.List.{between}
-use Rattle.std.proofs.lemmas.List.{append_assoc, append-nil, length-append, length-take-le, length-set, take_at, take_all}
+use Rattle.std.proofs.lemmas.List.{append_assoc, append-nil, length-append, length-take-le, length-set, take_at}
+use Rattle.std.proofs.lemmas.List.{take_all}
 use Rattle.std.proofs.lemmas.List.{take_more_set, take-append-drop, drop_more, get_or-drop}
 use Rattle.std.proofs.lemmas.List.Elements.{All-nil, All-cons, All-drop}
 use Rattle.std.proofs.Math.Seq.{drop-drop, drop-length}
@@ -40,7 +41,8 @@ number_there bytes at fits =
 -- one more pair of words, before those that follow
 pub nine_bytes-pair : (words : List ℕ) (i d e : ℕ) → 2 * i + 1 < length words
     → nine_bytes (drop (2 * i) words)
-    ≡ big_bytes 9 (get_or words (2 * i) d * 2 ^ 36 + get_or words (2 * i + 1) e) ++ nine_bytes (drop (2 * (i + 1)) words)
+    ≡ big_bytes 9 (get_or words (2 * i) d * 2 ^ 36 + get_or words (2 * i + 1) e)
+      ++ nine_bytes (drop (2 * (i + 1)) words)
 nine_bytes-pair words i d e inside =
     let further : 2 * (i + 1) ≡ 2 * i + 1 + 1 = omega arith in
     let first = drop_more words (2 * i) d (omega arith) in

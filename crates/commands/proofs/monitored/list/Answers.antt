@@ -13,7 +13,7 @@ pub returns-in-Ok : goal.returns-in-Ok
 returns-in-Ok g c = rw (none_there c.args.place c.in_default.not-Some) (record {
   owners = Ok c.in-Ok.owners.items;
   asked = c.in-Ok.ensures.value;
-  errand = surveyed _ c.args.moment _ _ _ _ c.deref.result.now c.in-Ok.owners.items _ c.deref.ensures.value
+  errand = surveyed _ c.args.moment c.args.style _ _ _ _ c.deref.result.now c.in-Ok.owners.items _ c.deref.ensures.value
       c.write_lists-in-Ok.ensures;
 })
 

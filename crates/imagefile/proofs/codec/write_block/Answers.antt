@@ -20,7 +20,8 @@ wide (Err fault) b n at bytes words place long same block put = tt
 packed : {E : Type 0} (answer : Result (Unit {0}) E) (b : Bytes) (n at : ℕ) (bytes words : List ℕ) → at ≡ 576 * n
     → length bytes ≡ 576 → nine_words bytes ≡ words
     → OnOk answer (window b at (length bytes) ≡ bytes) → OnOk answer (image_contents Packed b n ≡ Some words)
-packed (Ok done) b n at bytes words place long same put = packed_put b n at (length bytes) bytes place long words put same
+packed (Ok done) b n at bytes words place long same put =
+  packed_put b n at (length bytes) bytes place long words put same
 packed (Err fault) b n at bytes words place long same put = tt
 
 pub returns-in-Wide-clause-writes : goal.returns-in-Wide-clause-writes
@@ -32,7 +33,8 @@ returns-in-Wide-clause-writes g c =
     ∙ ap (λ (form : Form). block_length form * c.args.n) c.in-Wide.is in
     λ blocks. subst (λ (form : Form). IsWrite c.args.n c.args.block.now (image_state form blocks s)
     (image_state form blocks s') c.write_at.result) (sym c.in-Wide.is)
-    (block_written Wide blocks c.args.n c.place_of-at.result (length bytes) s s' c.args.block.now c.write_at.result place
+    (block_written Wide blocks c.args.n c.place_of-at.result
+    (length bytes) s s' c.args.block.now c.write_at.result place
     (omega arith)
     (λ h. wide c.write_at.result s'.bytes c.args.n c.place_of-at.result bytes c.args.block.now place (omega arith)
     c.block_to_bytes.ensures.bytes c.block_to_bytes.ensures.words (c.write_at.ensures.put h))

@@ -13,36 +13,21 @@ use Rattle.volume.proofs.begin.begin_in_core.Goals as goal
 
 pub returns-in-Some-clause-exists : goal.returns-in-Some-clause-exists
 returns-in-Some-clause-exists c d there =
-    let m = c.args.core.now in
-    let size = m.table.size in
-    let core = core_of m in
     let o = c.in_ok-before.before in
-    let is = c.in_ok-before.ensures.before in
-    let whole = c.requires.whole in
     misfit_exists (is_create c.args.kind) (is_none o) (is_absent c.args.prime.file d) c.in-Some.code
-    (absent_same size core whole c.args.kind c.args.prime o is d there) c.in-Some.ensures
+    (absent_same c.requires.whole c.args.kind c.args.prime c.in_ok-before.ensures.before d there) c.in-Some.ensures
 
 pub returns-in-Some-clause-not_found : goal.returns-in-Some-clause-not_found
 returns-in-Some-clause-not_found c d there =
-    let m = c.args.core.now in
-    let size = m.table.size in
-    let core = core_of m in
     let o = c.in_ok-before.before in
-    let is = c.in_ok-before.ensures.before in
-    let whole = c.requires.whole in
     misfit_absent (is_create c.args.kind) (is_none o) (is_absent c.args.prime.file d) c.in-Some.code
-    (absent_same size core whole c.args.kind c.args.prime o is d there) c.in-Some.ensures
+    (absent_same c.requires.whole c.args.kind c.args.prime c.in_ok-before.ensures.before d there) c.in-Some.ensures
 
 pub returns-in-Some-clause-room : goal.returns-in-Some-clause-room
 returns-in-Some-clause-room c d there prior named fits =
-    let m = c.args.core.now in
-    let size = m.table.size in
-    let core = core_of m in
     let o = c.in_ok-before.before in
-    let is = c.in_ok-before.ensures.before in
-    let whole = c.requires.whole in
     let no = misfit_not (is_create c.args.kind) (is_none o) c.in-Some.code c.in-Some.ensures
-    (fits_before size core whole c.args.kind c.args.prime o is d there prior named fits) in
+    (fits_before c.requires.whole c.args.kind c.args.prime c.in_ok-before.ensures.before d there prior named fits) in
     (λ any. absurd no, λ more. absurd no)
 
 pub begin_cost-cost-requires-clause-few : goal.begin_cost-cost-requires-clause-few
@@ -53,205 +38,117 @@ begin_cost-cost-requires-clause-few c d at =
 
 pub returns-then-not-can_book-clause-exists : goal.returns-then-not-can_book-clause-exists
 returns-then-not-can_book-clause-exists c d there =
-    let m = c.args.core.now in
-    let size = m.table.size in
-    let core = core_of m in
-    let o = c.in_ok-before.before in
-    let is = c.in_ok-before.ensures.before in
-    let whole = c.requires.whole in (
-      λ any. cc,
-      λ both. absurd (not_there size core whole c.args.kind c.args.prime o is d there c.in_default.ensures
-          both),
-    )
+    let no = not_there c.requires.whole c.args.kind c.args.prime c.in_ok-before.ensures.before d there
+    c.in_default.ensures in
+    (λ any. cc, λ both. absurd (no both))
 
 pub returns-then-not-can_book-clause-not_found : goal.returns-then-not-can_book-clause-not_found
 returns-then-not-can_book-clause-not_found c d there =
-    let m = c.args.core.now in
-    let size = m.table.size in
-    let core = core_of m in
-    let o = c.in_ok-before.before in
-    let is = c.in_ok-before.ensures.before in
-    let whole = c.requires.whole in (
-      λ any. cc,
-      λ both. absurd (not_absent size core whole c.args.kind c.args.prime o is d there c.in_default.ensures
-          both),
-    )
+    let no = not_absent c.requires.whole c.args.kind c.args.prime c.in_ok-before.ensures.before d there
+    c.in_default.ensures in
+    (λ any. cc, λ both. absurd (no both))
 
 pub returns-then-not-can_book-clause-room : goal.returns-then-not-can_book-clause-room
 returns-then-not-can_book-clause-room c d there prior named fits =
-    let m = c.args.core.now in
-    let size = m.table.size in
-    let core = core_of m in
-    let o = c.in_ok-before.before in
-    let is = c.in_ok-before.ensures.before in
     let whole = c.requires.whole in
     let stands = c.in_ok-place.ensures.found in
-    let e = known_place m whole c.args.prime.ppn c.in_ok-place.place stands.0 stands.1 in
-    let cost = cost_is size core whole c.args.kind c.args.prime o is d there c.in_ok-place.place stands.0 e.0
-    c.begin_cost-cost.result stands.1.is e.1
-    (c.begin_cost-cost.ensures.value e.0 e.1) prior named in
+    let e = known_place c.args.core.now whole c.args.prime.ppn c.in_ok-place.place stands.0 stands.1 in
+    let cost = cost_is whole c.args.kind c.args.prime c.in_ok-before.ensures.before d there c.in_ok-place.place
+    stands.0 e.0 c.begin_cost-cost.result stands.1.is e.1 (c.begin_cost-cost.ensures.value e.0 e.1) prior named in
     let full = no_room _ _ _ c.can_book.result c.can_book.ensures c.if-not-can_book.true in
     (λ any. omega arith, λ more. refl)
 
 pub returns-in_default-begin_version-clause-exists : goal.returns-in_default-begin_version-clause-exists
 returns-in_default-begin_version-clause-exists c d there =
-    let m = c.args.core.now in
-    let size = m.table.size in
-    let core = core_of m in
-    let o = c.in_ok-before.before in
-    let is = c.in_ok-before.ensures.before in
-    let whole = c.requires.whole in (
-      λ any. cc,
-      λ both. absurd (not_there size core whole c.args.kind c.args.prime o is d there c.in_default.ensures
-          both),
-    )
+    let no = not_there c.requires.whole c.args.kind c.args.prime c.in_ok-before.ensures.before d there
+    c.in_default.ensures in
+    (λ any. cc, λ both. absurd (no both))
 
 pub returns-in_default-begin_version-clause-not_found : goal.returns-in_default-begin_version-clause-not_found
 returns-in_default-begin_version-clause-not_found c d there =
-    let m = c.args.core.now in
-    let size = m.table.size in
-    let core = core_of m in
-    let o = c.in_ok-before.before in
-    let is = c.in_ok-before.ensures.before in
-    let whole = c.requires.whole in (
-      λ any. cc,
-      λ both. absurd (not_absent size core whole c.args.kind c.args.prime o is d there c.in_default.ensures
-          both),
-    )
+    let no = not_absent c.requires.whole c.args.kind c.args.prime c.in_ok-before.ensures.before d there
+    c.in_default.ensures in
+    (λ any. cc, λ both. absurd (no both))
 
 pub returns-in_default-begin_version-clause-room : goal.returns-in_default-begin_version-clause-room
 returns-in_default-begin_version-clause-room c d there prior named fits =
-    let m = c.args.core.now in
-    let size = m.table.size in
-    let core = core_of m in
-    let o = c.in_ok-before.before in
-    let is = c.in_ok-before.ensures.before in
     let whole = c.requires.whole in
     let stands = c.in_ok-place.ensures.found in
-    let e = known_place m whole c.args.prime.ppn c.in_ok-place.place stands.0 stands.1 in
-    let cost = cost_is size core whole c.args.kind c.args.prime o is d there c.in_ok-place.place stands.0 e.0
-    c.begin_cost-cost.result stands.1.is e.1
-    (c.begin_cost-cost.ensures.value e.0 e.1) prior named in
+    let e = known_place c.args.core.now whole c.args.prime.ppn c.in_ok-place.place stands.0 stands.1 in
+    let cost = cost_is whole c.args.kind c.args.prime c.in_ok-before.ensures.before d there c.in_ok-place.place
+    stands.0 e.0 c.begin_cost-cost.result stands.1.is e.1 (c.begin_cost-cost.ensures.value e.0 e.1) prior named in
     let room = c.can_book.ensures.0 c.if-not-can_book.false in
     (λ any. cc, λ more. absurd (omega arith))
 
 pub returns-then-is_err-clause-exists : goal.returns-then-is_err-clause-exists
 returns-then-is_err-clause-exists c d there =
-    let m = c.args.core.now in
-    let size = m.table.size in
-    let core = core_of m in
-    let o = c.in_ok-before.before in
-    let is = c.in_ok-before.ensures.before in
-    let whole = c.requires.whole in (
-      λ any. cc,
-      λ both. absurd (not_there size core whole c.args.kind c.args.prime o is d there c.in_default.ensures
-          both),
-    )
+    let no = not_there c.requires.whole c.args.kind c.args.prime c.in_ok-before.ensures.before d there
+    c.in_default.ensures in
+    (λ any. cc, λ both. absurd (no both))
 
 pub returns-then-is_err-clause-not_found : goal.returns-then-is_err-clause-not_found
 returns-then-is_err-clause-not_found c d there =
-    let m = c.args.core.now in
-    let size = m.table.size in
-    let core = core_of m in
-    let o = c.in_ok-before.before in
-    let is = c.in_ok-before.ensures.before in
-    let whole = c.requires.whole in (
-      λ any. cc,
-      λ both. absurd (not_absent size core whole c.args.kind c.args.prime o is d there c.in_default.ensures
-          both),
-    )
+    let no = not_absent c.requires.whole c.args.kind c.args.prime c.in_ok-before.ensures.before d there
+    c.in_default.ensures in
+    (λ any. cc, λ both. absurd (no both))
 
 pub returns-then-is_err-clause-room : goal.returns-then-is_err-clause-room
 returns-then-is_err-clause-room c d there prior named fits =
-    let m = c.args.core.now in
-    let size = m.table.size in
-    let core = core_of m in
-    let o = c.in_ok-before.before in
-    let is = c.in_ok-before.ensures.before in
     let whole = c.requires.whole in
     let stands = c.in_ok-place.ensures.found in
-    let e = known_place m whole c.args.prime.ppn c.in_ok-place.place stands.0 stands.1 in
-    let cost = cost_is size core whole c.args.kind c.args.prime o is d there c.in_ok-place.place stands.0 e.0
-    c.begin_cost-cost.result stands.1.is e.1
-    (c.begin_cost-cost.ensures.value e.0 e.1) prior named in
+    let e = known_place c.args.core.now whole c.args.prime.ppn c.in_ok-place.place stands.0 stands.1 in
+    let cost = cost_is whole c.args.kind c.args.prime c.in_ok-before.ensures.before d there c.in_ok-place.place
+    stands.0 e.0 c.begin_cost-cost.result stands.1.is e.1 (c.begin_cost-cost.ensures.value e.0 e.1) prior named in
     let room = c.can_book.ensures.0 c.if-not-can_book.false in
     (λ any. cc, λ more. absurd (omega arith))
 
 pub returns-clause-exists : goal.returns-clause-exists
 returns-clause-exists c d there =
-    let m = c.args.core.now in
-    let size = m.table.size in
-    let core = core_of m in
-    let o = c.in_ok-before.before in
-    let is = c.in_ok-before.ensures.before in
-    let whole = c.requires.whole in (
-      λ any. cc,
-      λ both. absurd (not_there size core whole c.args.kind c.args.prime o is d there c.in_default.ensures
-          both),
-    )
+    let no = not_there c.requires.whole c.args.kind c.args.prime c.in_ok-before.ensures.before d there
+    c.in_default.ensures in
+    (λ any. cc, λ both. absurd (no both))
 
 pub returns-clause-not_found : goal.returns-clause-not_found
 returns-clause-not_found c d there =
-    let m = c.args.core.now in
-    let size = m.table.size in
-    let core = core_of m in
-    let o = c.in_ok-before.before in
-    let is = c.in_ok-before.ensures.before in
-    let whole = c.requires.whole in (
-      λ any. cc,
-      λ both. absurd (not_absent size core whole c.args.kind c.args.prime o is d there c.in_default.ensures
-          both),
-    )
+    let no = not_absent c.requires.whole c.args.kind c.args.prime c.in_ok-before.ensures.before d there
+    c.in_default.ensures in
+    (λ any. cc, λ both. absurd (no both))
 
 pub returns-clause-room : goal.returns-clause-room
 returns-clause-room c d there prior named fits =
-    let m = c.args.core.now in
-    let size = m.table.size in
-    let core = core_of m in
-    let o = c.in_ok-before.before in
-    let is = c.in_ok-before.ensures.before in
     let whole = c.requires.whole in
     let stands = c.in_ok-place.ensures.found in
-    let e = known_place m whole c.args.prime.ppn c.in_ok-place.place stands.0 stands.1 in
-    let cost = cost_is size core whole c.args.kind c.args.prime o is d there c.in_ok-place.place stands.0 e.0
-    c.begin_cost-cost.result stands.1.is e.1
-    (c.begin_cost-cost.ensures.value e.0 e.1) prior named in
+    let e = known_place c.args.core.now whole c.args.prime.ppn c.in_ok-place.place stands.0 stands.1 in
+    let cost = cost_is whole c.args.kind c.args.prime c.in_ok-before.ensures.before d there c.in_ok-place.place
+    stands.0 e.0 c.begin_cost-cost.result stands.1.is e.1 (c.begin_cost-cost.ensures.value e.0 e.1) prior named in
     let room = c.can_book.ensures.0 c.if-not-can_book.false in
     (λ any. cc, λ more. absurd (omega arith))
 
 pub hold_blocks-requires-clause-inside : goal.hold_blocks-requires-clause-inside
 hold_blocks-requires-clause-inside c n some =
-    let m = c.args.core.now in
-    let size = m.table.size in
-    let core = core_of m in
-    let o = c.in_ok-before.before in
-    let is = c.in_ok-before.ensures.before in
-    let whole = c.requires.whole in
-    let version : c.in-Ok.version ≡ begun c.args.kind c.args.prime (version_before core.live o) = c.in-Ok.ensures in
-    let inside = begun_inside size core whole c.booked-booked.ensures.sound c.args.kind c.args.prime o is n
-    (subst (λ (p : PendingVersion). 0 < times n p.version.blocks) version
-    (some)) in
+    let core = core_of c.args.core.now in
+    let version : c.in-Ok.version
+    ≡ begun c.args.kind c.args.prime (version_before core.live c.in_ok-before.before) = c.in-Ok.ensures in
+    let inside = begun_inside c.requires.whole c.booked-booked.ensures.sound c.args.kind c.args.prime
+    c.in_ok-before.ensures.before n (subst (λ (p : PendingVersion). 0 < times n p.version.blocks) version some) in
     inside.below
 
 pub hold_blocks-requires-clause-fits : goal.hold_blocks-requires-clause-fits
 hold_blocks-requires-clause-fits c n =
-    let m = c.args.core.now in
-    let size = m.table.size in
-    let core = core_of m in
+    let core = core_of c.args.core.now in
     let o = c.in_ok-before.before in
     let is = c.in_ok-before.ensures.before in
     let whole = c.requires.whole in
     let version : c.in-Ok.version ≡ begun c.args.kind c.args.prime (version_before core.live o) = c.in-Ok.ensures in
-    let few = begun_hold size core whole c.args.kind c.args.prime o is n (c.begin_cost-cost.result)
+    let few = begun_hold whole c.args.kind c.args.prime is n (c.begin_cost-cost.result)
     (c.can_book.ensures.0 c.if-not-can_book.false) in
-    let once = begun_once size core whole c.booked-booked.ensures.sound c.args.kind c.args.prime o is n in
+    let once = begun_once whole c.booked-booked.ensures.sound c.args.kind c.args.prime is n in
     let same = ap (λ (p : PendingVersion). times n p.version.blocks) version in
     omega arith
 
 pub returns-clause-begun : goal.returns-clause-begun
 returns-clause-begun c =
     let m = c.args.core.now in
-    let size = m.table.size in
     let core = core_of m in
     let o = c.in_ok-before.before in
     let is = c.in_ok-before.ensures.before in
@@ -276,14 +173,9 @@ returns-clause-begun c =
       directory = e.0;
       there = (c.in_ok-place.place, stands.0, stands.1, e.1);
       old = version_before core.live o;
-      named = named_here size core whole c.args.kind c.args.prime o is e.0 (
-        c.in_ok-place.place,
-        stands.0,
-        stands.1,
-        e.1,
-      );
-      is_new = c.in_default.ensures ∙ sym (before_none core.live o (has_version size core whole
-          c.booked-booked.ensures.sound c.args.kind c.args.prime o is));
+      named = named_here whole c.args.kind c.args.prime is e.0 (c.in_ok-place.place, stands.0, stands.1, e.1);
+      is_new = c.in_default.ensures ∙ sym (before_none core.live o
+          (has_version whole c.booked-booked.ensures.sound c.args.kind c.args.prime is));
       vacant = sym (ap (λ ps. pending_at ps c.insert_reserved.result) slots) ∙ c.insert_reserved.ensures.was_vacant;
       here = c.insert_reserved.ensures.updates.changed ∙ ap Some version;
       others = λ k other. c.insert_reserved.ensures.updates.others k other ∙ ap (λ ps. pending_at ps k) slots;
@@ -301,10 +193,8 @@ returns-clause-begun c =
 pub returns-clause-whole : goal.returns-clause-whole
 returns-clause-whole c =
     let m = c.args.core.now in
-    let size = m.table.size in
     let core = core_of m in
     let o = c.in_ok-before.before in
-    let is = c.in_ok-before.ensures.before in
     let whole = c.requires.whole in
     let version : c.in-Ok.version ≡ begun c.args.kind c.args.prime (version_before core.live o) = c.in-Ok.ensures in
     let stands = c.in_ok-place.ensures.found in
@@ -337,7 +227,8 @@ returns-clause-whole c =
       pending = c.insert_reserved.new.self;
       table = t;
     }))) (sym table)
-    (begun_whole size core whole c.booked-booked.ensures.sound c.args.kind c.args.prime o is
-    c.insert_reserved.new.self.slots c.insert_reserved.result adds c.in_default.ensures c.hold_blocks.new.table.held held
-    c.in_ok-place.place stands.0 e.0 stands.1.is e.1 (m.table.booked + c.begin_cost-cost.result)
+    (begun_whole whole c.booked-booked.ensures.sound c.args.kind c.args.prime c.in_ok-before.ensures.before
+    c.insert_reserved.new.self.slots c.insert_reserved.result adds c.in_default.ensures
+    c.hold_blocks.new.table.held held c.in_ok-place.place stands.0 e.0 stands.1.is e.1
+    (m.table.booked + c.begin_cost-cost.result)
     (ap (λ (n : ℕ). m.table.booked + n) cost) room)

@@ -5,14 +5,13 @@ use Rattle.meaning.specs.Files.{name_cmp}
 use Rattle.directory.specs.Edits.{StandsAt, IsReserve, inserted}
 use Rattle.directory.specs.Chains.{viewed}
 use Rattle.volume.specs.Cores.{file_view}
-use Rattle.volume.specs.Live.{slot}
 use Rattle.volume.specs.LiveCores.{core_of, live_directory}
 use Rattle.volume.specs.declared.live.LiveVersion.{LiveVersion}
 use Rattle.volume.specs.declared.pending.PendingVersion.{PendingVersion}
-use Rattle.volume.proofs.MakingCurrent.{index_is, place_within, directory_there, known_place, keys_place, is_directory}
-use Rattle.volume.proofs.MakingCurrent.{as_many_keys, within_space, blocks_booked, grown_free, retires_there}
-use Rattle.volume.proofs.MakingCurrent.{retires_set, retires_few, retires_booked, retires_fits, used_sound, used_held}
-use Rattle.volume.proofs.MakingCurrent.{used_clear, changed_many, new_stands, chain_grown}
+use Rattle.volume.proofs.MakingCurrent.{vacant_stays, directory_there, directory_read, known_place, keys_place}
+use Rattle.volume.proofs.MakingCurrent.{is_directory}
+use Rattle.volume.proofs.MakingCurrent.{as_many_keys, within_space, blocks_booked, grown_free, may_retire}
+use Rattle.volume.proofs.MakingCurrent.{used_sound, used_held, used_clear, changed_many, new_stands, chain_grown}
 use Rattle.volume.proofs.BecomingCurrent.{made_current_by}
 use Rattle.std.specs.Vec.{with_item}
 use Rattle.meaning.specs.Maps.{insert, from_entries, times}
@@ -23,7 +22,7 @@ use Rattle.retrieval.proofs.RibCounts.{ribs_few}
 use Rattle.volume.specs.Known.{blocks_reached}
 use Rattle.volume.specs.Publishing.{PutsInUse, MakesCurrent}
 use Rattle.volume.specs.declared.live.LiveMap.{LiveMap}
-use Rattle.meaning.proofs.MapLaws.{some_none, some_same}
+use Rattle.meaning.proofs.MapLaws.{some_same}
 use Rattle.volume.proofs.current.make_current.Goals as goal
 use Rattle.volume.proofs.Supplying.{is_there}
 
@@ -40,9 +39,8 @@ take_places-at-requires-clause-used c =
     let place = c.place_of-place.result in
     let stands = c.place_of-place.ensures in
     let d = directory_there m c.requires.whole p.prime.ppn place stands.0 stands.1 in
-    blocks_booked m c.requires.whole c.args.key p was (c.requires.placed p was) place stands.0 stands.1
-    d.0 d.1 c.takes_block-grows.result (ribs_of p.version.blocks) (c.takes_block-grows.ensures d.0 d.1)
-    (ribs_few p.version.blocks)
+    blocks_booked m c.requires.whole c.args.key was (c.requires.placed p was) stands.1 d.1 c.takes_block-grows.result
+    (ribs_of p.version.blocks) (c.takes_block-grows.ensures d.0 d.1) (ribs_few p.version.blocks)
 
 pub take_places-at-requires-clause-enough : goal.take_places-at-requires-clause-enough
 take_places-at-requires-clause-enough c =
@@ -60,7 +58,7 @@ take_places-at-requires-clause-room c =
     let place = c.place_of-place.result in
     let stands = c.place_of-place.ensures in
     let d = directory_there m c.requires.whole p.prime.ppn place stands.0 stands.1 in
-    within_space m c.requires.whole c.args.key p was (c.requires.placed p was) place stands.0 stands.1 d.0 d.1
+    within_space m c.requires.whole c.args.key was (c.requires.placed p was) stands.1 d.1
 
 pub file_entry-entry-requires : goal.file_entry-entry-requires
 file_entry-entry-requires c =
@@ -72,15 +70,13 @@ put_entry-old-requires-clause-reserve c =
     let m = c.args.core.now in
     let p = c.in-Some.field-0 in
     let was = sym c.try_remove.ensures.value ∙ c.in-Some.is in
-    let place = c.place_of-place.result in
     let stands = c.place_of-place.ensures in
     let d = c.index_mut.result.now in
-    let at = index_is m.directories.items place d _
-    (place_within m c.requires.whole p.prime.ppn place stands.0 stands.1) c.index_mut.ensures.value in
+    let at = directory_read m c.requires.whole stands.1 _ c.index_mut.ensures.value in
     subst (λ name. IsReserve name_cmp (viewed file_view d.chain) name c.args.supplies.reserve)
     (sym c.file_entry-entry.ensures.name)
     ((c.requires.supplied p was).fits (live_directory m.versions.slots d)
-    (is_directory m c.requires.whole c.args.key p was (c.requires.placed p was) place stands.0 stands.1 d at))
+    (is_directory m c.requires.whole c.args.key was (c.requires.placed p was) stands.1 at))
 
 pub put_entry-old-requires-clause-keys : goal.put_entry-old-requires-clause-keys
 put_entry-old-requires-clause-keys c absent =
@@ -90,11 +86,10 @@ put_entry-old-requires-clause-keys c absent =
     let place = c.place_of-place.result in
     let stands = c.place_of-place.ensures in
     let d = c.index_mut.result.now in
-    let at = index_is m.directories.items place d _
-    (place_within m c.requires.whole p.prime.ppn place stands.0 stands.1) c.index_mut.ensures.value in
-    (c.requires.supplied p was).longer place stands.0 (live_directory m.versions.slots d) d.keys.items stands.1
-    (known_place m c.requires.whole c.args.key p was (c.requires.placed p was) place stands.0 stands.1 d at)
-    (keys_place m c.requires.whole c.args.key p was (c.requires.placed p was) place stands.0 stands.1 d at)
+    let at = directory_read m c.requires.whole stands.1 _ c.index_mut.ensures.value in
+    (c.requires.supplied p was).roomy place stands.0 (live_directory m.versions.slots d) d.keys.items stands.1
+    (known_place m c.requires.whole c.args.key was (c.requires.placed p was) stands.1 at)
+    (keys_place m c.requires.whole c.args.key was (c.requires.placed p was) stands.1 at)
     (subst (λ name. find name_cmp name (map file_view d.chain.entries) ≡ None) c.file_entry-entry.ensures.name absent)
 
 pub put_entry-old-requires-clause-aligned : goal.put_entry-old-requires-clause-aligned
@@ -102,12 +97,9 @@ put_entry-old-requires-clause-aligned c =
     let m = c.args.core.now in
     let p = c.in-Some.field-0 in
     let was = sym c.try_remove.ensures.value ∙ c.in-Some.is in
-    let place = c.place_of-place.result in
     let stands = c.place_of-place.ensures in
-    let d = c.index_mut.result.now in
-    let at = index_is m.directories.items place d _
-    (place_within m c.requires.whole p.prime.ppn place stands.0 stands.1) c.index_mut.ensures.value in
-    as_many_keys m c.requires.whole c.args.key p was (c.requires.placed p was) place stands.0 stands.1 d at
+    let at = directory_read m c.requires.whole stands.1 _ c.index_mut.ensures.value in
+    as_many_keys m c.requires.whole c.args.key was (c.requires.placed p was) stands.1 at
 
 pub put_entry-old-requires-clause-grown : goal.put_entry-old-requires-clause-grown
 put_entry-old-requires-clause-grown c =
@@ -115,116 +107,29 @@ put_entry-old-requires-clause-grown c =
     let p = c.in-Some.field-0 in
     let was = sym c.try_remove.ensures.value ∙ c.in-Some.is in
     let placed = c.requires.placed p was in
-    let place = c.place_of-place.result in
     let stands = c.place_of-place.ensures in
     let d = c.index_mut.result.now in
-    let at = index_is m.directories.items place d _
-    (place_within m c.requires.whole p.prime.ppn place stands.0 stands.1) c.index_mut.ensures.value in
-    grown_free m c.requires.whole c.args.key p was placed place stands.0 stands.1 d at c.takes_block-grows.result
+    let at = directory_read m c.requires.whole stands.1 _ c.index_mut.ensures.value in
+    grown_free m c.requires.whole c.args.key was placed stands.1 at c.takes_block-grows.result
     c.take_places-at.result.grown c.file_entry-entry.result.name c.take_places-at.new.table c.take_places-at.result.at
     c.take_places-at.new.version.ribs
     c.file_entry-entry.ensures.name (c.takes_block-grows.ensures d at) c.take_places-at.ensures.grown
     c.take_places-at.ensures.taken
 
-pub retire_before-requires-clause-there : goal.retire_before-requires-clause-there
-retire_before-requires-clause-there c =
+pub retire_before-requires-clause-may : goal.retire_before-requires-clause-may
+retire_before-requires-clause-may c =
     let m = c.args.core.now in
     let p = c.in-Some.field-0 in
     let was = sym c.try_remove.ensures.value ∙ c.in-Some.is in
     let placed = c.requires.placed p was in
-    let place = c.place_of-place.result in
     let stands = c.place_of-place.ensures in
-    let d = c.index_mut.result.now in
-    let at = index_is m.directories.items place d _
-    (place_within m c.requires.whole p.prime.ppn place stands.0 stands.1) c.index_mut.ensures.value in
-    retires_there m c.requires.whole c.args.key p was placed place stands.0 stands.1 d at c.put_entry-old.result
-    c.file_entry-entry.result.name c.file_entry-entry.ensures.name
+    let put = c.insert_reserved-current.ensures in
+    let at = directory_read m c.requires.whole stands.1 _ c.index_mut.ensures.value in
+    may_retire m c.requires.whole c.args.key was placed stands.1 at c.put_entry-old.result
+    c.file_entry-entry.ensures.name
     (λ keys i. c.put_entry-old.new.directory.keys.items ≡ slice_set keys i c.insert_reserved-current.result)
     c.put_entry-old.ensures.replaced c.insert_reserved-current.new.self.slots
-    (λ k v there. c.insert_reserved-current.ensures.updates.others k (λ same. some_none (sym there
-    ∙ ap (slot m.versions.slots) same ∙ c.insert_reserved-current.ensures.was_vacant)) ∙ there)
-    c.take_places-at.new.table (option_to_list c.take_places-at.result.grown) c.take_places-at.result.at
-    c.take_places-at.new.version.ribs c.take_places-at.ensures.taken
-
-pub retire_before-requires-clause-set : goal.retire_before-requires-clause-set
-retire_before-requires-clause-set c =
-    let m = c.args.core.now in
-    let p = c.in-Some.field-0 in
-    let was = sym c.try_remove.ensures.value ∙ c.in-Some.is in
-    let placed = c.requires.placed p was in
-    let place = c.place_of-place.result in
-    let stands = c.place_of-place.ensures in
-    let d = c.index_mut.result.now in
-    let at = index_is m.directories.items place d _
-    (place_within m c.requires.whole p.prime.ppn place stands.0 stands.1) c.index_mut.ensures.value in
-    retires_set m c.requires.whole c.args.key p was placed place stands.0 stands.1 d at c.put_entry-old.result
-    c.file_entry-entry.result.name c.file_entry-entry.ensures.name
-    (λ keys i. c.put_entry-old.new.directory.keys.items ≡ slice_set keys i c.insert_reserved-current.result)
-    c.put_entry-old.ensures.replaced c.insert_reserved-current.new.self.slots
-    (λ k v there. c.insert_reserved-current.ensures.updates.others k (λ same. some_none (sym there
-    ∙ ap (slot m.versions.slots) same ∙ c.insert_reserved-current.ensures.was_vacant)) ∙ there)
-    c.take_places-at.new.table (option_to_list c.take_places-at.result.grown) c.take_places-at.result.at
-    c.take_places-at.new.version.ribs c.take_places-at.ensures.taken
-
-pub retire_before-requires-clause-few : goal.retire_before-requires-clause-few
-retire_before-requires-clause-few c =
-    let m = c.args.core.now in
-    let p = c.in-Some.field-0 in
-    let was = sym c.try_remove.ensures.value ∙ c.in-Some.is in
-    let placed = c.requires.placed p was in
-    let place = c.place_of-place.result in
-    let stands = c.place_of-place.ensures in
-    let d = c.index_mut.result.now in
-    let at = index_is m.directories.items place d _
-    (place_within m c.requires.whole p.prime.ppn place stands.0 stands.1) c.index_mut.ensures.value in
-    retires_few m c.requires.whole c.args.key p was placed place stands.0 stands.1 d at c.put_entry-old.result
-    c.file_entry-entry.result.name c.file_entry-entry.ensures.name
-    (λ keys i. c.put_entry-old.new.directory.keys.items ≡ slice_set keys i c.insert_reserved-current.result)
-    c.put_entry-old.ensures.replaced c.insert_reserved-current.new.self.slots
-    (λ k v there. c.insert_reserved-current.ensures.updates.others k (λ same. some_none (sym there
-    ∙ ap (slot m.versions.slots) same ∙ c.insert_reserved-current.ensures.was_vacant)) ∙ there)
-    c.take_places-at.new.table (option_to_list c.take_places-at.result.grown) c.take_places-at.result.at
-    c.take_places-at.new.version.ribs c.take_places-at.ensures.taken
-
-pub retire_before-requires-clause-booked : goal.retire_before-requires-clause-booked
-retire_before-requires-clause-booked c =
-    let m = c.args.core.now in
-    let p = c.in-Some.field-0 in
-    let was = sym c.try_remove.ensures.value ∙ c.in-Some.is in
-    let placed = c.requires.placed p was in
-    let place = c.place_of-place.result in
-    let stands = c.place_of-place.ensures in
-    let d = c.index_mut.result.now in
-    let at = index_is m.directories.items place d _
-    (place_within m c.requires.whole p.prime.ppn place stands.0 stands.1) c.index_mut.ensures.value in
-    retires_booked m c.requires.whole c.args.key p was placed place stands.0 stands.1 d at c.put_entry-old.result
-    c.file_entry-entry.result.name c.file_entry-entry.ensures.name
-    (λ keys i. c.put_entry-old.new.directory.keys.items ≡ slice_set keys i c.insert_reserved-current.result)
-    c.put_entry-old.ensures.replaced c.insert_reserved-current.new.self.slots
-    (λ k v there. c.insert_reserved-current.ensures.updates.others k (λ same. some_none (sym there
-    ∙ ap (slot m.versions.slots) same ∙ c.insert_reserved-current.ensures.was_vacant)) ∙ there)
-    c.take_places-at.new.table (option_to_list c.take_places-at.result.grown) c.take_places-at.result.at
-    c.take_places-at.new.version.ribs c.take_places-at.ensures.taken
-
-pub retire_before-requires-clause-fits : goal.retire_before-requires-clause-fits
-retire_before-requires-clause-fits c =
-    let m = c.args.core.now in
-    let p = c.in-Some.field-0 in
-    let was = sym c.try_remove.ensures.value ∙ c.in-Some.is in
-    let placed = c.requires.placed p was in
-    let place = c.place_of-place.result in
-    let stands = c.place_of-place.ensures in
-    let d = c.index_mut.result.now in
-    let at = index_is m.directories.items place d _
-    (place_within m c.requires.whole p.prime.ppn place stands.0 stands.1) c.index_mut.ensures.value in
-    retires_fits m c.requires.whole c.args.key p was placed place stands.0 stands.1 d at c.put_entry-old.result
-    c.file_entry-entry.result.name c.file_entry-entry.ensures.name
-    (λ keys i. c.put_entry-old.new.directory.keys.items ≡ slice_set keys i c.insert_reserved-current.result)
-    c.put_entry-old.ensures.replaced c.insert_reserved-current.new.self.slots
-    (λ k v there. c.insert_reserved-current.ensures.updates.others k (λ same. some_none (sym there
-    ∙ ap (slot m.versions.slots) same ∙ c.insert_reserved-current.ensures.was_vacant)) ∙ there)
-    c.take_places-at.new.table (option_to_list c.take_places-at.result.grown) c.take_places-at.result.at
-    c.take_places-at.new.version.ribs c.take_places-at.ensures.taken
+    (vacant_stays m.versions.slots _ _ put.was_vacant put.updates.others) c.take_places-at.ensures.taken
 
 pub use_current-requires-clause-sound : goal.use_current-requires-clause-sound
 use_current-requires-clause-sound c =
@@ -232,19 +137,14 @@ use_current-requires-clause-sound c =
     let p = c.in-Some.field-0 in
     let was = sym c.try_remove.ensures.value ∙ c.in-Some.is in
     let placed = c.requires.placed p was in
-    let place = c.place_of-place.result in
     let stands = c.place_of-place.ensures in
-    let d = c.index_mut.result.now in
-    let at = index_is m.directories.items place d _
-    (place_within m c.requires.whole p.prime.ppn place stands.0 stands.1) c.index_mut.ensures.value in
-    used_sound m c.requires.whole c.args.key p was placed place stands.0 stands.1 d at c.put_entry-old.result
-    c.file_entry-entry.result.name c.file_entry-entry.ensures.name
+    let put = c.insert_reserved-current.ensures in
+    let at = directory_read m c.requires.whole stands.1 _ c.index_mut.ensures.value in
+    used_sound m c.requires.whole c.args.key was placed stands.1 at c.put_entry-old.result
+    c.file_entry-entry.ensures.name
     (λ keys i. c.put_entry-old.new.directory.keys.items ≡ slice_set keys i c.insert_reserved-current.result)
     c.put_entry-old.ensures.replaced c.insert_reserved-current.new.self.slots
-    (λ k v there. c.insert_reserved-current.ensures.updates.others k (λ same. some_none (sym there
-    ∙ ap (slot m.versions.slots) same ∙ c.insert_reserved-current.ensures.was_vacant)) ∙ there)
-    c.take_places-at.new.table (option_to_list c.take_places-at.result.grown) c.take_places-at.result.at
-    c.take_places-at.new.version.ribs c.take_places-at.ensures.taken
+    (vacant_stays m.versions.slots _ _ put.was_vacant put.updates.others) c.take_places-at.ensures.taken
     c.retire_before.new.table c.retire_before.ensures.retired (λ none. (c.retire_before.ensures.none none).1)
 
 pub use_current-requires-clause-there : goal.use_current-requires-clause-there
@@ -253,11 +153,8 @@ use_current-requires-clause-there c =
     let p = c.in-Some.field-0 in
     let was = sym c.try_remove.ensures.value ∙ c.in-Some.is in
     let placed = c.requires.placed p was in
-    let place = c.place_of-place.result in
     let stands = c.place_of-place.ensures in
-    let d = c.index_mut.result.now in
-    let at = index_is m.directories.items place d _
-    (place_within m c.requires.whole p.prime.ppn place stands.0 stands.1) c.index_mut.ensures.value in
+    let at = directory_read m c.requires.whole stands.1 _ c.index_mut.ensures.value in
     let new : LiveVersion = record {
       prime = p.prime;
       version = c.take_places-at.new.version;
@@ -266,14 +163,11 @@ use_current-requires-clause-there c =
       is_current = true;
     } in
     let put = c.insert_reserved-current.ensures in
-    let here = new_stands m c.requires.whole c.args.key p was placed place stands.0 stands.1 d at c.put_entry-old.result
-    c.file_entry-entry.result.name c.file_entry-entry.ensures.name
+    let here = new_stands m c.requires.whole c.args.key was placed stands.1 at c.put_entry-old.result
+    c.file_entry-entry.ensures.name
     (λ keys i. c.put_entry-old.new.directory.keys.items ≡ slice_set keys i c.insert_reserved-current.result)
     c.put_entry-old.ensures.replaced c.insert_reserved-current.new.self.slots
-    (λ k v there. c.insert_reserved-current.ensures.updates.others k (λ same. some_none (sym there
-    ∙ ap (slot m.versions.slots) same ∙ c.insert_reserved-current.ensures.was_vacant)) ∙ there)
-    c.take_places-at.new.table (option_to_list c.take_places-at.result.grown) c.take_places-at.result.at
-    c.take_places-at.new.version.ribs c.take_places-at.ensures.taken
+    (vacant_stays m.versions.slots _ _ put.was_vacant put.updates.others) c.take_places-at.ensures.taken
     c.retire_before.new.versions.slots c.insert_reserved-current.result new put.was_vacant put.updates.changed
     c.retire_before.ensures.others (λ none. ap (λ s. s.slots) (c.retire_before.ensures.none none).0) in
     subst IsSome (sym here) refl
@@ -284,11 +178,8 @@ use_current-requires-clause-held c v there n =
     let p = c.in-Some.field-0 in
     let was = sym c.try_remove.ensures.value ∙ c.in-Some.is in
     let placed = c.requires.placed p was in
-    let place = c.place_of-place.result in
     let stands = c.place_of-place.ensures in
-    let d = c.index_mut.result.now in
-    let at = index_is m.directories.items place d _
-    (place_within m c.requires.whole p.prime.ppn place stands.0 stands.1) c.index_mut.ensures.value in
+    let at = directory_read m c.requires.whole stands.1 _ c.index_mut.ensures.value in
     let new : LiveVersion = record {
       prime = p.prime;
       version = c.take_places-at.new.version;
@@ -297,14 +188,11 @@ use_current-requires-clause-held c v there n =
       is_current = true;
     } in
     let put = c.insert_reserved-current.ensures in
-    let here = new_stands m c.requires.whole c.args.key p was placed place stands.0 stands.1 d at c.put_entry-old.result
-    c.file_entry-entry.result.name c.file_entry-entry.ensures.name
+    let here = new_stands m c.requires.whole c.args.key was placed stands.1 at c.put_entry-old.result
+    c.file_entry-entry.ensures.name
     (λ keys i. c.put_entry-old.new.directory.keys.items ≡ slice_set keys i c.insert_reserved-current.result)
     c.put_entry-old.ensures.replaced c.insert_reserved-current.new.self.slots
-    (λ k v there. c.insert_reserved-current.ensures.updates.others k (λ same. some_none (sym there
-    ∙ ap (slot m.versions.slots) same ∙ c.insert_reserved-current.ensures.was_vacant)) ∙ there)
-    c.take_places-at.new.table (option_to_list c.take_places-at.result.grown) c.take_places-at.result.at
-    c.take_places-at.new.version.ribs c.take_places-at.ensures.taken
+    (vacant_stays m.versions.slots _ _ put.was_vacant put.updates.others) c.take_places-at.ensures.taken
     c.retire_before.new.versions.slots c.insert_reserved-current.result new put.was_vacant put.updates.changed
     c.retire_before.ensures.others (λ none. ap (λ s. s.slots) (c.retire_before.ensures.none none).0) in
     let version : c.take_places-at.new.version ≡ record p.version {
@@ -316,14 +204,11 @@ use_current-requires-clause-held c v there n =
     (some_same (sym here ∙ there))
     (subst (λ (x : VersionState). times n (blocks_reached c.take_places-at.result.at x ++ grown) ≤ holds t n)
     (sym version)
-    (used_held m c.requires.whole c.args.key p was placed place stands.0 stands.1 d at c.put_entry-old.result
-    c.file_entry-entry.result.name c.file_entry-entry.ensures.name
+    (used_held m c.requires.whole c.args.key was placed stands.1 at c.put_entry-old.result
+    c.file_entry-entry.ensures.name
     (λ keys i. c.put_entry-old.new.directory.keys.items ≡ slice_set keys i c.insert_reserved-current.result)
     c.put_entry-old.ensures.replaced c.insert_reserved-current.new.self.slots
-    (λ k v there. c.insert_reserved-current.ensures.updates.others k (λ same. some_none (sym there
-    ∙ ap (slot m.versions.slots) same ∙ c.insert_reserved-current.ensures.was_vacant)) ∙ there)
-    c.take_places-at.new.table (option_to_list c.take_places-at.result.grown) c.take_places-at.result.at
-    c.take_places-at.new.version.ribs c.take_places-at.ensures.taken
+    (vacant_stays m.versions.slots _ _ put.was_vacant put.updates.others) c.take_places-at.ensures.taken
     c.retire_before.new.table c.retire_before.ensures.retired (λ none. (c.retire_before.ensures.none none).1) n))
 
 pub use_current-requires-clause-clear : goal.use_current-requires-clause-clear
@@ -332,11 +217,8 @@ use_current-requires-clause-clear c v there n =
     let p = c.in-Some.field-0 in
     let was = sym c.try_remove.ensures.value ∙ c.in-Some.is in
     let placed = c.requires.placed p was in
-    let place = c.place_of-place.result in
     let stands = c.place_of-place.ensures in
-    let d = c.index_mut.result.now in
-    let at = index_is m.directories.items place d _
-    (place_within m c.requires.whole p.prime.ppn place stands.0 stands.1) c.index_mut.ensures.value in
+    let at = directory_read m c.requires.whole stands.1 _ c.index_mut.ensures.value in
     let new : LiveVersion = record {
       prime = p.prime;
       version = c.take_places-at.new.version;
@@ -345,14 +227,11 @@ use_current-requires-clause-clear c v there n =
       is_current = true;
     } in
     let put = c.insert_reserved-current.ensures in
-    let here = new_stands m c.requires.whole c.args.key p was placed place stands.0 stands.1 d at c.put_entry-old.result
-    c.file_entry-entry.result.name c.file_entry-entry.ensures.name
+    let here = new_stands m c.requires.whole c.args.key was placed stands.1 at c.put_entry-old.result
+    c.file_entry-entry.ensures.name
     (λ keys i. c.put_entry-old.new.directory.keys.items ≡ slice_set keys i c.insert_reserved-current.result)
     c.put_entry-old.ensures.replaced c.insert_reserved-current.new.self.slots
-    (λ k v there. c.insert_reserved-current.ensures.updates.others k (λ same. some_none (sym there
-    ∙ ap (slot m.versions.slots) same ∙ c.insert_reserved-current.ensures.was_vacant)) ∙ there)
-    c.take_places-at.new.table (option_to_list c.take_places-at.result.grown) c.take_places-at.result.at
-    c.take_places-at.new.version.ribs c.take_places-at.ensures.taken
+    (vacant_stays m.versions.slots _ _ put.was_vacant put.updates.others) c.take_places-at.ensures.taken
     c.retire_before.new.versions.slots c.insert_reserved-current.result new put.was_vacant put.updates.changed
     c.retire_before.ensures.others (λ none. ap (λ s. s.slots) (c.retire_before.ensures.none none).0) in
     let version : c.take_places-at.new.version ≡ record p.version {
@@ -364,14 +243,11 @@ use_current-requires-clause-clear c v there n =
     (some_same (sym here ∙ there))
     (subst (λ (x : VersionState). bit t n + times n (blocks_reached c.take_places-at.result.at x ++ grown) ≤ 1)
     (sym version)
-    (used_clear m c.requires.whole c.args.key p was placed place stands.0 stands.1 d at c.put_entry-old.result
-    c.file_entry-entry.result.name c.file_entry-entry.ensures.name
+    (used_clear m c.requires.whole c.args.key was placed stands.1 at c.put_entry-old.result
+    c.file_entry-entry.ensures.name
     (λ keys i. c.put_entry-old.new.directory.keys.items ≡ slice_set keys i c.insert_reserved-current.result)
     c.put_entry-old.ensures.replaced c.insert_reserved-current.new.self.slots
-    (λ k v there. c.insert_reserved-current.ensures.updates.others k (λ same. some_none (sym there
-    ∙ ap (slot m.versions.slots) same ∙ c.insert_reserved-current.ensures.was_vacant)) ∙ there)
-    c.take_places-at.new.table (option_to_list c.take_places-at.result.grown) c.take_places-at.result.at
-    c.take_places-at.new.version.ribs c.take_places-at.ensures.taken
+    (vacant_stays m.versions.slots _ _ put.was_vacant put.updates.others) c.take_places-at.ensures.taken
     c.retire_before.new.table c.retire_before.ensures.retired (λ none. (c.retire_before.ensures.none none).1) _
     c.put_entry-old.ensures.added n))
 
@@ -381,11 +257,8 @@ changes-requires c =
     let p = c.in-Some.field-0 in
     let was = sym c.try_remove.ensures.value ∙ c.in-Some.is in
     let placed = c.requires.placed p was in
-    let place = c.place_of-place.result in
     let stands = c.place_of-place.ensures in
-    let d = c.index_mut.result.now in
-    let at = index_is m.directories.items place d _
-    (place_within m c.requires.whole p.prime.ppn place stands.0 stands.1) c.index_mut.ensures.value in
+    let at = directory_read m c.requires.whole stands.1 _ c.index_mut.ensures.value in
     let new : LiveVersion = record {
       prime = p.prime;
       version = c.take_places-at.new.version;
@@ -394,14 +267,11 @@ changes-requires c =
       is_current = true;
     } in
     let put = c.insert_reserved-current.ensures in
-    let here = new_stands m c.requires.whole c.args.key p was placed place stands.0 stands.1 d at c.put_entry-old.result
-    c.file_entry-entry.result.name c.file_entry-entry.ensures.name
+    let here = new_stands m c.requires.whole c.args.key was placed stands.1 at c.put_entry-old.result
+    c.file_entry-entry.ensures.name
     (λ keys i. c.put_entry-old.new.directory.keys.items ≡ slice_set keys i c.insert_reserved-current.result)
     c.put_entry-old.ensures.replaced c.insert_reserved-current.new.self.slots
-    (λ k v there. c.insert_reserved-current.ensures.updates.others k (λ same. some_none (sym there
-    ∙ ap (slot m.versions.slots) same ∙ c.insert_reserved-current.ensures.was_vacant)) ∙ there)
-    c.take_places-at.new.table (option_to_list c.take_places-at.result.grown) c.take_places-at.result.at
-    c.take_places-at.new.version.ribs c.take_places-at.ensures.taken
+    (vacant_stays m.versions.slots _ _ put.was_vacant put.updates.others) c.take_places-at.ensures.taken
     c.retire_before.new.versions.slots c.insert_reserved-current.result new put.was_vacant put.updates.changed
     c.retire_before.ensures.others (λ none. ap (λ s. s.slots) (c.retire_before.ensures.none none).0) in
     changed_many c.use_current.new.table _ (c.use_current.ensures new here).marks.sound c.put_entry-old.ensures.few
@@ -417,8 +287,7 @@ returns c q there =
     let stands = c.place_of-place.ensures in
     let d = c.index_mut.result.now in
     let d' = c.put_entry-old.new.directory in
-    let at = index_is m.directories.items place d _
-    (place_within m c.requires.whole p.prime.ppn place stands.0 stands.1) c.index_mut.ensures.value in
+    let at = directory_read m c.requires.whole stands.1 _ c.index_mut.ensures.value in
     let m' : LiveMap = record {
       master = m.master;
       directories = with_item m.directories place d';
@@ -439,14 +308,11 @@ returns c q there =
       is_current = true;
     } in
     let put = c.insert_reserved-current.ensures in
-    let here = new_stands m c.requires.whole c.args.key p was placed place stands.0 stands.1 d at c.put_entry-old.result
-    c.file_entry-entry.result.name c.file_entry-entry.ensures.name
+    let here = new_stands m c.requires.whole c.args.key was placed stands.1 at c.put_entry-old.result
+    c.file_entry-entry.ensures.name
     (λ keys i. c.put_entry-old.new.directory.keys.items ≡ slice_set keys i c.insert_reserved-current.result)
     c.put_entry-old.ensures.replaced c.insert_reserved-current.new.self.slots
-    (λ k v there. c.insert_reserved-current.ensures.updates.others k (λ same. some_none (sym there
-    ∙ ap (slot m.versions.slots) same ∙ c.insert_reserved-current.ensures.was_vacant)) ∙ there)
-    c.take_places-at.new.table (option_to_list c.take_places-at.result.grown) c.take_places-at.result.at
-    c.take_places-at.new.version.ribs c.take_places-at.ensures.taken
+    (vacant_stays m.versions.slots _ _ put.was_vacant put.updates.others) c.take_places-at.ensures.taken
     c.retire_before.new.versions.slots c.insert_reserved-current.result new put.was_vacant put.updates.changed
     c.retire_before.ensures.others (λ none. ap (λ s. s.slots) (c.retire_before.ensures.none none).0) in
     let puts_in_use = subst (λ (x : VersionState). PutsInUse c.retire_before.new.table c.use_current.new.table
@@ -455,11 +321,12 @@ returns c q there =
     let makes_current = made_current_by m m' c.requires.whole c.args.key p was placed place stands.0 stands.1
     d d' at refl refl c.try_remove.ensures.updates.changed c.try_remove.ensures.updates.others
     (option_to_list taken.result.grown) taken.result.at ribs (taken.ensures.count
-    ∙ ap (λ (x : VersionState). ribs_of x.blocks) version) taken.new.table c.retire_before.new.table c.use_current.new.table taken.ensures.taken
+    ∙ ap (λ (x : VersionState). ribs_of x.blocks) version) taken.new.table c.retire_before.new.table
+    c.use_current.new.table taken.ensures.taken
     puts_in_use c.changes.ensures.done set c.changes.new.set c.put_entry-old.ensures.put
     c.put_entry-old.ensures.few c.changes.ensures.others
     c.changes.ensures.spells c.changes.ensures.in_range c.changes.ensures.few
-    (chain_grown m c.requires.whole c.args.key p was placed place stands.0 stands.1 d at c.takes_block-grows.result
+    (chain_grown m c.requires.whole c.args.key was placed stands.1 at c.takes_block-grows.result
     taken.result.grown c.file_entry-entry.result.name d'.chain.blocks entry.name
     (c.takes_block-grows.ensures d at) taken.ensures.grown c.put_entry-old.ensures.same c.put_entry-old.ensures.more)
     c.insert_reserved-current.result put.was_vacant (here

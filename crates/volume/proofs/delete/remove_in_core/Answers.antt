@@ -2,11 +2,10 @@ use Rattle.std.proofs.Common.{option_to_list, refl}
 use Rattle.std.specs.Vec.{with_item}
 use Rattle.directory.specs.Chains.{viewed}
 use Rattle.volume.specs.Cores.{file_view}
-use Rattle.volume.specs.LiveCores.{core_of}
 use Rattle.volume.specs.declared.live.LiveMap.{LiveMap}
-use Rattle.volume.proofs.MakingCurrent.{index_is, place_within}
-use Rattle.volume.proofs.Removals.{holds_few, removes_aligned, removes_there, retires_there, retires_set}
-use Rattle.volume.proofs.Removals.{retires_booked, grows_few, left_sound, left_set, less_booked, changes_many}
+use Rattle.volume.proofs.MakingCurrent.{directory_read}
+use Rattle.volume.proofs.Removals.{removes_aligned, removes_there, may_retire, grows_few, left_sound, left_set}
+use Rattle.volume.proofs.Removals.{less_booked, changes_many}
 use Rattle.volume.proofs.Removals.{removes_file, had, grown_at, put_first, few_first}
 use Rattle.volume.proofs.delete.remove_in_core.Goals as goal
 
@@ -17,8 +16,7 @@ remove_entry-key-requires-clause-there c =
     let place = c.place_of-place.result in
     let stands = c.place_of-place.ensures in
     let d = c.index_mut.result.now in
-    let at = index_is m.directories.items place d _ (place_within m c.requires.whole ppn place stands.0 stands.1)
-    c.index_mut.ensures.value in
+    let at = directory_read m c.requires.whole stands.1 _ c.index_mut.ensures.value in
     removes_there m c.requires.whole ppn c.args.name.now place stands.0 stands.1 d at c.requires.there
 
 pub remove_entry-key-requires-clause-aligned : goal.remove_entry-key-requires-clause-aligned
@@ -29,8 +27,7 @@ remove_entry-key-requires-clause-aligned c =
     let place = c.place_of-place.result in
     let stands = c.place_of-place.ensures in
     let d = c.index_mut.result.now in
-    let at = index_is m.directories.items place d _ (place_within m c.requires.whole ppn place stands.0 stands.1)
-    c.index_mut.ensures.value in
+    let at = directory_read m c.requires.whole stands.1 _ c.index_mut.ensures.value in
     removes_aligned m c.requires.whole ppn name place stands.0 stands.1 d at
 
 pub growth_at-less-requires-clause-few : goal.growth_at-less-requires-clause-few
@@ -44,67 +41,26 @@ growth_at-less-requires-clause-few c x is =
     let d' = c.remove_entry-key.new.directory in
     let key = c.remove_entry-key.result.key in
     let block = option_to_list c.remove_entry-key.result.block in
-    let at = index_is m.directories.items place d _ (place_within m c.requires.whole ppn place stands.0 stands.1)
-    c.index_mut.ensures.value in
+    let at = directory_read m c.requires.whole stands.1 _ c.index_mut.ensures.value in
     let out = c.remove_entry-key.ensures in
     grows_few m c.requires.whole ppn name place stands.0 stands.1 d at out.keys.0 out.keys.1 key out.keys.2
     out.keys.3
     d' block out.blocks out.items out.map out.chain
     m.versions.slots x is
 
-pub retire-requires-clause-there : goal.retire-requires-clause-there
-retire-requires-clause-there c =
+pub retire-requires-clause-may : goal.retire-requires-clause-may
+retire-requires-clause-may c =
     let m = c.args.core.now in
     let ppn = c.args.ppn in
     let name = c.args.name.now in
     let place = c.place_of-place.result in
     let stands = c.place_of-place.ensures in
     let d = c.index_mut.result.now in
-    let d' = c.remove_entry-key.new.directory in
     let key = c.remove_entry-key.result.key in
-    let block = option_to_list c.remove_entry-key.result.block in
-    let at = index_is m.directories.items place d _ (place_within m c.requires.whole ppn place stands.0 stands.1)
-    c.index_mut.ensures.value in
+    let at = directory_read m c.requires.whole stands.1 _ c.index_mut.ensures.value in
     let out = c.remove_entry-key.ensures in
-    retires_there m c.requires.whole ppn name place stands.0 stands.1 d at out.keys.0 out.keys.1 key out.keys.2
+    may_retire m c.requires.whole ppn name place stands.0 stands.1 d at out.keys.0 out.keys.1 key out.keys.2
     out.keys.3
-
-pub retire-requires-clause-set : goal.retire-requires-clause-set
-retire-requires-clause-set c =
-    let m = c.args.core.now in
-    let ppn = c.args.ppn in
-    let name = c.args.name.now in
-    let place = c.place_of-place.result in
-    let stands = c.place_of-place.ensures in
-    let d = c.index_mut.result.now in
-    let d' = c.remove_entry-key.new.directory in
-    let key = c.remove_entry-key.result.key in
-    let block = option_to_list c.remove_entry-key.result.block in
-    let at = index_is m.directories.items place d _ (place_within m c.requires.whole ppn place stands.0 stands.1)
-    c.index_mut.ensures.value in
-    let out = c.remove_entry-key.ensures in
-    retires_set m c.requires.whole ppn name place stands.0 stands.1 d at out.keys.0 out.keys.1 key out.keys.2
-    out.keys.3
-
-pub retire-requires-clause-booked : goal.retire-requires-clause-booked
-retire-requires-clause-booked c =
-    let m = c.args.core.now in
-    let ppn = c.args.ppn in
-    let name = c.args.name.now in
-    let place = c.place_of-place.result in
-    let stands = c.place_of-place.ensures in
-    let d = c.index_mut.result.now in
-    let d' = c.remove_entry-key.new.directory in
-    let key = c.remove_entry-key.result.key in
-    let block = option_to_list c.remove_entry-key.result.block in
-    let at = index_is m.directories.items place d _ (place_within m c.requires.whole ppn place stands.0 stands.1)
-    c.index_mut.ensures.value in
-    let out = c.remove_entry-key.ensures in
-    retires_booked m c.requires.whole ppn name place stands.0 stands.1 d at out.keys.0 out.keys.1 key out.keys.2
-    out.keys.3
-
-pub retire-requires-clause-fits : goal.retire-requires-clause-fits
-retire-requires-clause-fits c = holds_few c.args.core.now.table.size (core_of c.args.core.now) c.requires.whole
 
 pub clear_left-requires-clause-sound : goal.clear_left-requires-clause-sound
 clear_left-requires-clause-sound c =
@@ -117,8 +73,7 @@ clear_left-requires-clause-sound c =
     let d' = c.remove_entry-key.new.directory in
     let key = c.remove_entry-key.result.key in
     let block = option_to_list c.remove_entry-key.result.block in
-    let at = index_is m.directories.items place d _ (place_within m c.requires.whole ppn place stands.0 stands.1)
-    c.index_mut.ensures.value in
+    let at = directory_read m c.requires.whole stands.1 _ c.index_mut.ensures.value in
     let out = c.remove_entry-key.ensures in
     left_sound m c.requires.whole ppn name place stands.0 stands.1 d at out.keys.0 out.keys.1 key out.keys.2
     out.keys.3
@@ -137,8 +92,7 @@ clear_left-requires-clause-set c =
     let d' = c.remove_entry-key.new.directory in
     let key = c.remove_entry-key.result.key in
     let block = option_to_list c.remove_entry-key.result.block in
-    let at = index_is m.directories.items place d _ (place_within m c.requires.whole ppn place stands.0 stands.1)
-    c.index_mut.ensures.value in
+    let at = directory_read m c.requires.whole stands.1 _ c.index_mut.ensures.value in
     let out = c.remove_entry-key.ensures in
     left_set m c.requires.whole ppn name place stands.0 stands.1 d at out.keys.0 out.keys.1 key out.keys.2
     out.keys.3
@@ -157,8 +111,7 @@ unbook-requires c =
     let d' = c.remove_entry-key.new.directory in
     let key = c.remove_entry-key.result.key in
     let block = option_to_list c.remove_entry-key.result.block in
-    let at = index_is m.directories.items place d _ (place_within m c.requires.whole ppn place stands.0 stands.1)
-    c.index_mut.ensures.value in
+    let at = directory_read m c.requires.whole stands.1 _ c.index_mut.ensures.value in
     let out = c.remove_entry-key.ensures in
     less_booked m c.requires.whole ppn name place stands.0 stands.1 d at out.keys.0 out.keys.1 key out.keys.2
     out.keys.3
@@ -177,8 +130,7 @@ changes-requires c =
     let d' = c.remove_entry-key.new.directory in
     let key = c.remove_entry-key.result.key in
     let block = option_to_list c.remove_entry-key.result.block in
-    let at = index_is m.directories.items place d _ (place_within m c.requires.whole ppn place stands.0 stands.1)
-    c.index_mut.ensures.value in
+    let at = directory_read m c.requires.whole stands.1 _ c.index_mut.ensures.value in
     let out = c.remove_entry-key.ensures in
     let set = c.remove_entry-key.new.set in
     let put = put_first (viewed file_view d.chain) (viewed file_view d'.chain) c.args.set.now set c.requires.empty
@@ -202,8 +154,7 @@ returns-clause-removed c =
     let d' = c.remove_entry-key.new.directory in
     let key = c.remove_entry-key.result.key in
     let block = option_to_list c.remove_entry-key.result.block in
-    let at = index_is m.directories.items place d _ (place_within m c.requires.whole ppn place stands.0 stands.1)
-    c.index_mut.ensures.value in
+    let at = directory_read m c.requires.whole stands.1 _ c.index_mut.ensures.value in
     let out = c.remove_entry-key.ensures in
     let set = c.remove_entry-key.new.set in
     let put = put_first (viewed file_view d.chain) (viewed file_view d'.chain) c.args.set.now set c.requires.empty

@@ -8,7 +8,10 @@ returns-clause-ok c =
       added = record {
         name = c.args.entry.now.name;
         protection = c.from.result;
+        mode = c.number.result;
         date = facts.moment.date;
+        time = facts.moment.minute;
+        length = facts.words;
         blocks = facts.blocks;
       };
       pushed = search rules;
@@ -18,7 +21,10 @@ returns-clause-ok c =
         λ i. record {
           name = c.args.entry.now.name;
           protection = c.from.ensures i;
+          mode = c.number.ensures.value i;
           date = facts.moment.date;
+          time = facts.moment.minute;
+          length = facts.words;
           blocks = facts.blocks;
         },
       );

@@ -10,7 +10,7 @@ use Rattle.volume.proofs.make.enter.Goals as goal
 pub returns-clause-entered : goal.returns-clause-entered
 returns-clause-entered c =
     let chain_is = c.in_ok-chain.ensures in
-    let none = c.new.ensures.items in
+    let none = c.new.ensures in
     let live = c.args.core.now.versions.slots in
     let added : LiveDirectory = record { chain = c.in_ok-chain.chain; keys = c.new.result } in
     let bare : live_directory live added ≡ bare_known c.args.entry.first = λ i.

@@ -7,8 +7,8 @@ use Rattle.volume.proofs.Answering.{placed}
 use Rattle.volume.proofs.LiveLookups.{as_many, keyed_at, kept_at, current_at}
 use Rattle.volume.proofs.pins.find_version.Goals as goal
 
-pub index-requires : goal.index-requires
-index-requires c =
+pub at-requires : goal.at-requires
+at-requires c =
     let m = c.args.map.now in
     let live = m.versions.slots in
     let within = c.in_ok-place.ensures.found.1.within in
@@ -37,10 +37,10 @@ returns-in-Some-clause-found c =
     d d c.requires.whole.keyed (omega arith) c.index-directory.ensures in
     let inside = c.in-Some.ensures.found.1.within in
     let at = c.in-Some.ensures.found in
-    let kept = kept_at live (map file_view d.chain.entries) d.keys.items c.in-Some.i c.index.result.now
-    c.index.result.now keyed inside c.index.ensures in
-    let current = current_at live (map file_view d.chain.entries) d.keys.items c.in-Some.i c.index.result.now
-    c.index.result.now (c.args.name.now, at.0) keyed at.1.is c.index.ensures in
+    let kept = kept_at live (map file_view d.chain.entries) d.keys.items c.in-Some.i c.at.result
+    c.at.result keyed inside c.at.ensures in
+    let current = current_at live (map file_view d.chain.entries) d.keys.items c.in-Some.i c.at.result
+    c.at.result (c.args.name.now, at.0) keyed at.1.is c.at.ensures in
     record {
       place = c.in_ok-place.place;
       word = c.in_ok-place.ensures.found.0;

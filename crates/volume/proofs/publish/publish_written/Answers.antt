@@ -15,117 +15,58 @@ use Rattle.volume.proofs.publish.publish_written.Goals as goal
 pub write_retrieval_blocks-written-requires-clause-inside :
     goal.write_retrieval_blocks-written-requires-clause-inside
 write_retrieval_blocks-written-requires-clause-inside g c =
-    let s = g.D.Disk.state c.args.disk.now in
-    let core = core_of c.args.map.now in
-    let new = core_of c.make_current-current.new.core in
-    let puts = c.make_current-current.new.set in
-    let v = c.in-Some.version.now in
-    let there = some_of (pending_at core.pending c.args.key) c.requires.there in
-    let made_current = made_current_of s.size core.known.table.size core new c.args.key there.0 v puts
-    c.make_current-current.result c.requires.sound.whole.map.size_is (c.make_current-current.ensures there.0 there.1)
-    c.in-Some.ensures in
-    retrieval_inside s.size core new c.args.key there.0 v puts c.requires.sound.whole made_current
+    let there = some_of (pending_at (core_of c.args.map.now).pending c.args.key) c.requires.there in
+    let made = made_current_of c.requires.sound (c.make_current-current.ensures there.0 there.1) c.in-Some.ensures in
+    retrieval_inside c.requires.sound.whole made
 
 pub write_retrieval_blocks-written-requires-clause-apart :
     goal.write_retrieval_blocks-written-requires-clause-apart
 write_retrieval_blocks-written-requires-clause-apart g c =
-    let s = g.D.Disk.state c.args.disk.now in
-    let core = core_of c.args.map.now in
-    let new = core_of c.make_current-current.new.core in
-    let puts = c.make_current-current.new.set in
-    let v = c.in-Some.version.now in
-    let there = some_of (pending_at core.pending c.args.key) c.requires.there in
-    let made_current = made_current_of s.size core.known.table.size core new c.args.key there.0 v puts
-    c.make_current-current.result c.requires.sound.whole.map.size_is (c.make_current-current.ensures there.0 there.1)
-    c.in-Some.ensures in
-    retrieval_apart s.size core new c.args.key there.0 v puts c.requires.sound.whole made_current
+    let there = some_of (pending_at (core_of c.args.map.now).pending c.args.key) c.requires.there in
+    let made = made_current_of c.requires.sound (c.make_current-current.ensures there.0 there.1) c.in-Some.ensures in
+    retrieval_apart c.requires.sound.whole made
 
 pub write_retrieval_blocks-written-requires-clause-nonzero :
     goal.write_retrieval_blocks-written-requires-clause-nonzero
 write_retrieval_blocks-written-requires-clause-nonzero g c =
-    let s = g.D.Disk.state c.args.disk.now in
-    let core = core_of c.args.map.now in
-    let new = core_of c.make_current-current.new.core in
-    let puts = c.make_current-current.new.set in
-    let v = c.in-Some.version.now in
-    let there = some_of (pending_at core.pending c.args.key) c.requires.there in
-    let made_current = made_current_of s.size core.known.table.size core new c.args.key there.0 v puts
-    c.make_current-current.result c.requires.sound.whole.map.size_is (c.make_current-current.ensures there.0 there.1)
-    c.in-Some.ensures in
-    retrieval_nonzero s.size core new c.args.key there.0 v puts c.requires.sound.whole made_current
+    let there = some_of (pending_at (core_of c.args.map.now).pending c.args.key) c.requires.there in
+    let made = made_current_of c.requires.sound (c.make_current-current.ensures there.0 there.1) c.in-Some.ensures in
+    retrieval_nonzero c.requires.sound.whole made
 
 pub write_retrieval_blocks-written-requires-clause-words :
     goal.write_retrieval_blocks-written-requires-clause-words
 write_retrieval_blocks-written-requires-clause-words g c =
-    let s = g.D.Disk.state c.args.disk.now in
-    let core = core_of c.args.map.now in
-    let new = core_of c.make_current-current.new.core in
-    let puts = c.make_current-current.new.set in
-    let v = c.in-Some.version.now in
-    let there = some_of (pending_at core.pending c.args.key) c.requires.there in
-    let made_current = made_current_of s.size core.known.table.size core new c.args.key there.0 v puts
-    c.make_current-current.result c.requires.sound.whole.map.size_is (c.make_current-current.ensures there.0 there.1)
-    c.in-Some.ensures in
-    version_words s.size core new c.args.key there.0 v puts c.requires.sound.whole made_current
+    let there = some_of (pending_at (core_of c.args.map.now).pending c.args.key) c.requires.there in
+    let made = made_current_of c.requires.sound (c.make_current-current.ensures there.0 there.1) c.in-Some.ensures in
+    version_words c.requires.sound.whole made
 
 pub write_retrieval_blocks-written-requires-clause-enough :
     goal.write_retrieval_blocks-written-requires-clause-enough
 write_retrieval_blocks-written-requires-clause-enough g c =
-    let s = g.D.Disk.state c.args.disk.now in
-    let core = core_of c.args.map.now in
-    let new = core_of c.make_current-current.new.core in
-    let puts = c.make_current-current.new.set in
-    let v = c.in-Some.version.now in
-    let there = some_of (pending_at core.pending c.args.key) c.requires.there in
-    let made_current = made_current_of s.size core.known.table.size core new c.args.key there.0 v puts
-    c.make_current-current.result c.requires.sound.whole.map.size_is (c.make_current-current.ensures there.0 there.1)
-    c.in-Some.ensures in
-    version_enough s.size core new c.args.key there.0 v puts c.requires.sound.whole made_current
+    let there = some_of (pending_at (core_of c.args.map.now).pending c.args.key) c.requires.there in
+    let made = made_current_of c.requires.sound (c.make_current-current.ensures there.0 there.1) c.in-Some.ensures in
+    version_enough c.requires.sound.whole made
 
 pub write_retrieval_blocks-written-requires-clause-fit :
     goal.write_retrieval_blocks-written-requires-clause-fit
 write_retrieval_blocks-written-requires-clause-fit g c =
-    let s = g.D.Disk.state c.args.disk.now in
-    let core = core_of c.args.map.now in
-    let new = core_of c.make_current-current.new.core in
-    let puts = c.make_current-current.new.set in
-    let v = c.in-Some.version.now in
-    let there = some_of (pending_at core.pending c.args.key) c.requires.there in
-    let made_current = made_current_of s.size core.known.table.size core new c.args.key there.0 v puts
-    c.make_current-current.result c.requires.sound.whole.map.size_is (c.make_current-current.ensures there.0 there.1)
-    c.in-Some.ensures in
-    version_fits s.size core new c.args.key there.0 v puts c.requires.sound.whole made_current
+    let there = some_of (pending_at (core_of c.args.map.now).pending c.args.key) c.requires.there in
+    let made = made_current_of c.requires.sound (c.make_current-current.ensures there.0 there.1) c.in-Some.ensures in
+    version_fits c.requires.sound.whole made
 
 pub returns-then-is_err-clause-sound : goal.returns-then-is_err-clause-sound
 returns-then-is_err-clause-sound g c =
-    let s = g.D.Disk.state c.args.disk.now in
-    let mid = g.D.Disk.state c.write_retrieval_blocks-written.new.disk in
-    let core = core_of c.args.map.now in
-    let new = core_of c.make_current-current.new.core in
-    let puts = c.make_current-current.new.set in
-    let v = c.in-Some.version.now in
-    let there = some_of (pending_at core.pending c.args.key) c.requires.there in
-    let made_current = made_current_of s.size core.known.table.size core new c.args.key there.0 v puts
-    c.make_current-current.result c.requires.sound.whole.map.size_is (c.make_current-current.ensures there.0 there.1)
-    c.in-Some.ensures in
-    written_failed s mid core new c.args.key there.0 v puts c.requires.sound made_current
-    c.write_retrieval_blocks-written.ensures.same
+    let there = some_of (pending_at (core_of c.args.map.now).pending c.args.key) c.requires.there in
+    let made = made_current_of c.requires.sound (c.make_current-current.ensures there.0 there.1) c.in-Some.ensures in
+    written_failed c.requires.sound made c.write_retrieval_blocks-written.ensures.same
 
 pub returns-then-is_err-clause-crash : goal.returns-then-is_err-clause-crash
 returns-then-is_err-clause-crash g c h f rests p is body long has =
-    let s = g.D.Disk.state c.args.disk.now in
-    let mid = g.D.Disk.state c.write_retrieval_blocks-written.new.disk in
-    let core = core_of c.args.map.now in
-    let new = core_of c.make_current-current.new.core in
-    let puts = c.make_current-current.new.set in
-    let v = c.in-Some.version.now in
-    let made_current = made_current_of s.size core.known.table.size core new c.args.key p v puts
-    c.make_current-current.result c.requires.sound.whole.map.size_is (c.make_current-current.ensures p is)
-    c.in-Some.ensures in
-    written_crash s mid core new c.args.key p v puts c.requires.sound made_current
-    c.write_retrieval_blocks-written.ensures.same (c.write_retrieval_blocks-written.ensures.same.was_honest h)
-    (c.write_retrieval_blocks-written.ensures.modified h) f _ rests (λ d left. g.met.D.Disk.only_now c.args.disk.now d
-    (c.write_retrieval_blocks-written.ensures.same.was_honest h) left)
+    let made = made_current_of c.requires.sound (c.make_current-current.ensures p is) c.in-Some.ensures in
+    let same = c.write_retrieval_blocks-written.ensures.same in
+    written_crash c.requires.sound made same (same.was_honest h)
+    (c.write_retrieval_blocks-written.ensures.modified h) f _ rests
+    (λ d left. g.met.D.Disk.only_now c.args.disk.now d (same.was_honest h) left)
 
 pub returns-then-is_err-clause-readers : goal.returns-then-is_err-clause-readers
 returns-then-is_err-clause-readers g c h served = absurd (served refl)
@@ -135,152 +76,84 @@ returns-then-is_err-clause-writers g c h served = absurd (served refl)
 
 pub commit_puts-requires-clause-in_range : goal.commit_puts-requires-clause-in_range
 commit_puts-requires-clause-in_range g c =
-    let s = g.D.Disk.state c.args.disk.now in
-    let mid = g.D.Disk.state c.write_retrieval_blocks-written.new.disk in
-    let core = core_of c.args.map.now in
-    let new = core_of c.make_current-current.new.core in
-    let puts = c.make_current-current.new.set in
-    let v = c.in-Some.version.now in
-    let there = some_of (pending_at core.pending c.args.key) c.requires.there in
-    let made_current = made_current_of s.size core.known.table.size core new c.args.key there.0 v puts
-    c.make_current-current.result c.requires.sound.whole.map.size_is (c.make_current-current.ensures there.0 there.1)
-    c.in-Some.ensures in
-    subst (λ (n : ℕ). AllByRecursion (IsTarget n) (targets puts))
-    (sym c.write_retrieval_blocks-written.ensures.same.size)
-    (puts_in_range s.size core new c.args.key there.0 v puts c.requires.sound.whole made_current)
+    let there = some_of (pending_at (core_of c.args.map.now).pending c.args.key) c.requires.there in
+    let made = made_current_of c.requires.sound (c.make_current-current.ensures there.0 there.1) c.in-Some.ensures in
+    subst (λ (n : ℕ). AllByRecursion (IsTarget n) (targets c.make_current-current.new.set))
+    (sym c.write_retrieval_blocks-written.ensures.same.size) (puts_in_range c.requires.sound.whole made)
 
 pub returns-in-Ok-clause-sound : goal.returns-in-Ok-clause-sound
 returns-in-Ok-clause-sound g c =
-    let s = g.D.Disk.state c.args.disk.now in
-    let mid = g.D.Disk.state c.write_retrieval_blocks-written.new.disk in
     let s' = g.D.Disk.state c.commit_puts.new.disk in
-    let core = core_of c.args.map.now in
     let new = core_of c.make_current-current.new.core in
-    let puts = c.make_current-current.new.set in
-    let v = c.in-Some.version.now in
-    let there = some_of (pending_at core.pending c.args.key) c.requires.there in
-    let made_current = made_current_of s.size core.known.table.size core new c.args.key there.0 v puts
-    c.make_current-current.result c.requires.sound.whole.map.size_is (c.make_current-current.ensures there.0 there.1)
-    c.in-Some.ensures in
+    let there = some_of (pending_at (core_of c.args.map.now).pending c.args.key) c.requires.there in
+    let made = made_current_of c.requires.sound (c.make_current-current.ensures there.0 there.1) c.in-Some.ensures in
     subst (λ (b : Bool). IsSound s' new b) (sym c.requires.alive)
-    (committed_sound s mid s' core new c.args.key there.0 v puts c.requires.sound made_current
-    c.write_retrieval_blocks-written.ensures.same c.commit_puts.ensures.same
+    (committed_sound c.requires.sound made c.write_retrieval_blocks-written.ensures.same c.commit_puts.ensures.same
     c.write_retrieval_blocks-written.ensures.modified
-    (λ h. ok_is c.write_retrieval_blocks-written.result _ (sym c.is_err.ensures.value
-    ∙ c.if-is_err.false) (c.write_retrieval_blocks-written.ensures.written h))
+    (λ h. ok_is c.write_retrieval_blocks-written.result _ (sym c.is_err.ensures.value ∙ c.if-is_err.false)
+    (c.write_retrieval_blocks-written.ensures.written h))
     c.in-Ok.ensures.modified c.in-Ok.ensures.all c.in-Ok.ensures.settled c.in-Ok.ensures.shut)
 
 pub returns-in-Ok-clause-crash : goal.returns-in-Ok-clause-crash
 returns-in-Ok-clause-crash g c h f rests p is body long has =
-    let s = g.D.Disk.state c.args.disk.now in
-    let mid = g.D.Disk.state c.write_retrieval_blocks-written.new.disk in
-    let s' = g.D.Disk.state c.commit_puts.new.disk in
-    let core = core_of c.args.map.now in
-    let new = core_of c.make_current-current.new.core in
-    let puts = c.make_current-current.new.set in
-    let v = c.in-Some.version.now in
-    let made_current = made_current_of s.size core.known.table.size core new c.args.key p v puts
-    c.make_current-current.result c.requires.sound.whole.map.size_is (c.make_current-current.ensures p is)
-    c.in-Some.ensures in
+    let made = made_current_of c.requires.sound (c.make_current-current.ensures p is) c.in-Some.ensures in
+    let sound = c.requires.sound in
+    let same = c.write_retrieval_blocks-written.ensures.same in
+    let m = c.commit_puts.ensures.same.was_honest h in
+    let h₀ = same.was_honest m in
+    let modified = c.write_retrieval_blocks-written.ensures.modified m in
     let retrieved = ok_is c.write_retrieval_blocks-written.result _ (sym c.is_err.ensures.value ∙ c.if-is_err.false)
-    (c.write_retrieval_blocks-written.ensures.written (c.commit_puts.ensures.same.was_honest h)) in
-    let shut = mid_shut s mid core new c.args.key p v puts c.requires.sound made_current
-    c.write_retrieval_blocks-written.ensures.same
-    (c.write_retrieval_blocks-written.ensures.same.was_honest (c.commit_puts.ensures.same.was_honest h))
-    (c.write_retrieval_blocks-written.ensures.modified (c.commit_puts.ensures.same.was_honest h)) in
-    committed_crash s mid core new c.args.key p v puts c.requires.sound made_current
-    c.write_retrieval_blocks-written.ensures.same
-    (c.write_retrieval_blocks-written.ensures.same.was_honest (c.commit_puts.ensures.same.was_honest h))
-    (c.write_retrieval_blocks-written.ensures.modified (c.commit_puts.ensures.same.was_honest h)) retrieved
-    body long has s' (c.commit_puts.ensures.crash h shut) f rests (λ d left. g.met.D.Disk.only_now c.args.disk.now d
-    (c.write_retrieval_blocks-written.ensures.same.was_honest (c.commit_puts.ensures.same.was_honest h)) left)
+    (c.write_retrieval_blocks-written.ensures.written m) in
+    committed_crash sound made same h₀ modified retrieved body long has (g.D.Disk.state c.commit_puts.new.disk)
+    (c.commit_puts.ensures.crash h (mid_shut sound made same h₀ modified)) f rests
+    (λ d left. g.met.D.Disk.only_now c.args.disk.now d h₀ left)
 
 pub returns-in-Err-clause-crash : goal.returns-in-Err-clause-crash
 returns-in-Err-clause-crash g c h f rests p is body long has =
-    let s = g.D.Disk.state c.args.disk.now in
-    let mid = g.D.Disk.state c.write_retrieval_blocks-written.new.disk in
-    let s' = g.D.Disk.state c.commit_puts.new.disk in
-    let core = core_of c.args.map.now in
-    let new = core_of c.make_current-current.new.core in
-    let puts = c.make_current-current.new.set in
-    let v = c.in-Some.version.now in
-    let made_current = made_current_of s.size core.known.table.size core new c.args.key p v puts
-    c.make_current-current.result c.requires.sound.whole.map.size_is (c.make_current-current.ensures p is)
-    c.in-Some.ensures in
+    let made = made_current_of c.requires.sound (c.make_current-current.ensures p is) c.in-Some.ensures in
+    let sound = c.requires.sound in
+    let same = c.write_retrieval_blocks-written.ensures.same in
+    let m = c.commit_puts.ensures.same.was_honest h in
+    let h₀ = same.was_honest m in
+    let modified = c.write_retrieval_blocks-written.ensures.modified m in
     let retrieved = ok_is c.write_retrieval_blocks-written.result _ (sym c.is_err.ensures.value ∙ c.if-is_err.false)
-    (c.write_retrieval_blocks-written.ensures.written (c.commit_puts.ensures.same.was_honest h)) in
-    let shut = mid_shut s mid core new c.args.key p v puts c.requires.sound made_current
-    c.write_retrieval_blocks-written.ensures.same
-    (c.write_retrieval_blocks-written.ensures.same.was_honest (c.commit_puts.ensures.same.was_honest h))
-    (c.write_retrieval_blocks-written.ensures.modified (c.commit_puts.ensures.same.was_honest h)) in
-    committed_crash s mid core new c.args.key p v puts c.requires.sound made_current
-    c.write_retrieval_blocks-written.ensures.same
-    (c.write_retrieval_blocks-written.ensures.same.was_honest (c.commit_puts.ensures.same.was_honest h))
-    (c.write_retrieval_blocks-written.ensures.modified (c.commit_puts.ensures.same.was_honest h)) retrieved
-    body long has s' (c.commit_puts.ensures.crash h shut) f rests (λ d left. g.met.D.Disk.only_now c.args.disk.now d
-    (c.write_retrieval_blocks-written.ensures.same.was_honest (c.commit_puts.ensures.same.was_honest h)) left)
+    (c.write_retrieval_blocks-written.ensures.written m) in
+    committed_crash sound made same h₀ modified retrieved body long has (g.D.Disk.state c.commit_puts.new.disk)
+    (c.commit_puts.ensures.crash h (mid_shut sound made same h₀ modified)) f rests
+    (λ d left. g.met.D.Disk.only_now c.args.disk.now d h₀ left)
 
 pub returns-in-Ok-clause-done : goal.returns-in-Ok-clause-done
 returns-in-Ok-clause-done g c h f rests p is body long has =
-    let s = g.D.Disk.state c.args.disk.now in
-    let mid = g.D.Disk.state c.write_retrieval_blocks-written.new.disk in
-    let s' = g.D.Disk.state c.commit_puts.new.disk in
-    let core = core_of c.args.map.now in
-    let new = core_of c.make_current-current.new.core in
-    let puts = c.make_current-current.new.set in
-    let v = c.in-Some.version.now in
-    let made_current = made_current_of s.size core.known.table.size core new c.args.key p v puts
-    c.make_current-current.result c.requires.sound.whole.map.size_is (c.make_current-current.ensures p is)
-    c.in-Some.ensures in
-    let retrieved = ok_is c.write_retrieval_blocks-written.result _ (sym c.is_err.ensures.value
-    ∙ c.if-is_err.false) (c.write_retrieval_blocks-written.ensures.written (c.in-Ok.ensures.same.was_honest h)) in
-    let shut = mid_shut s mid core new c.args.key p v puts c.requires.sound made_current
-    c.write_retrieval_blocks-written.ensures.same
-    (c.write_retrieval_blocks-written.ensures.same.was_honest (c.in-Ok.ensures.same.was_honest h))
-    (c.write_retrieval_blocks-written.ensures.modified (c.in-Ok.ensures.same.was_honest h)) in
-    committed_done s mid core new c.args.key p v puts c.requires.sound made_current
-    c.write_retrieval_blocks-written.ensures.same
-    (c.write_retrieval_blocks-written.ensures.same.was_honest (c.in-Ok.ensures.same.was_honest h))
-    (c.write_retrieval_blocks-written.ensures.modified (c.in-Ok.ensures.same.was_honest h)) retrieved body
-    long has s' c.commit_puts.ensures.same (c.in-Ok.ensures.all h) (c.in-Ok.ensures.settled h)
-    (c.in-Ok.ensures.shut h shut) f rests
+    let made = made_current_of c.requires.sound (c.make_current-current.ensures p is) c.in-Some.ensures in
+    let sound = c.requires.sound in
+    let same = c.write_retrieval_blocks-written.ensures.same in
+    let m = c.in-Ok.ensures.same.was_honest h in
+    let h₀ = same.was_honest m in
+    let modified = c.write_retrieval_blocks-written.ensures.modified m in
+    let retrieved = ok_is c.write_retrieval_blocks-written.result _ (sym c.is_err.ensures.value ∙ c.if-is_err.false)
+    (c.write_retrieval_blocks-written.ensures.written m) in
+    committed_done sound made same h₀ modified retrieved body long has (g.D.Disk.state c.commit_puts.new.disk)
+    c.commit_puts.ensures.same (c.in-Ok.ensures.all h) (c.in-Ok.ensures.settled h)
+    (c.in-Ok.ensures.shut h (mid_shut sound made same h₀ modified)) f rests
 
 pub returns-in-Ok-clause-readers : goal.returns-in-Ok-clause-readers
 returns-in-Ok-clause-readers g c h served =
-    let s = g.D.Disk.state c.args.disk.now in
-    let mid = g.D.Disk.state c.write_retrieval_blocks-written.new.disk in
-    let s' = g.D.Disk.state c.commit_puts.new.disk in
-    let core = core_of c.args.map.now in
-    let new = core_of c.make_current-current.new.core in
-    let puts = c.make_current-current.new.set in
-    let v = c.in-Some.version.now in
-    let there = some_of (pending_at core.pending c.args.key) c.requires.there in
-    let made_current = made_current_of s.size core.known.table.size core new c.args.key there.0 v puts
-    c.make_current-current.result c.requires.sound.whole.map.size_is (c.make_current-current.ensures there.0 there.1)
-    c.in-Some.ensures in
-    committed_readers s mid core new c.args.key there.0 v puts c.requires.sound made_current
-    c.write_retrieval_blocks-written.ensures.same
-    (c.write_retrieval_blocks-written.ensures.same.was_honest (c.commit_puts.ensures.same.was_honest h))
-    (c.write_retrieval_blocks-written.ensures.modified (c.commit_puts.ensures.same.was_honest h)) s'
+    let there = some_of (pending_at (core_of c.args.map.now).pending c.args.key) c.requires.there in
+    let made = made_current_of c.requires.sound (c.make_current-current.ensures there.0 there.1) c.in-Some.ensures in
+    let same = c.write_retrieval_blocks-written.ensures.same in
+    let m = c.commit_puts.ensures.same.was_honest h in
+    committed_readers c.requires.sound made same (same.was_honest m)
+    (c.write_retrieval_blocks-written.ensures.modified m) (g.D.Disk.state c.commit_puts.new.disk)
     (c.in-Ok.ensures.modified h)
 
 pub returns-in-Ok-clause-writers : goal.returns-in-Ok-clause-writers
 returns-in-Ok-clause-writers g c h served k q other =
-    let s = g.D.Disk.state c.args.disk.now in
-    let mid = g.D.Disk.state c.write_retrieval_blocks-written.new.disk in
-    let s' = g.D.Disk.state c.commit_puts.new.disk in
-    let core = core_of c.args.map.now in
-    let new = core_of c.make_current-current.new.core in
-    let puts = c.make_current-current.new.set in
-    let v = c.in-Some.version.now in
-    let there = some_of (pending_at core.pending c.args.key) c.requires.there in
-    let made_current = made_current_of s.size core.known.table.size core new c.args.key there.0 v puts
-    c.make_current-current.result c.requires.sound.whole.map.size_is (c.make_current-current.ensures there.0 there.1)
-    c.in-Some.ensures in
-    committed_writers s mid core new c.args.key there.0 v puts c.requires.sound made_current
-    c.write_retrieval_blocks-written.ensures.same
-    (c.write_retrieval_blocks-written.ensures.same.was_honest (c.commit_puts.ensures.same.was_honest h))
-    (c.write_retrieval_blocks-written.ensures.modified (c.commit_puts.ensures.same.was_honest h)) s'
+    let there = some_of (pending_at (core_of c.args.map.now).pending c.args.key) c.requires.there in
+    let made = made_current_of c.requires.sound (c.make_current-current.ensures there.0 there.1) c.in-Some.ensures in
+    let same = c.write_retrieval_blocks-written.ensures.same in
+    let m = c.commit_puts.ensures.same.was_honest h in
+    committed_writers c.requires.sound made same (same.was_honest m)
+    (c.write_retrieval_blocks-written.ensures.modified m) (g.D.Disk.state c.commit_puts.new.disk)
     (c.in-Ok.ensures.modified h) k q
 
 pub returns-in-Err-clause-readers : goal.returns-in-Err-clause-readers
@@ -291,16 +164,6 @@ returns-in-Err-clause-writers g c h served = absurd (served refl)
 
 pub returns-in-Err-clause-sound : goal.returns-in-Err-clause-sound
 returns-in-Err-clause-sound g c =
-    let s = g.D.Disk.state c.args.disk.now in
-    let mid = g.D.Disk.state c.write_retrieval_blocks-written.new.disk in
-    let s' = g.D.Disk.state c.commit_puts.new.disk in
-    let core = core_of c.args.map.now in
-    let new = core_of c.make_current-current.new.core in
-    let puts = c.make_current-current.new.set in
-    let v = c.in-Some.version.now in
-    let there = some_of (pending_at core.pending c.args.key) c.requires.there in
-    let made_current = made_current_of s.size core.known.table.size core new c.args.key there.0 v puts
-    c.make_current-current.result c.requires.sound.whole.map.size_is (c.make_current-current.ensures there.0 there.1)
-    c.in-Some.ensures in
-    committed_failed s mid s' core new c.args.key there.0 v puts c.requires.sound made_current
-    c.write_retrieval_blocks-written.ensures.same c.commit_puts.ensures.same
+    let there = some_of (pending_at (core_of c.args.map.now).pending c.args.key) c.requires.there in
+    let made = made_current_of c.requires.sound (c.make_current-current.ensures there.0 there.1) c.in-Some.ensures in
+    committed_failed c.requires.sound made c.write_retrieval_blocks-written.ensures.same c.commit_puts.ensures.same

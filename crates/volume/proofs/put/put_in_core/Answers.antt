@@ -15,114 +15,91 @@ put_pending-requires-clause-ready g c p was = ready (g.D.Disk.state c.args.disk.
 pub returns-in-Err-Device-clause-sound : goal.returns-in-Err-Device-clause-sound
 returns-in-Err-Device-clause-sound g c =
     let s = g.D.Disk.state c.args.disk.now in
-    let s' = g.D.Disk.state c.put_pending.new.disk in
     let core = core_of c.args.map.now in
     let sound = subst (λ (b : Bool). IsSound s core b) c.if-failed.false c.requires.sound in
     let there = some_of (pending_at core.pending c.args.key) c.requires.live in
-    let p : PendingVersion = there.0 in
-    let grown = c.put_pending.ensures.grown p there.1 in
-    put_failed s s' core sound c.put_pending.ensures.same c.args.key p there.1 c.put_pending.new.table
-    c.put_pending.new.pending.slots grown.0 grown.1 c.put_pending.ensures.others
-    (λ h. c.put_pending.ensures.modified h p there.1)
+    let put = c.put_pending.ensures in
+    put_failed sound put.same c.args.key there.1 c.put_pending.new.pending.slots (put.grown there.0 there.1).1
+    put.others (λ h. put.modified h there.0 there.1)
 
 pub returns-in-Err-Device-clause-quiet : goal.returns-in-Err-Device-clause-quiet
 returns-in-Err-Device-clause-quiet g c h f rests =
     let s = g.D.Disk.state c.args.disk.now in
-    let s' = g.D.Disk.state c.put_pending.new.disk in
     let core = core_of c.args.map.now in
     let sound = subst (λ (b : Bool). IsSound s core b) c.if-failed.false c.requires.sound in
     let there = some_of (pending_at core.pending c.args.key) c.requires.live in
-    let p : PendingVersion = there.0 in
-    let grown = c.put_pending.ensures.grown p there.1 in
-    crash_finds s s' core sound c.put_pending.ensures.same c.args.key p there.1 c.put_pending.new.table
-    c.put_pending.new.pending.slots grown.0 grown.1 c.put_pending.ensures.others
-    (λ h. c.put_pending.ensures.modified h p there.1) h f rests
-    (λ d left. g.met.D.Disk.only_now c.args.disk.now d (c.put_pending.ensures.same.was_honest h) left)
+    let put = c.put_pending.ensures in
+    crash_finds sound put.same c.args.key there.1 c.put_pending.new.pending.slots (put.grown there.0 there.1).1
+    put.others (λ h. put.modified h there.0 there.1) h f rests
+    (λ d left. g.met.D.Disk.only_now c.args.disk.now d (put.same.was_honest h) left)
 
 pub returns-in-Err-clause-quiet : goal.returns-in-Err-clause-quiet
 returns-in-Err-clause-quiet g c h f rests =
     let s = g.D.Disk.state c.args.disk.now in
-    let s' = g.D.Disk.state c.put_pending.new.disk in
     let core = core_of c.args.map.now in
     let sound = subst (λ (b : Bool). IsSound s core b) c.if-failed.false c.requires.sound in
     let there = some_of (pending_at core.pending c.args.key) c.requires.live in
-    let p : PendingVersion = there.0 in
-    let grown = c.put_pending.ensures.grown p there.1 in
-    crash_finds s s' core sound c.put_pending.ensures.same c.args.key p there.1 c.put_pending.new.table
-    c.put_pending.new.pending.slots grown.0 grown.1 c.put_pending.ensures.others
-    (λ h. c.put_pending.ensures.modified h p there.1) h f rests
-    (λ d left. g.met.D.Disk.only_now c.args.disk.now d (c.put_pending.ensures.same.was_honest h) left)
+    let put = c.put_pending.ensures in
+    crash_finds sound put.same c.args.key there.1 c.put_pending.new.pending.slots (put.grown there.0 there.1).1
+    put.others (λ h. put.modified h there.0 there.1) h f rests
+    (λ d left. g.met.D.Disk.only_now c.args.disk.now d (put.same.was_honest h) left)
 
 pub returns-in-Ok-clause-quiet : goal.returns-in-Ok-clause-quiet
 returns-in-Ok-clause-quiet g c h f rests =
     let s = g.D.Disk.state c.args.disk.now in
-    let s' = g.D.Disk.state c.put_pending.new.disk in
     let core = core_of c.args.map.now in
     let sound = subst (λ (b : Bool). IsSound s core b) c.if-failed.false c.requires.sound in
     let there = some_of (pending_at core.pending c.args.key) c.requires.live in
-    let p : PendingVersion = there.0 in
-    let grown = c.put_pending.ensures.grown p there.1 in
-    crash_finds s s' core sound c.put_pending.ensures.same c.args.key p there.1 c.put_pending.new.table
-    c.put_pending.new.pending.slots grown.0 grown.1 c.put_pending.ensures.others
-    (λ h. c.put_pending.ensures.modified h p there.1) h f rests
-    (λ d left. g.met.D.Disk.only_now c.args.disk.now d (c.put_pending.ensures.same.was_honest h) left)
+    let put = c.put_pending.ensures in
+    crash_finds sound put.same c.args.key there.1 c.put_pending.new.pending.slots (put.grown there.0 there.1).1
+    put.others (λ h. put.modified h there.0 there.1) h f rests
+    (λ d left. g.met.D.Disk.only_now c.args.disk.now d (put.same.was_honest h) left)
 
 pub returns-in-Err-Device-clause-rests : goal.returns-in-Err-Device-clause-rests
 returns-in-Err-Device-clause-rests g c h f rests =
     let s = g.D.Disk.state c.args.disk.now in
-    let s' = g.D.Disk.state c.put_pending.new.disk in
     let core = core_of c.args.map.now in
     let sound = subst (λ (b : Bool). IsSound s core b) c.if-failed.false c.requires.sound in
     let there = some_of (pending_at core.pending c.args.key) c.requires.live in
-    let p : PendingVersion = there.0 in
-    let grown = c.put_pending.ensures.grown p there.1 in
-    rest_finds s s' core sound c.put_pending.ensures.same c.args.key p there.1 c.put_pending.new.table
-    c.put_pending.new.pending.slots grown.0 grown.1 c.put_pending.ensures.others
-    (λ h. c.put_pending.ensures.modified h p there.1) h f rests
+    let put = c.put_pending.ensures in
+    rest_finds sound put.same c.args.key there.1 c.put_pending.new.pending.slots (put.grown there.0 there.1).1
+    put.others (λ h. put.modified h there.0 there.1) h f rests
 
 pub returns-in-Ok-clause-rests : goal.returns-in-Ok-clause-rests
 returns-in-Ok-clause-rests g c h f rests =
     let s = g.D.Disk.state c.args.disk.now in
-    let s' = g.D.Disk.state c.put_pending.new.disk in
     let core = core_of c.args.map.now in
     let sound = subst (λ (b : Bool). IsSound s core b) c.if-failed.false c.requires.sound in
     let there = some_of (pending_at core.pending c.args.key) c.requires.live in
-    let p : PendingVersion = there.0 in
-    let grown = c.put_pending.ensures.grown p there.1 in
-    rest_finds s s' core sound c.put_pending.ensures.same c.args.key p there.1 c.put_pending.new.table
-    c.put_pending.new.pending.slots grown.0 grown.1 c.put_pending.ensures.others
-    (λ h. c.put_pending.ensures.modified h p there.1) h f rests
+    let put = c.put_pending.ensures in
+    rest_finds sound put.same c.args.key there.1 c.put_pending.new.pending.slots (put.grown there.0 there.1).1
+    put.others (λ h. put.modified h there.0 there.1) h f rests
 
 pub returns-in-Err-Device-clause-given_up : goal.returns-in-Err-Device-clause-given_up
 returns-in-Err-Device-clause-given_up g c gone =
     let s = g.D.Disk.state c.args.disk.now in
-    let s' = g.D.Disk.state c.put_pending.new.disk in
     let core = core_of c.args.map.now in
     let sound = subst (λ (b : Bool). IsSound s core b) c.if-failed.false c.requires.sound in
     let there = some_of (pending_at core.pending c.args.key) c.requires.live in
-    let p : PendingVersion = there.0 in
-    let grown = c.put_pending.ensures.grown p there.1 in
+    let put = c.put_pending.ensures in
     inr (λ h.
-    let bad = c.in-Err-Device.ensures.damaged h p there.1 gone in
-    none_damaged s.contents p.version
-    (sound.written (c.put_pending.ensures.same.was_honest h) refl c.args.key p there.1) bad.0 bad.1 bad.2)
+    let bad = c.in-Err-Device.ensures.damaged h there.0 there.1 gone in
+    none_damaged s.contents there.0.version
+    (sound.written (put.same.was_honest h) refl c.args.key there.0 there.1) bad.0 bad.1 bad.2)
 
 pub returns-in-Ok-clause-sound : goal.returns-in-Ok-clause-sound
 returns-in-Ok-clause-sound g c =
     let s = g.D.Disk.state c.args.disk.now in
-    let s' = g.D.Disk.state c.put_pending.new.disk in
     let core = core_of c.args.map.now in
     let sound = subst (λ (b : Bool). IsSound s core b) c.if-failed.false c.requires.sound in
     let there = some_of (pending_at core.pending c.args.key) c.requires.live in
-    let p : PendingVersion = there.0 in
-    let grown = c.put_pending.ensures.grown p there.1 in
+    let put = c.put_pending.ensures in
     let new = core_of
     (record c.args.map.now { pending = c.put_pending.new.pending; table = c.put_pending.new.table }) in
-    let put = c.in-Ok.ensures.put p there.1 in
-    subst (λ (b : Bool). IsSound s' new b) (sym c.if-failed.false)
-    (put_done s s' core sound c.put_pending.ensures.same c.args.key p there.1 c.put_pending.new.table
-    c.put_pending.new.pending.slots grown.0 grown.1 c.put_pending.ensures.others
-    (λ h. c.put_pending.ensures.modified h p there.1) put.0 c.args.block c.args.words.now put.1 put.2 put.3)
+    let done = c.in-Ok.ensures.put there.0 there.1 in
+    subst (λ (b : Bool). IsSound (g.D.Disk.state c.put_pending.new.disk) new b) (sym c.if-failed.false)
+    (put_done sound put.same c.args.key there.1 c.put_pending.new.pending.slots (put.grown there.0 there.1).1
+    put.others (λ h. put.modified h there.0 there.1) done.0 c.args.block c.args.words.now done.1 done.2 done.3)
 
 pub returns-in-Err-Device-clause-readers : goal.returns-in-Err-Device-clause-readers
 returns-in-Err-Device-clause-readers g c h =

@@ -7,8 +7,8 @@ use Rattle.meaning.proofs.MapLaws.{some_none, some_same}
 use Rattle.volume.proofs.LiveLookups.{as_many, kept_at, standing_at}
 use Rattle.volume.proofs.query.named_facts.Goals as goal
 
-pub index-requires : goal.index-requires
-index-requires c =
+pub at-requires : goal.at-requires
+at-requires c =
     let many = as_many c.args.versions.now.slots (map file_view c.args.directory.now.chain.entries)
     c.args.directory.now.keys.items c.requires.keyed in
     let same = length-map c.args.directory.now.chain.entries file_view in
@@ -20,8 +20,8 @@ unreachable-requires c =
     let same = length-map c.args.directory.now.chain.entries file_view in
     let within = c.in-Some.ensures.found.1.within in
     let there = kept_at c.args.versions.now.slots (map file_view c.args.directory.now.chain.entries)
-    c.args.directory.now.keys.items c.in-Some.i c.index.result.now c.index.result.now c.requires.keyed
-    (omega arith) c.index.ensures in
+    c.args.directory.now.keys.items c.in-Some.i c.at.result c.at.result c.requires.keyed
+    (omega arith) c.at.ensures in
     let none = c.in_default-get.is in some_none (sym there.1 ∙ sym c.get.ensures ∙ ap option_copied none)
 
 pub returns-clause-found : goal.returns-clause-found
@@ -29,15 +29,15 @@ returns-clause-found c =
     let same = length-map c.args.directory.now.chain.entries file_view in
     let within = c.in-Some.ensures.found.1.within in
     let there = kept_at c.args.versions.now.slots (map file_view c.args.directory.now.chain.entries)
-    c.args.directory.now.keys.items c.in-Some.i c.index.result.now c.index.result.now c.requires.keyed
-    (omega arith) c.index.ensures in
+    c.args.directory.now.keys.items c.in-Some.i c.at.result c.at.result c.requires.keyed
+    (omega arith) c.at.ensures in
     let at = c.in-Some.ensures.found in
     let live = c.in-Some-get.live.now in
-    let is : slot c.args.versions.now.slots c.index.result.now ≡ Some live = sym c.get.ensures
+    let is : slot c.args.versions.now.slots c.at.result ≡ Some live = sym c.get.ensures
     ∙ ap option_copied c.in-Some-get.is in
     let is_live : there.0 ≡ live = some_same (sym there.1 ∙ is) in
     let whole : IsWholeVersion (as_known live) = standing_at (λ v. IsWholeVersion (as_known v))
-    c.args.versions.now.slots c.index.result.now live c.requires.standing is in
+    c.args.versions.now.slots c.at.result live c.requires.standing is in
     record {
       place = c.in-Some.i;
       prime = at.0;

@@ -8,7 +8,7 @@ use Rattle.volume.specs.LiveCores.{live_directory}
 use Rattle.volume.specs.declared.live.LiveMap.{LiveMap}
 use Rattle.volume.proofs.Arriving.{known_here, directory_here, as_many_keys, known_fit, chain_booked, chain_room}
 use Rattle.volume.proofs.Arriving.{grown_free, use_held, use_clear, takes_for, arrives}
-use Rattle.volume.proofs.MakingCurrent.{index_is, place_within, directory_there}
+use Rattle.volume.proofs.MakingCurrent.{directory_there, directory_read}
 use Rattle.volume.proofs.rename_across.arrive.Goals as goal
 
 pub growth_at-more-requires-clause-few : goal.growth_at-more-requires-clause-few
@@ -29,9 +29,10 @@ take_for_chain-grown-requires-clause-used c =
     let known = known_here m c.requires.whole ppn place stands.0 stands.1 d.0 d.1 in
     let there = directory_here m c.requires.whole ppn place stands.0 stands.1 d.0 d.1 in
     let dk = live_directory m.versions.slots d.0 in
-    chain_booked m c.requires.whole ppn place stands.0 stands.1 d.0 d.1 c.args.name.now (c.requires.free dk there)
-    c.takes_block-grows.result (c.takes_block-grows.ensures d.0 d.1) c.growth_at-more.result
-    (c.growth_at-more.ensures.value dk known) (c.requires.room dk there) c.book.new.self c.book.ensures
+    chain_booked m c.requires.whole ppn place stands.0 stands.1 d.0 d.1 c.args.name.now
+    (c.requires.may_arrive.free dk there) c.takes_block-grows.result (c.takes_block-grows.ensures d.0 d.1)
+    c.growth_at-more.result (c.growth_at-more.ensures.value dk known) (c.requires.may_arrive.room dk there)
+    c.book.new.self c.book.ensures
 
 pub take_for_chain-grown-requires-clause-room : goal.take_for_chain-grown-requires-clause-room
 take_for_chain-grown-requires-clause-room c =
@@ -43,9 +44,10 @@ take_for_chain-grown-requires-clause-room c =
     let known = known_here m c.requires.whole ppn place stands.0 stands.1 d.0 d.1 in
     let there = directory_here m c.requires.whole ppn place stands.0 stands.1 d.0 d.1 in
     let dk = live_directory m.versions.slots d.0 in
-    chain_room m c.requires.whole ppn place stands.0 stands.1 d.0 d.1 c.args.name.now (c.requires.free dk there)
-    c.takes_block-grows.result (c.takes_block-grows.ensures d.0 d.1) c.growth_at-more.result
-    (c.growth_at-more.ensures.value dk known) (c.requires.room dk there) c.book.new.self c.book.ensures
+    chain_room m c.requires.whole ppn place stands.0 stands.1 d.0 d.1 c.args.name.now
+    (c.requires.may_arrive.free dk there) c.takes_block-grows.result (c.takes_block-grows.ensures d.0 d.1)
+    c.growth_at-more.result (c.growth_at-more.ensures.value dk known) (c.requires.may_arrive.room dk there)
+    c.book.new.self c.book.ensures
 
 pub put_entry-requires-clause-reserve : goal.put_entry-requires-clause-reserve
 put_entry-requires-clause-reserve c =
@@ -53,10 +55,9 @@ put_entry-requires-clause-reserve c =
     let place = c.place_of-place.result in
     let stands = c.place_of-place.ensures in
     let d = c.index_mut.result.now in
-    let at = index_is m.directories.items place d _ (place_within m c.requires.whole c.args.ppn place stands.0 stands.1)
-    c.index_mut.ensures.value in
+    let at = directory_read m c.requires.whole stands.1 _ c.index_mut.ensures.value in
     subst (λ name. IsReserve name_cmp (viewed file_view d.chain) name c.args.supplies.reserve)
-    (sym c.file_entry-entry.ensures.name) (c.requires.fits d place stands.0 stands.1 at).0
+    (sym c.file_entry-entry.ensures.name) (c.requires.may_arrive.fits d place stands.0 stands.1 at).0
 
 pub put_entry-requires-clause-keys : goal.put_entry-requires-clause-keys
 put_entry-requires-clause-keys c absent =
@@ -64,9 +65,8 @@ put_entry-requires-clause-keys c absent =
     let place = c.place_of-place.result in
     let stands = c.place_of-place.ensures in
     let d = c.index_mut.result.now in
-    let at = index_is m.directories.items place d _ (place_within m c.requires.whole c.args.ppn place stands.0 stands.1)
-    c.index_mut.ensures.value in
-    (0, (c.requires.fits d place stands.0 stands.1 at).1)
+    let at = directory_read m c.requires.whole stands.1 _ c.index_mut.ensures.value in
+    (c.requires.may_arrive.fits d place stands.0 stands.1 at).1
 
 pub put_entry-requires-clause-grown : goal.put_entry-requires-clause-grown
 put_entry-requires-clause-grown c =
@@ -75,14 +75,13 @@ put_entry-requires-clause-grown c =
     let place = c.place_of-place.result in
     let stands = c.place_of-place.ensures in
     let d = c.index_mut.result.now in
-    let at = index_is m.directories.items place d _ (place_within m c.requires.whole ppn place stands.0 stands.1)
-    c.index_mut.ensures.value in
+    let at = directory_read m c.requires.whole stands.1 _ c.index_mut.ensures.value in
     let known = known_here m c.requires.whole ppn place stands.0 stands.1 d at in
     let there = directory_here m c.requires.whole ppn place stands.0 stands.1 d at in
     let dk = live_directory m.versions.slots d in
-    grown_free m c.requires.whole ppn place stands.0 stands.1 d at c.args.name.now (c.requires.free dk there)
+    grown_free m c.requires.whole ppn place stands.0 stands.1 d at c.args.name.now (c.requires.may_arrive.free dk there)
     c.takes_block-grows.result (c.takes_block-grows.ensures d at) c.growth_at-more.result
-    (c.growth_at-more.ensures.value dk known) (c.requires.room dk there) c.booked-booked.ensures.sound
+    (c.growth_at-more.ensures.value dk known) (c.requires.may_arrive.room dk there) c.booked-booked.ensures.sound
     c.book.new.self c.book.ensures c.take_for_chain-grown.result c.take_for_chain-grown.ensures.count
     c.take_for_chain-grown.new.table c.take_for_chain-grown.ensures.taken c.file_entry-entry.result.name
     c.file_entry-entry.ensures.name
@@ -93,8 +92,7 @@ put_entry-requires-clause-aligned c =
     let place = c.place_of-place.result in
     let stands = c.place_of-place.ensures in
     let d = c.index_mut.result.now in
-    let at = index_is m.directories.items place d _ (place_within m c.requires.whole c.args.ppn place stands.0 stands.1)
-    c.index_mut.ensures.value in
+    let at = directory_read m c.requires.whole stands.1 _ c.index_mut.ensures.value in
     as_many_keys m c.requires.whole c.args.ppn place stands.0 stands.1 d at
 
 pub use_grown-requires-clause-sound : goal.use_grown-requires-clause-sound
@@ -104,14 +102,13 @@ use_grown-requires-clause-sound c =
     let place = c.place_of-place.result in
     let stands = c.place_of-place.ensures in
     let d = c.index_mut.result.now in
-    let at = index_is m.directories.items place d _ (place_within m c.requires.whole ppn place stands.0 stands.1)
-    c.index_mut.ensures.value in
+    let at = directory_read m c.requires.whole stands.1 _ c.index_mut.ensures.value in
     let known = known_here m c.requires.whole ppn place stands.0 stands.1 d at in
     let there = directory_here m c.requires.whole ppn place stands.0 stands.1 d at in
     let dk = live_directory m.versions.slots d in
-    (takes_for m c.requires.whole ppn place stands.0 stands.1 d at c.args.name.now (c.requires.free dk there)
+    (takes_for m c.requires.whole ppn place stands.0 stands.1 d at c.args.name.now (c.requires.may_arrive.free dk there)
     c.takes_block-grows.result (c.takes_block-grows.ensures d at) c.growth_at-more.result
-    (c.growth_at-more.ensures.value dk known) (c.requires.room dk there) c.booked-booked.ensures.sound
+    (c.growth_at-more.ensures.value dk known) (c.requires.may_arrive.room dk there) c.booked-booked.ensures.sound
     c.book.new.self c.book.ensures c.take_for_chain-grown.result c.take_for_chain-grown.ensures.count
     c.take_for_chain-grown.new.table c.take_for_chain-grown.ensures.taken).marks.sound
 
@@ -122,14 +119,13 @@ use_grown-requires-clause-held c =
     let place = c.place_of-place.result in
     let stands = c.place_of-place.ensures in
     let d = c.index_mut.result.now in
-    let at = index_is m.directories.items place d _ (place_within m c.requires.whole ppn place stands.0 stands.1)
-    c.index_mut.ensures.value in
+    let at = directory_read m c.requires.whole stands.1 _ c.index_mut.ensures.value in
     let known = known_here m c.requires.whole ppn place stands.0 stands.1 d at in
     let there = directory_here m c.requires.whole ppn place stands.0 stands.1 d at in
     let dk = live_directory m.versions.slots d in
-    use_held m c.requires.whole ppn place stands.0 stands.1 d at c.args.name.now (c.requires.free dk there)
+    use_held m c.requires.whole ppn place stands.0 stands.1 d at c.args.name.now (c.requires.may_arrive.free dk there)
     c.takes_block-grows.result (c.takes_block-grows.ensures d at) c.growth_at-more.result
-    (c.growth_at-more.ensures.value dk known) (c.requires.room dk there) c.booked-booked.ensures.sound
+    (c.growth_at-more.ensures.value dk known) (c.requires.may_arrive.room dk there) c.booked-booked.ensures.sound
     c.book.new.self c.book.ensures c.take_for_chain-grown.result c.take_for_chain-grown.ensures.count
     c.take_for_chain-grown.new.table c.take_for_chain-grown.ensures.taken
 
@@ -140,14 +136,13 @@ use_grown-requires-clause-clear c =
     let place = c.place_of-place.result in
     let stands = c.place_of-place.ensures in
     let d = c.index_mut.result.now in
-    let at = index_is m.directories.items place d _ (place_within m c.requires.whole ppn place stands.0 stands.1)
-    c.index_mut.ensures.value in
+    let at = directory_read m c.requires.whole stands.1 _ c.index_mut.ensures.value in
     let known = known_here m c.requires.whole ppn place stands.0 stands.1 d at in
     let there = directory_here m c.requires.whole ppn place stands.0 stands.1 d at in
     let dk = live_directory m.versions.slots d in
-    use_clear m c.requires.whole ppn place stands.0 stands.1 d at c.args.name.now (c.requires.free dk there)
+    use_clear m c.requires.whole ppn place stands.0 stands.1 d at c.args.name.now (c.requires.may_arrive.free dk there)
     c.takes_block-grows.result (c.takes_block-grows.ensures d at) c.growth_at-more.result
-    (c.growth_at-more.ensures.value dk known) (c.requires.room dk there) c.booked-booked.ensures.sound
+    (c.growth_at-more.ensures.value dk known) (c.requires.may_arrive.room dk there) c.booked-booked.ensures.sound
     c.book.new.self c.book.ensures c.take_for_chain-grown.result c.take_for_chain-grown.ensures.count
     c.take_for_chain-grown.new.table c.take_for_chain-grown.ensures.taken
 
@@ -159,8 +154,7 @@ returns c =
     let stands = c.place_of-place.ensures in
     let d = c.index_mut.result.now in
     let d' = c.put_entry.new.directory in
-    let at = index_is m.directories.items place d _ (place_within m c.requires.whole ppn place stands.0 stands.1)
-    c.index_mut.ensures.value in
+    let at = directory_read m c.requires.whole stands.1 _ c.index_mut.ensures.value in
     let known = known_here m c.requires.whole ppn place stands.0 stands.1 d at in
     let there = directory_here m c.requires.whole ppn place stands.0 stands.1 d at in
     let dk = live_directory m.versions.slots d in
@@ -172,9 +166,9 @@ returns c =
       pending = m.pending;
       table = c.use_grown.new.table;
     } in
-    arrives m c.requires.whole ppn place stands.0 stands.1 d at c.args.name.now (c.requires.free dk there)
+    arrives m c.requires.whole ppn place stands.0 stands.1 d at c.args.name.now (c.requires.may_arrive.free dk there)
     c.takes_block-grows.result (c.takes_block-grows.ensures d at) c.growth_at-more.result
-    (c.growth_at-more.ensures.value dk known) (c.requires.room dk there) c.booked-booked.ensures.sound
+    (c.growth_at-more.ensures.value dk known) (c.requires.may_arrive.room dk there) c.booked-booked.ensures.sound
     c.book.new.self c.book.ensures c.take_for_chain-grown.result c.take_for_chain-grown.ensures.count
     c.take_for_chain-grown.new.table c.take_for_chain-grown.ensures.taken
     c.args.key c.prime_of.result c.prime_of.ensures c.file_entry-entry.result.name c.file_entry-entry.ensures.name

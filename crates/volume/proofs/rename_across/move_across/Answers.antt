@@ -1,17 +1,13 @@
-use Rattle.std.proofs.Common.{ℕ, ◌<◌, ◌≤◌, Bool, length, sym, ap, subst, ◌∙◌}
-use Rattle.std.specs.List.{AllByRecursion}
-use Rattle.meaning.specs.Log.{IsTarget, targets}
-use Rattle.meaning.specs.Regions.{log_images}
-use Rattle.volume.specs.Live.{as_known}
+use Rattle.std.proofs.Common.{ℕ, ◌<◌, Bool, sym, ap, subst, ◌∙◌}
 use Rattle.volume.specs.LiveCores.{core_of}
 use Rattle.volume.specs.Moving.{MovesAcross}
 use Rattle.volume.specs.Rest.{IsSound}
 use Rattle.volume.specs.declared.error.CallError.TheVariants.{Failed}
 use Rattle.volume.proofs.MakingDirectories.{err_on}
-use Rattle.volume.proofs.MovingLaw.{moved_across_in_range, moved_across_few}
-use Rattle.volume.proofs.MovingTransactions.{across_readers, across_writers, across_crash, across_done, across_failed}
-use Rattle.volume.proofs.MovingTransactions.{across_sound, across_held}
-use Rattle.volume.proofs.RenamingTransactions.{first_below, first_inside, prime_stands, read_crash, read_shut}
+use Rattle.volume.proofs.MovingTransactions.{across_move}
+use Rattle.volume.proofs.RenamingTransactions.{first_below, prime_stands, read_crash, read_shut, move_in_range}
+use Rattle.volume.proofs.RenamingTransactions.{move_few, move_readers, move_writers, move_crash, move_done, move_sound}
+use Rattle.volume.proofs.RenamingTransactions.{move_failed, move_held}
 use Rattle.volume.proofs.rename_across.move_across.Goals as goal
 
 pub read_prime-requires : goal.read_prime-requires
@@ -48,76 +44,38 @@ returns-in-Err-clause-given_up g c is h =
 
 pub commit_puts-requires-clause-in_range : goal.commit_puts-requires-clause-in_range
 commit_puts-requires-clause-in_range g c =
-    let s = g.D.Disk.state c.args.disk.now in
-    let mid = g.D.Disk.state c.read_prime.new.disk in
-    let core = core_of c.args.core.now in
-    let new = core_of c.move_to_directory.new.core in
-    let puts = c.move_to_directory.new.set in
-    let v = c.move_to_directory.ensures.0 in
-    let words = c.in-Ok.words in
-    let moves = subst (λ (n : ℕ). MovesAcross n core new c.args.ppn c.args.name.now c.args.to_ppn c.args.to.now
-    c.args.protection c.args.key v words puts) c.requires.sound.whole.map.size_is c.move_to_directory.ensures.1 in
-    let same = c.read_prime.ensures.same in
-    subst (λ (n : ℕ). AllByRecursion (IsTarget n) (targets puts)) (sym same.size)
-    (moved_across_in_range s.size core.known new.known c.args.ppn c.args.name.now c.args.to_ppn c.args.to.now
-    (v.at, as_known v) (record { prime = moves.prime; version = v.version }) words puts
-    c.requires.sound.whole.map moves.moved
-    (first_inside s.size core c.requires.sound.whole c.args.key v moves.there moves.current
-    c.booked-booked.ensures.sound))
+    let move = across_move c.requires.sound c.move_to_directory.ensures.1 c.requires.protection c.requires.unclaimed in
+    move_in_range c.requires.sound move c.read_prime.ensures.same c.booked-booked.ensures.sound
 
 pub commit_puts-requires-clause-few : goal.commit_puts-requires-clause-few
 commit_puts-requires-clause-few g c =
-    let s = g.D.Disk.state c.args.disk.now in
-    let mid = g.D.Disk.state c.read_prime.new.disk in
-    let core = core_of c.args.core.now in
-    let new = core_of c.move_to_directory.new.core in
-    let puts = c.move_to_directory.new.set in
-    let v = c.move_to_directory.ensures.0 in
-    let words = c.in-Ok.words in
-    let moves = subst (λ (n : ℕ). MovesAcross n core new c.args.ppn c.args.name.now c.args.to_ppn c.args.to.now
-    c.args.protection c.args.key v words puts) c.requires.sound.whole.map.size_is c.move_to_directory.ensures.1 in
-    let same = c.read_prime.ensures.same in
-    subst (λ (n : ℕ). length puts ≤ log_images n) (sym same.size)
-    (moved_across_few s.size core.known new.known c.args.ppn c.args.name.now c.args.to_ppn c.args.to.now
-    (v.at, as_known v) (record { prime = moves.prime; version = v.version }) words puts
-    c.requires.sound.whole.map moves.moved)
+    let move = across_move c.requires.sound c.move_to_directory.ensures.1 c.requires.protection c.requires.unclaimed in
+    move_few c.requires.sound move c.read_prime.ensures.same
 
 pub returns-in-Ok-commit_puts-clause-sound : goal.returns-in-Ok-commit_puts-clause-sound
 returns-in-Ok-commit_puts-clause-sound g c =
     let s = g.D.Disk.state c.args.disk.now in
-    let mid = g.D.Disk.state c.read_prime.new.disk in
-    let core = core_of c.args.core.now in
-    let new = core_of c.move_to_directory.new.core in
-    let puts = c.move_to_directory.new.set in
-    let v = c.move_to_directory.ensures.0 in
-    let words = c.in-Ok.words in
-    let moves = subst (λ (n : ℕ). MovesAcross n core new c.args.ppn c.args.name.now c.args.to_ppn c.args.to.now
-    c.args.protection c.args.key v words puts) c.requires.sound.whole.map.size_is c.move_to_directory.ensures.1 in
-    let same = c.read_prime.ensures.same in
     let s' = g.D.Disk.state c.commit_puts.new.disk in
-    subst (λ (b : Bool). IsSound s' new b) (sym c.requires.alive)
-    (across_sound s mid core new c.args.ppn c.args.name.now c.args.to_ppn c.args.to.now c.args.protection
-    c.args.key v words puts c.requires.sound moves c.requires.protection c.requires.unclaimed same s'
-    c.commit_puts.ensures.same
-    c.read_prime.ensures.keeps
-    (λ m. (ap s.contents (sym (c.prime_of-at.ensures v moves.there)) ∙ c.in-Ok.ensures.words m))
-    c.in-Ok-commit_puts.ensures.modified c.in-Ok-commit_puts.ensures.all c.in-Ok-commit_puts.ensures.settled
-    c.in-Ok-commit_puts.ensures.shut)
+    let move = across_move c.requires.sound c.move_to_directory.ensures.1 c.requires.protection c.requires.unclaimed in
+    let done = c.in-Ok-commit_puts.ensures in
+    subst (λ (b : Bool). IsSound s' (core_of c.move_to_directory.new.core) b) (sym c.requires.alive)
+    (move_sound c.requires.sound move c.read_prime.ensures.same s' c.commit_puts.ensures.same c.read_prime.ensures.keeps
+    (λ m. ap s.contents (sym (c.prime_of-at.ensures c.move_to_directory.ensures.0 move.there))
+    ∙ c.in-Ok.ensures.words m)
+    done.modified done.all done.settled done.shut)
 
 pub returns-in-Ok-commit_puts-clause-moved : goal.returns-in-Ok-commit_puts-clause-moved
 returns-in-Ok-commit_puts-clause-moved g c =
     let s = g.D.Disk.state c.args.disk.now in
-    let mid = g.D.Disk.state c.read_prime.new.disk in
+    let v = c.move_to_directory.ensures.0 in
     let core = core_of c.args.core.now in
     let new = core_of c.move_to_directory.new.core in
     let puts = c.move_to_directory.new.set in
-    let v = c.move_to_directory.ensures.0 in
-    let words = c.in-Ok.words in
     let moves = subst (λ (n : ℕ). MovesAcross n core new c.args.ppn c.args.name.now c.args.to_ppn c.args.to.now
-    c.args.protection c.args.key v words puts) c.requires.sound.whole.map.size_is c.move_to_directory.ensures.1 in
-    let same = c.read_prime.ensures.same in (
+    c.args.protection c.args.key v c.in-Ok.words puts) c.requires.sound.whole.map.size_is c.move_to_directory.ensures.1
+    in (
       v,
-      words,
+      c.in-Ok.words,
       puts,
       moves,
       λ h. ap s.contents (sym (c.prime_of-at.ensures v moves.there))
@@ -125,148 +83,79 @@ returns-in-Ok-commit_puts-clause-moved g c =
     )
 
 pub returns-in-Ok-commit_puts-clause-held : goal.returns-in-Ok-commit_puts-clause-held
-returns-in-Ok-commit_puts-clause-held g c k u at =
-    let s = g.D.Disk.state c.args.disk.now in
-    let mid = g.D.Disk.state c.read_prime.new.disk in
-    let core = core_of c.args.core.now in
-    let new = core_of c.move_to_directory.new.core in
-    let puts = c.move_to_directory.new.set in
-    let v = c.move_to_directory.ensures.0 in
-    let words = c.in-Ok.words in
-    let moves = subst (λ (n : ℕ). MovesAcross n core new c.args.ppn c.args.name.now c.args.to_ppn c.args.to.now
-    c.args.protection c.args.key v words puts) c.requires.sound.whole.map.size_is c.move_to_directory.ensures.1 in
-    let same = c.read_prime.ensures.same in
-    across_held s mid core new c.args.ppn c.args.name.now c.args.to_ppn c.args.to.now c.args.protection
-    c.args.key v words puts c.requires.sound moves c.requires.protection c.requires.unclaimed same k u at
+returns-in-Ok-commit_puts-clause-held g c =
+    let move = across_move c.requires.sound c.move_to_directory.ensures.1 c.requires.protection c.requires.unclaimed in
+    move_held c.requires.sound move c.read_prime.ensures.same
 
 pub returns-in-Ok-commit_puts-clause-crash : goal.returns-in-Ok-commit_puts-clause-crash
 returns-in-Ok-commit_puts-clause-crash g c h f rests =
     let s = g.D.Disk.state c.args.disk.now in
     let mid = g.D.Disk.state c.read_prime.new.disk in
-    let core = core_of c.args.core.now in
-    let new = core_of c.move_to_directory.new.core in
-    let puts = c.move_to_directory.new.set in
-    let v = c.move_to_directory.ensures.0 in
-    let words = c.in-Ok.words in
-    let moves = subst (λ (n : ℕ). MovesAcross n core new c.args.ppn c.args.name.now c.args.to_ppn c.args.to.now
-    c.args.protection c.args.key v words puts) c.requires.sound.whole.map.size_is c.move_to_directory.ensures.1 in
+    let sound = c.requires.sound in
+    let move = across_move sound c.move_to_directory.ensures.1 c.requires.protection c.requires.unclaimed in
     let same = c.read_prime.ensures.same in
-    let s' = g.D.Disk.state c.commit_puts.new.disk in
     let m = c.commit_puts.ensures.same.was_honest h in
     let h₀ = same.was_honest m in
     let keeps = c.read_prime.ensures.keeps m in
-    across_crash s mid core new c.args.ppn c.args.name.now c.args.to_ppn c.args.to.now c.args.protection
-    c.args.key v words puts c.requires.sound moves c.requires.protection c.requires.unclaimed same h₀ keeps
-    (ap s.contents (sym (c.prime_of-at.ensures v moves.there)) ∙ c.in-Ok.ensures.words m) s'
-    (c.commit_puts.ensures.crash h (read_shut s mid core c.requires.sound same h₀ keeps)) f rests
+    move_crash sound move same h₀ keeps
+    (ap s.contents (sym (c.prime_of-at.ensures c.move_to_directory.ensures.0 move.there)) ∙ c.in-Ok.ensures.words m)
+    (g.D.Disk.state c.commit_puts.new.disk)
+    (c.commit_puts.ensures.crash h (read_shut s mid (core_of c.args.core.now) sound same h₀ keeps)) f rests
     (λ d left. g.met.D.Disk.only_now c.args.disk.now d h₀ left)
 
 pub returns-in-Ok-commit_puts-clause-done : goal.returns-in-Ok-commit_puts-clause-done
 returns-in-Ok-commit_puts-clause-done g c h f rests =
     let s = g.D.Disk.state c.args.disk.now in
     let mid = g.D.Disk.state c.read_prime.new.disk in
-    let core = core_of c.args.core.now in
-    let new = core_of c.move_to_directory.new.core in
-    let puts = c.move_to_directory.new.set in
-    let v = c.move_to_directory.ensures.0 in
-    let words = c.in-Ok.words in
-    let moves = subst (λ (n : ℕ). MovesAcross n core new c.args.ppn c.args.name.now c.args.to_ppn c.args.to.now
-    c.args.protection c.args.key v words puts) c.requires.sound.whole.map.size_is c.move_to_directory.ensures.1 in
+    let sound = c.requires.sound in
+    let move = across_move sound c.move_to_directory.ensures.1 c.requires.protection c.requires.unclaimed in
     let same = c.read_prime.ensures.same in
-    let s' = g.D.Disk.state c.commit_puts.new.disk in
     let m = c.commit_puts.ensures.same.was_honest h in
     let h₀ = same.was_honest m in
     let keeps = c.read_prime.ensures.keeps m in
-    across_done s mid core new c.args.ppn c.args.name.now c.args.to_ppn c.args.to.now c.args.protection
-    c.args.key v words puts c.requires.sound moves c.requires.protection c.requires.unclaimed same h₀ keeps
-    (ap s.contents (sym (c.prime_of-at.ensures v moves.there)) ∙ c.in-Ok.ensures.words m) s' c.commit_puts.ensures.same
-    (c.in-Ok-commit_puts.ensures.all h) (c.in-Ok-commit_puts.ensures.settled h)
-    (c.in-Ok-commit_puts.ensures.shut h (read_shut s mid core c.requires.sound same h₀ keeps)) f rests
+    move_done sound move same h₀ keeps
+    (ap s.contents (sym (c.prime_of-at.ensures c.move_to_directory.ensures.0 move.there)) ∙ c.in-Ok.ensures.words m)
+    (g.D.Disk.state c.commit_puts.new.disk) c.commit_puts.ensures.same (c.in-Ok-commit_puts.ensures.all h)
+    (c.in-Ok-commit_puts.ensures.settled h)
+    (c.in-Ok-commit_puts.ensures.shut h (read_shut s mid (core_of c.args.core.now) sound same h₀ keeps)) f rests
 
 pub returns-in-Ok-commit_puts-clause-readers : goal.returns-in-Ok-commit_puts-clause-readers
 returns-in-Ok-commit_puts-clause-readers g c h served =
-    let s = g.D.Disk.state c.args.disk.now in
-    let mid = g.D.Disk.state c.read_prime.new.disk in
-    let core = core_of c.args.core.now in
-    let new = core_of c.move_to_directory.new.core in
-    let puts = c.move_to_directory.new.set in
-    let v = c.move_to_directory.ensures.0 in
-    let words = c.in-Ok.words in
-    let moves = subst (λ (n : ℕ). MovesAcross n core new c.args.ppn c.args.name.now c.args.to_ppn c.args.to.now
-    c.args.protection c.args.key v words puts) c.requires.sound.whole.map.size_is c.move_to_directory.ensures.1 in
-    let same = c.read_prime.ensures.same in
-    let s' = g.D.Disk.state c.commit_puts.new.disk in
-    across_readers s mid core new c.args.ppn c.args.name.now c.args.to_ppn c.args.to.now c.args.protection
-    c.args.key v words puts c.requires.sound moves c.requires.protection c.requires.unclaimed same
-    (c.read_prime.ensures.keeps (c.commit_puts.ensures.same.was_honest h)) s' (c.in-Ok-commit_puts.ensures.modified h)
+    let move = across_move c.requires.sound c.move_to_directory.ensures.1 c.requires.protection c.requires.unclaimed in
+    move_readers c.requires.sound move c.read_prime.ensures.same
+    (c.read_prime.ensures.keeps (c.commit_puts.ensures.same.was_honest h)) (g.D.Disk.state c.commit_puts.new.disk)
+    (c.in-Ok-commit_puts.ensures.modified h)
 
 pub returns-in-Ok-commit_puts-clause-writers : goal.returns-in-Ok-commit_puts-clause-writers
 returns-in-Ok-commit_puts-clause-writers g c h served =
-    let s = g.D.Disk.state c.args.disk.now in
-    let mid = g.D.Disk.state c.read_prime.new.disk in
-    let core = core_of c.args.core.now in
-    let new = core_of c.move_to_directory.new.core in
-    let puts = c.move_to_directory.new.set in
-    let v = c.move_to_directory.ensures.0 in
-    let words = c.in-Ok.words in
-    let moves = subst (λ (n : ℕ). MovesAcross n core new c.args.ppn c.args.name.now c.args.to_ppn c.args.to.now
-    c.args.protection c.args.key v words puts) c.requires.sound.whole.map.size_is c.move_to_directory.ensures.1 in
-    let same = c.read_prime.ensures.same in
-    let s' = g.D.Disk.state c.commit_puts.new.disk in
-    across_writers s mid core new c.args.ppn c.args.name.now c.args.to_ppn c.args.to.now c.args.protection
-    c.args.key v words puts c.requires.sound moves c.requires.protection c.requires.unclaimed same
-    (c.read_prime.ensures.keeps (c.commit_puts.ensures.same.was_honest h)) s' (c.in-Ok-commit_puts.ensures.modified h)
+    let move = across_move c.requires.sound c.move_to_directory.ensures.1 c.requires.protection c.requires.unclaimed in
+    move_writers c.requires.sound move c.read_prime.ensures.same
+    (c.read_prime.ensures.keeps (c.commit_puts.ensures.same.was_honest h)) (g.D.Disk.state c.commit_puts.new.disk)
+    (c.in-Ok-commit_puts.ensures.modified h)
 
 pub returns-in-Err-commit_puts-clause-sound : goal.returns-in-Err-commit_puts-clause-sound
 returns-in-Err-commit_puts-clause-sound g c =
-    let s = g.D.Disk.state c.args.disk.now in
-    let mid = g.D.Disk.state c.read_prime.new.disk in
-    let core = core_of c.args.core.now in
-    let new = core_of c.move_to_directory.new.core in
-    let puts = c.move_to_directory.new.set in
-    let v = c.move_to_directory.ensures.0 in
-    let words = c.in-Ok.words in
-    let moves = subst (λ (n : ℕ). MovesAcross n core new c.args.ppn c.args.name.now c.args.to_ppn c.args.to.now
-    c.args.protection c.args.key v words puts) c.requires.sound.whole.map.size_is c.move_to_directory.ensures.1 in
-    let same = c.read_prime.ensures.same in
-    let s' = g.D.Disk.state c.commit_puts.new.disk in
-    across_failed s mid core new c.args.ppn c.args.name.now c.args.to_ppn c.args.to.now c.args.protection
-    c.args.key v words puts c.requires.sound moves c.requires.protection c.requires.unclaimed same s'
+    let move = across_move c.requires.sound c.move_to_directory.ensures.1 c.requires.protection c.requires.unclaimed in
+    move_failed c.requires.sound move c.read_prime.ensures.same (g.D.Disk.state c.commit_puts.new.disk)
     c.commit_puts.ensures.same
 
 pub returns-in-Err-commit_puts-clause-held : goal.returns-in-Err-commit_puts-clause-held
-returns-in-Err-commit_puts-clause-held g c k u at =
-    let s = g.D.Disk.state c.args.disk.now in
-    let mid = g.D.Disk.state c.read_prime.new.disk in
-    let core = core_of c.args.core.now in
-    let new = core_of c.move_to_directory.new.core in
-    let puts = c.move_to_directory.new.set in
-    let v = c.move_to_directory.ensures.0 in
-    let words = c.in-Ok.words in
-    let moves = subst (λ (n : ℕ). MovesAcross n core new c.args.ppn c.args.name.now c.args.to_ppn c.args.to.now
-    c.args.protection c.args.key v words puts) c.requires.sound.whole.map.size_is c.move_to_directory.ensures.1 in
-    let same = c.read_prime.ensures.same in
-    across_held s mid core new c.args.ppn c.args.name.now c.args.to_ppn c.args.to.now c.args.protection
-    c.args.key v words puts c.requires.sound moves c.requires.protection c.requires.unclaimed same k u at
+returns-in-Err-commit_puts-clause-held g c =
+    let move = across_move c.requires.sound c.move_to_directory.ensures.1 c.requires.protection c.requires.unclaimed in
+    move_held c.requires.sound move c.read_prime.ensures.same
 
 pub returns-in-Err-commit_puts-clause-crash : goal.returns-in-Err-commit_puts-clause-crash
 returns-in-Err-commit_puts-clause-crash g c h f rests =
     let s = g.D.Disk.state c.args.disk.now in
     let mid = g.D.Disk.state c.read_prime.new.disk in
-    let core = core_of c.args.core.now in
-    let new = core_of c.move_to_directory.new.core in
-    let puts = c.move_to_directory.new.set in
-    let v = c.move_to_directory.ensures.0 in
-    let words = c.in-Ok.words in
-    let moves = subst (λ (n : ℕ). MovesAcross n core new c.args.ppn c.args.name.now c.args.to_ppn c.args.to.now
-    c.args.protection c.args.key v words puts) c.requires.sound.whole.map.size_is c.move_to_directory.ensures.1 in
+    let sound = c.requires.sound in
+    let move = across_move sound c.move_to_directory.ensures.1 c.requires.protection c.requires.unclaimed in
     let same = c.read_prime.ensures.same in
-    let s' = g.D.Disk.state c.commit_puts.new.disk in
     let m = c.commit_puts.ensures.same.was_honest h in
     let h₀ = same.was_honest m in
     let keeps = c.read_prime.ensures.keeps m in
-    across_crash s mid core new c.args.ppn c.args.name.now c.args.to_ppn c.args.to.now c.args.protection
-    c.args.key v words puts c.requires.sound moves c.requires.protection c.requires.unclaimed same h₀ keeps
-    (ap s.contents (sym (c.prime_of-at.ensures v moves.there)) ∙ c.in-Ok.ensures.words m) s'
-    (c.commit_puts.ensures.crash h (read_shut s mid core c.requires.sound same h₀ keeps)) f rests
+    move_crash sound move same h₀ keeps
+    (ap s.contents (sym (c.prime_of-at.ensures c.move_to_directory.ensures.0 move.there)) ∙ c.in-Ok.ensures.words m)
+    (g.D.Disk.state c.commit_puts.new.disk)
+    (c.commit_puts.ensures.crash h (read_shut s mid (core_of c.args.core.now) sound same h₀ keeps)) f rests
     (λ d left. g.met.D.Disk.only_now c.args.disk.now d h₀ left)

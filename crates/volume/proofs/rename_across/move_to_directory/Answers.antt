@@ -75,7 +75,7 @@ returns c =
       moves_across m c.arrive.new.core c.requires.whole c.args.ppn c.args.name.now c.args.to_ppn
           c.args.to.now c.args.key c.requires.there c.requires.apart c.arrive.new.set c.arrive.ensures
           m2 c.leave.new.set c.leave.ensures c.args.words.now moved.3 c.move_version.new.set moved.5
-          c.args.protection moved.0 moved.1 moved.4 c.requires.free c.requires.room
+          c.args.protection moved.0 moved.1 moved.4 c.requires.may_arrive.free c.requires.may_arrive.room
           m' c.changes.new.set refl refl refl c.changes.ensures.done c.changes.ensures.others c.changes.ensures.spells
           c.changes.ensures.in_range c.changes.ensures.few moved.2 c.move_version.ensures.others,
     )

@@ -31,8 +31,8 @@ returns-clause-supplied c p is =
     let within = place_within core c.requires.whole q.prime.ppn place stands.0 stands.1 in
     let e = element_at core.directories.items place within in
     let room = c.in_ok-reserve.field-0.reserve in
-    let keys = c.in_ok-reserve.field-0.keys.items in
+    let keys = c.in_ok-reserve.field-0.keys in
     let all = supplied core.table.size core q place stands.0 e.0 room keys c.requires.whole stands.1
     (sym (get_or_from_slice_get core.directories.items place e.0 e.0 e.1))
-    (c.in_ok-reserve.ensures.fits e.0 e.1) (c.in_ok-reserve.ensures.longer e.0 e.1) in
+    (c.in_ok-reserve.ensures.fits e.0 e.1) (c.in_ok-reserve.ensures.roomy e.0 e.1) in
     subst (λ (v : PendingVersion). IsSupplied (core_of core) v room keys) (some_same (c.in-Some.ensures ∙ is)) all

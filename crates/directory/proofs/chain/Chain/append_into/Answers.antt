@@ -1,15 +1,15 @@
 use Rattle.std.proofs.Common.{IfSome, length, ap, map, sym, subst, ◌∙◌}
 use Rattle.std.proofs.lemmas.List.{map_push}
-use Rattle.directory.specs.Rooms.{IsRoomFor}
+use Rattle.directory.specs.Spares.{IsSpareFor}
 use Rattle.directory.proofs.Reserves.{room_block}
 use Rattle.directory.proofs.Steps.{appended_sound, appended_put}
 use Rattle.directory.proofs.chain.Chain.append_into.Goals as goal
 
-pub push_block-requires-clause-room : goal.push_block-requires-clause-room
-push_block-requires-clause-room g c =
-    subst (λ n. IfSome c.args.block (λ _. IsRoomFor n c.reserve.inside.blocks))
+pub push_block-requires-clause-spare : goal.push_block-requires-clause-spare
+push_block-requires-clause-spare g c =
+    subst (λ n. IfSome c.args.block (λ _. IsSpareFor n c.reserve.inside.blocks))
     (sym (c.self.inside.blocks.ok.0 ∙ ap (λ s. length s.blocks) c.self.view_is))
-    (subst (λ r. IfSome c.args.block (λ _. IsRoomFor (length c.args.self.now.blocks) r))
+    (subst (λ r. IfSome c.args.block (λ _. IsSpareFor (length c.args.self.now.blocks) r))
     (sym (ap (λ r. r.blocks) c.reserve.view_is))
     (room_block g.E.Entry.view c.args.self.now (g.E.Entry.view c.args.entry).0 c.args.reserve c.requires.reserve
     c.requires.absent c.args.block c.requires.block))

@@ -12,9 +12,9 @@ enter-requires-clause-absent g c p there has =
 pub invariant_of-self : goal.invariant_of-self
 invariant_of-self g c = (
   pushed_index g.met.E.Entry.total g.met.E.Entry.exact g.E.Entry.view c.self.inside.list.items c.deref.result.now
-      c.args.entry c.key.result c.len.result c.self.inside.order.items c.make_room.new.list.items
+      c.args.entry c.key.result c.len.result c.self.inside.order.items c.make_place.new.list.items
       c.enter.new.order.items c.deref.ensures.value c.key.ensures (c.len.ensures ∙ c.self.inside.list.ok.0)
-      c.make_room.ensures.items c.self.invariant.0 c.enter.ensures.entered c.push_into.new.list.items
+      c.make_place.ensures.items c.self.invariant.0 c.enter.ensures.entered c.push_into.new.list.items
       c.push_into.ensures.items,
   c.push_into.ensures.places,
   c.enter.ensures.places,

@@ -75,10 +75,10 @@ publish_written-requires-clause-supplied g c q here =
     ∙ p.1) in
     let supplies = c.in-Ok.supplies in
     subst (λ (x : PendingVersion). IsSupplied (core_of c.put_in_core-put.new.map) x
-    supplies.reserve supplies.keys.items) (some_same (sym put.1 ∙ here))
+    supplies.reserve supplies.keys) (some_same (sym put.1 ∙ here))
     (supplied_on core (core_of c.put_in_core-put.new.map) c.put_in_core-put.ensures.known c.put_in_core-put.ensures.keys
-    p.0 put.0 supplies.reserve supplies.keys.items
-    (subst (λ (x : VolumeCore). IsSupplied x p.0 supplies.reserve supplies.keys.items)
+    p.0 put.0 supplies.reserve supplies.keys
+    (subst (λ (x : VolumeCore). IsSupplied x p.0 supplies.reserve supplies.keys)
     (sym same) (c.in-Ok.ensures.supplied p.0 p.1)))
 
 pub returns-in-Ok-put-clause-crash : goal.returns-in-Ok-put-clause-crash

@@ -1,4 +1,5 @@
 use Rattle.std.proofs.Common.{slice_get, sym, ap, ◌∙◌}
+use Rattle.meaning.proofs.MapLaws.{some_none}
 use Rattle.volume.specs.Live.{as_known}
 use Rattle.volume.specs.LiveCores.{core_of}
 use Rattle.volume.proofs.Growing.{one_place}
@@ -108,14 +109,21 @@ returns-in_default-clause-no_room g c = rw (← c.self.view_is) (λ alive.
     c.in-Ok.key c.in-Ok.ensures.found _ memory_plain c.in-Ok-find_target.place
     c.in-Ok-find_target.ensures.no_room)
 
-pub move_across-requires-clause-fits : goal.move_across-requires-clause-fits
-move_across-requires-clause-fits g c = λ d place v stands is.
+pub move_across-requires-clause-may_arrive : goal.move_across-requires-clause-may_arrive
+move_across-requires-clause-may_arrive g c =
     let m = c.self.inside.map in
-    let found = c.in-Ok-find_target.ensures.place in
-    let same = one_place (core_of m).known.master.entries c.in-Ok-find_target.place place c.args.to_ppn found.0 v
-    c.self.invariant.whole.map.chain.each_once found.1.is stands.is in
-    let at = ap (slice_get m.directories.items) same ∙ is in
-    (c.in-Ok-find_entry_supplies.ensures.fits d at, c.in-Ok-find_entry_supplies.ensures.longer d at)
+    let target = c.in-Ok-find_target.ensures in
+    let found = target.place in
+    record {
+      target = λ absent. some_none (sym found.1.found ∙ absent);
+      free = target.free;
+      room = target.room;
+      fits = λ d place v stands is.
+          let same = one_place (core_of m).known.master.entries c.in-Ok-find_target.place place c.args.to_ppn found.0 v
+          c.self.invariant.whole.map.chain.each_once found.1.is stands.is in
+          let at = ap (slice_get m.directories.items) same ∙ is in
+          (c.in-Ok-find_entry_supplies.ensures.fits d at, c.in-Ok-find_entry_supplies.ensures.roomy d at);
+    }
 
 pub returns-clause-crash : goal.returns-clause-crash
 returns-clause-crash g c = rw (← c.self.view_is) (λ h f rests. c.move_across.ensures.crash h f rests)

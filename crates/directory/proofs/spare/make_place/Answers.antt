@@ -1,6 +1,6 @@
 use Rattle.std.proofs.Common.{◌<◌, ◌*◌, ◌^◌, refl, subst}
 use Rattle.directory.proofs.Growing.{grown_within}
-use Rattle.directory.proofs.room.make_room.Goals as goal
+use Rattle.directory.proofs.spare.make_place.Goals as goal
 
 pub returns-then-not-is_full-clause-places : goal.returns-then-not-is_full-clause-places
 returns-then-not-is_full-clause-places g c =

@@ -1,7 +1,7 @@
 -- Lists that grow in memory found before.
 -- A list has places for more elements than it has: twice as many as each power of two below its length. So it may be
 -- full only where its length is such a power, or 0, and a caller sees by the length alone when a growth takes memory.
-use Rattle.std.specs.Prelude.{◌≡◌, ◌⊎◌, ℕ, ◌*◌, ◌<◌, ◌≤◌, ◌^◌}
+use Rattle.std.specs.Prelude.{◌≡◌, ◌⊎◌, ℕ, ◌*◌, ◌<◌, ◌≤◌, ◌^◌, List}
 
 -- A list of n elements may have no place left.
 abbrev pub IsFull : ℕ → Type 0
@@ -13,5 +13,9 @@ pub record HasPlaces (n c : ℕ) : Type 0 where
   pub doubled : (k : ℕ) → 2 ^ k < n → 2 * 2 ^ k ≤ c
 
 -- Memory of c places is enough for a list of n elements to grow by one.
-abbrev pub IsRoomFor : ℕ → ℕ → Type 0
-IsRoomFor n c = IsFull n → (n < c) × (2 * n ≤ c)
+abbrev pub IsSpareFor : ℕ → ℕ → Type 0
+IsSpareFor n c = IsFull n → (n < c) × (2 * n ≤ c)
+
+-- What contracts see of the keys that stand beside the entries of a chain: a list.
+pub record KeyList : Type 0 where
+  pub items : List ℕ

@@ -1,6 +1,6 @@
 ghost use Rattle.std.specs.Prelude.{◌≡◌, ◌+◌, ◌*◌, ◌<◌, ◌^◌, ◌++◌, ◌∷◌, [], ℕ, suc, IsTrue, IsFalse, IfOk, OnOk, OnErr};
 ghost use Rattle.std.specs.Vec.{vec_len, vec_capacity};
-ghost use Rattle.directory.specs.Rooms.{IsFull, HasPlaces, IsRoomFor};
+ghost use Rattle.directory.specs.Spares.{IsFull, HasPlaces, IsSpareFor};
 
 use blockdisk::NoMemory;
 use std::alloc::Global;
@@ -9,11 +9,11 @@ use std::marker::Model;
 /// Memory for a list to grow by one element, found before the list changes: contracts see how many places it has.
 /// It has none where the list needs none.
 #[derive(Drop)]
-pub struct Room<T: Copy> {
+pub struct Spare<T: Copy> {
     places: Vec<T>,
 }
 
-impl<T: Copy> Model for Room<T> {
+impl<T: Copy> Model for Spare<T> {
     ghost Value = { ℕ };
 
     ghost view = { λ r. vec_capacity r.places };
@@ -21,10 +21,10 @@ impl<T: Copy> Model for Room<T> {
     ghost invariant = { λ r. r.places.items ≡ [] };
 }
 
-impl<T: Copy> Room<T> {
+impl<T: Copy> Spare<T> {
     /// No memory.
     pub(crate) fn none(alloc: Global) -> Self {
-        Room {
+        Spare {
             places: Vec::new(alloc),
         }
     }
@@ -47,29 +47,29 @@ fn is_full(n: usize) -> bool
 /// # Errors
 ///
 /// `NoMemory` where there is none.
-pub(crate) fn find_room<T: Copy>(alloc: Global, n: usize) -> Result<Room<T>, NoMemory>
+pub(crate) fn find_spare<T: Copy>(alloc: Global, n: usize) -> Result<Spare<T>, NoMemory>
     requires { n < 2 ^ 63 }
-    ensures { IfOk result (IsRoomFor n) }
+    ensures { IfOk result (IsSpareFor n) }
 {
     if !is_full(n) {
-        return Ok(Room::none(alloc));
+        return Ok(Spare::none(alloc));
     }
     let mut places = Vec::new(alloc);
     places.reserve((2 * n).max(4))?;
-    Ok(Room { places })
+    Ok(Spare { places })
 }
 
 /// Sees to it that a list has a place for one element more, in this memory where it may have none.
-pub(crate) fn make_room<T: Copy>(list: &mut Vec<T>, room: Room<T>)
+pub(crate) fn make_place<T: Copy>(list: &mut Vec<T>, spare: Spare<T>)
     requires places { HasPlaces (vec_len list.old) (vec_capacity list.old) }
-    requires room { IsRoomFor (vec_len list.old) room }
+    requires spare { IsSpareFor (vec_len list.old) spare }
     ensures items { list.new.items ≡ list.old.items }
     ensures places { HasPlaces (suc (vec_len list.old)) (vec_capacity list.new) }
 {
     if !is_full(list.len()) {
         return;
     }
-    let Room { mut places } = room;
+    let Spare { mut places } = spare;
     match places.extend_from_slice(list) {
         Ok(()) => {}
         Err(_) => unreachable!(), // it has twice the places
@@ -78,13 +78,13 @@ pub(crate) fn make_room<T: Copy>(list: &mut Vec<T>, room: Room<T>)
 }
 
 /// Adds an element in memory found before.
-pub(crate) fn push_into<T: Copy>(list: &mut Vec<T>, room: Room<T>, value: T)
+pub(crate) fn push_into<T: Copy>(list: &mut Vec<T>, spare: Spare<T>, value: T)
     requires places { HasPlaces (vec_len list.old) (vec_capacity list.old) }
-    requires room { IsRoomFor (vec_len list.old) room }
+    requires spare { IsSpareFor (vec_len list.old) spare }
     ensures items { list.new.items ≡ list.old.items ++ value ∷ [] }
     ensures places { HasPlaces (vec_len list.new) (vec_capacity list.new) }
 {
-    make_room(list, room);
+    make_place(list, spare);
     match list.push(value) {
         Ok(()) => {}
         Err(_) => unreachable!(), // it has a place
@@ -102,7 +102,7 @@ pub(crate) fn push<T: Copy>(list: &mut Vec<T>, value: T) -> Result<(), NoMemory>
     ensures same { OnErr result (list.new.items ≡ list.old.items) }
     ensures places { HasPlaces (vec_len list.new) (vec_capacity list.new) }
 {
-    let room = find_room(*list.allocator(), list.len())?;
-    push_into(list, room, value);
+    let spare = find_spare(*list.allocator(), list.len())?;
+    push_into(list, spare, value);
     Ok(())
 }

@@ -1,6 +1,6 @@
 use Rattle.std.proofs.Common.{refl}
 use Rattle.directory.proofs.Growing.{not_full}
-use Rattle.directory.proofs.room.find_room.Goals as goal
+use Rattle.directory.proofs.spare.find_spare.Goals as goal
 
 pub returns-then-not-is_full : goal.returns-then-not-is_full
 returns-then-not-is_full g c full =

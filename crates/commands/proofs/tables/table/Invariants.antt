@@ -1,0 +1,7 @@
+use Rattle.std.proofs.Common.{◌≡◌, take}
+use Rattle.std.specs.Prelude.{flat_map}
+use Rattle.meaning.specs.Texts.{row_text}
+use Rattle.commands.proofs.tables.table.Given as goal
+
+abbrev pub invariant-loop-entry : goal.invariant-loop-entry
+invariant-loop-entry l = l.bytes.items ≡ flat_map (row_text l.fn.owner) (take l.entry-index l.entries)

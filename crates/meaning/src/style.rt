@@ -1,0 +1,8 @@
+/// How the list of a directory is printed.
+#[derive(Clone, Copy, Debug, PartialEq, Eq)]
+pub enum Style {
+    /// As DIRECTORY prints it: a line for each file, in columns, and a line with the totals.
+    Columns,
+    /// As a table: a line for each file, its fields apart by tabs, and nothing else.
+    Table,
+}
