@@ -106,11 +106,11 @@ module _ (form : Form) (blocks : ℕ) where
       none_some byte h = cc
 
   known_reads : (s : FileState) (c : Contents) → MayLeave (image_state form blocks s) c
-    → ReadsAs form (known_or_not s) c
+      → ReadsAs form (known_or_not s) c
   known_reads s c left n b all =
       let closed : opened_in s.is_open (block_length form * n) (block_length form)
       ≡ false = all_closed s.is_open (block_length form * n) (block_length form)
-        (λ p inside. known_closed s p (b p) (all p inside)) in
+      (λ p inside. known_closed s p (b p) (all p inside)) in
       left n closed
       ∙ content-same form b s.bytes n (λ p inside. same_byte (s.bytes p) (b p)
       (sym (known s p (known_closed s p (b p) (all p inside))) ∙ all p inside))
@@ -148,7 +148,7 @@ module _ (form : Form) (blocks : ℕ) where
     image_keeps keeps = record {
       contents = λ n. content-same form s.bytes s'.bytes n (λ p inside. keeps.bytes p);
       is_open =
-        λ n. opened-same s.is_open s'.is_open (block_length form * n) (block_length form) (λ p inside. keeps.is_open p);
+          λ n. opened-same s.is_open s'.is_open (block_length form * n) (block_length form) (λ p inside. keeps.is_open p);
       time = image_passes keeps.time;
     }
 
@@ -156,9 +156,9 @@ module _ (form : Form) (blocks : ℕ) where
         → Writes n (image_state form blocks s) (image_state form blocks s')
     image_writes n writes = record {
       contents =
-        λ m other. content-same form s.bytes s'.bytes m (λ p inside. writes.bytes p (apart form n m p other inside));
+          λ m other. content-same form s.bytes s'.bytes m (λ p inside. writes.bytes p (apart form n m p other inside));
       opened = some_open s'.is_open (block_length form * n) (block_length form) (some_length form).0
-        (some_length form).1
+          (some_length form).1
           (writes.opened (block_length form * n)
           (first_in (block_length form * n) (block_length form) (some_length form).0 (some_length form).1));
       is_open = λ m other. opened-same s.is_open s'.is_open (block_length form * m) (block_length form)
@@ -172,7 +172,7 @@ module _ (form : Form) (blocks : ℕ) where
           (λ p inside. fails.bytes p
           (closed_each s.is_open (block_length form * n) (block_length form) closed p inside));
       is_open =
-        λ n. opened-same s.is_open s'.is_open (block_length form * n) (block_length form) (λ p inside. fails.is_open p);
+          λ n. opened-same s.is_open s'.is_open (block_length form * n) (block_length form) (λ p inside. fails.is_open p);
       time = image_passes fails.time;
     }
 

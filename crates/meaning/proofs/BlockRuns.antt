@@ -37,7 +37,7 @@ take_more (suc a) b (x ∷ xs) =
 
 -- words that are put where a body ends
 pub put_at_end : (body : List ℕ) (block : ℕ) (ws : List ℕ) → block_start block ≡ length body
-  → splice body block ws ≡ body ++ ws
+    → splice body block ws ≡ body ++ ws
 put_at_end body block [] e = sym (append-nil body)
 put_at_end body block (w ∷ ws) e =
     let whole : take (block_start block) body ≡ body = take_all (block_start block) body (omega arith) in

@@ -138,7 +138,7 @@ module _ (pack : Pack) (s : State) (j0 : Job) (there : job_at s 1 ≡ Some j0) (
       (tt, (tt, tt)) c)
 
   pub last_copied : (me : ℕ) (from : Place) (v : Version) (to : Place) (kind : Kind) (file : File) (more : ℕ)
-    (next : Plan)
+      (next : Plan)
       (said : Spoken) (new : Service) (j : Job) → Copying me from v to kind file more j → Lists 128 j.core
       → length v.file.body ≤ longest → more * 128 < length v.file.body → length v.file.body ≤ (more + 1) * 128
       → Comes pack (Serving (at s j)) (copies_last moment (more + 1) (size_word (length v.file.body)) next) said new
@@ -169,7 +169,7 @@ module _ (pack : Pack) (s : State) (j0 : Job) (there : job_at s 1 ≡ Some j0) (
           let core = after_writes j1.core (placed list_words (list_pair count)) in
           let j2 = with_core j1 core in
           let is2 : IsJob me j2 =
-            job_core me j1 core is1 (writes_length j1.core (placed list_words (list_pair count))) in
+          job_core me j1 core is1 (writes_length j1.core (placed list_words (list_pair count))) in
           let to2 = deposits_done pack s j0 there (list_pair count) j1 list_words parts.0 parts.1 in
           let j3 = with_open j2 1 (reading from v (more + 1)) in
           let to3 : parts.2.0 ≡ at s j3 = goes_done pack s j0 there moment j2 from v (more + 1) k parts.2.0 first1
@@ -180,11 +180,11 @@ module _ (pack : Pack) (s : State) (j0 : Job) (there : job_at s 1 ≡ Some j0) (
             second = at_other j2 1 2 (reading from v (more + 1)) (λ e. cc) ∙ second1 ∙ is.second;
           } in
           let d = both_done pack s j0 there moment me j3 from v to kind file more count t is3 (omega arith)
-            (omega arith)
+          (omega arith)
           (listing j1.core count is1.core) (omega arith)
           (subst (λ u. AllDone pack u (takes moment ∷ puts moment ∷ []) t) to3 parts.2.2) in
           let all_words : take (more * 128 + count) v.file.body ≡ v.file.body =
-            take_all (more * 128 + count) v.file.body
+          take_all (more * 128 + count) v.file.body
           (omega arith) in (
             d.0,
             (
@@ -306,8 +306,11 @@ module _ (pack : Pack) (s : State) (j0 : Job) (there : job_at s 1 ≡ Some j0) (
       ⊎ ((j' : Job) × Copied me from v to kind file j' × Comes pack (Serving (at s j')) next said new)
   body_copied me from v to kind file next said new j is first second named fits zero count come =
       let none : v.file.body ≡ [] = empty v.file.body (no_words (length v.file.body) count) in
-      inr (j, (is, (1, first), (1, second ∙ ap (λ b. Some (writing (side to kind (with_body file b) 1))) (sym none))),
-        come)
+      inr (
+        j,
+        (is, (1, first), (1, second ∙ ap (λ b. Some (writing (side to kind (with_body file b) 1))) (sym none))),
+        come,
+      )
     where
       no_words : (len : ℕ) → 0 ≡ blocks_of len → len ≡ 0
       no_words len e = grind arith
@@ -410,7 +413,7 @@ copies_are_exact pack moment me s to from said new ready to_is from_is short com
         (λ size. copies_body moment (blocks_said size) size closing) said new (let l = is.core in omega arith)
         (subst (λ u. Comes pack (Serving u) rests said new) to_j rest) in
         let sized =
-          subst (λ n. Comes pack (Serving (at s j)) (copies_body moment (blocks_said n) n closing) said new) size
+        subst (λ n. Comes pack (Serving (at s j)) (copies_body moment (blocks_said n) n closing) said new) size
         examined in
         ⊎_elim inr (λ (j', done, more). finished v f.there e.kind e.directory j' done more)
         (body_copied pack s j0 there moment me (place_of me from) v (place_of me to) e.kind

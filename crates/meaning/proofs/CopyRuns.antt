@@ -86,7 +86,7 @@ module _ (pack : Pack) (s : State) (j0 : Job) (there : job_at s 1 ≡ Some j0) (
       let o = side to kind (with_body file (take (k * 128) body)) (k + 1) in
       let out : channel_at j1 2 ≡ Some (writing o) = at_other c1 1 2 (reading from v (k + 2)) (λ e. cc) ∙ is.second in
       let second =
-        puts_done pack s j0 there moment me j1 o count w is2 out some few (kept_lists j.core count ahead count
+      puts_done pack s j0 there moment me j1 o count w is2 out some few (kept_lists j.core count ahead count
       lists) (subst (λ x. Steps pack x (puts moment) Done w) first putting) in
       let words : window core block_address count ≡ take count ahead = written j.core block_address count
       (take count ahead) (omega (arith, length-take count ahead)) (let l = is.whole.core in omega arith) in
@@ -106,7 +106,7 @@ module _ (pack : Pack) (s : State) (j0 : Job) (there : job_at s 1 ≡ Some j0) (
       let j2 = with_open j1 2 (writing o') in (
         j2,
         same ∙ second
-          ∙ ap {A = List ℕ × ℕ} (λ b. at s (with_open j1 2 (writing (side to kind (with_body file b.0) b.1))))
+            ∙ ap {A = List ℕ × ℕ} (λ b. at s (with_open j1 2 (writing (side to kind (with_body file b.0) b.1))))
             (λ i. (body' i, after i)),
         job_open me j1 2 (writing o') is2,
         at_other j1 2 1 (writing o') (λ e. cc) ∙ at_own c1 me 1 (reading from v (k + 2)) is1 (omega arith),

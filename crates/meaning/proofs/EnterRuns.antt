@@ -94,7 +94,7 @@ module _ (pack : Pack) (s : State) (j0 : Job) (there : job_at s 1 ≡ Some j0) (
       let none : slice_index j2.core (new_words + 2) ≡ 0 = found j.core new_words ws 2 (omega arith)
       (let l = is.core in omega arith) in
       let o = output_is s.files j2 (idle c) new_words moment here (digit_at (at s j2) j2 here)
-        (file_at s.files here) refl
+      (file_at s.files here) refl
       none in
       let out = side here o.0 (made s.files here c.mode moment []) 1 in
       let core = after_writes j2.core (attributing pack j2.core new_words out.pending) in

@@ -38,7 +38,7 @@ nothing_back = refl
 
 -- Words: two blocks and a part of a third, and two whole ones.
 words_back :
-  (back fresh Words (replicate 300 7) ≡ (prints (line (codes "OK")), prints (printed Words (replicate 300 7))))
+    (back fresh Words (replicate 300 7) ≡ (prints (line (codes "OK")), prints (printed Words (replicate 300 7))))
     × (back fresh Words (replicate 256 7) ≡ (prints (line (codes "OK")), prints (printed Words (replicate 256 7))))
 unfolding empty insert get remove entries size dump_list areas_from each fetches types_blocks fills_parts conduct
 words_back = (refl, refl)

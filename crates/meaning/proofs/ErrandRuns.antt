@@ -97,7 +97,7 @@ gets_are_exact pack moment me s encoding spec said new there few short come = �
     (enters_done pack moment me s said new (reads moment encoding spec) come)
 
 quiet_creates : (moment : Moment) (encoding : Encoding) (spec : Spec)
-  → AllByRecursion IsQuiet (creates moment encoding spec)
+    → AllByRecursion IsQuiet (creates moment encoding spec)
 quiet_creates moment Characters spec =
     let rest : List Event = calls moment (Open 2 open_words) ∷ (names new_words spec 0
     ++ calls moment (Enter 2 new_words) ∷ calls moment (Outbuf 2 1) ∷ puts moment ∷ []) in

@@ -37,7 +37,7 @@ PartsAreDone pack s moment encoding W =
     → (j' : Job) × (t ≡ at s j') × W (k + 1) (done ++ part) j'
 
 quiet_fills : (moment : Moment) (encoding : Encoding) (part : List ℕ)
-  → AllByRecursion IsQuiet (fills moment encoding part)
+    → AllByRecursion IsQuiet (fills moment encoding part)
 quiet_fills moment Characters part = all_append IsQuiet (deposits (part_address Characters) part) _
     (quiet_deposits part (part_address Characters)) (tt, (tt, tt))
 quiet_fills moment Words part = all_append IsQuiet (deposits (part_address Words) part) _

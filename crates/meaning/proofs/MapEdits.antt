@@ -41,7 +41,7 @@ module _ {K X : Type 0} {R : K → K → Ordering} (o : IsTotalOrder R) where
           × EachOnce R ((x ∷ us) ++ vs)
       step rest =
           let m = missing (eq_by_cmp R x.0 e.0) (find R x.0 (us ++ vs))
-            (sym (find-around us e vs x.0 rest.0) ∙ u.0) in (
+          (sym (find-around us e vs x.0 rest.0) ∙ u.0) in (
             ap (λ b. cond b (Some x.1) (find R e.0 (us ++ vs))) ((eq_by_cmp_equiv o).symm e.0 x.0 ∙ m.0) ∙ rest.0,
             (m.1, rest.1),
           )

@@ -59,7 +59,7 @@ pub at_other : (j : Job) (ch k : ℕ) (c : Channel) → k ≢ ch → channel_at 
 at_other j ch k c differs = slot-set_other j.channels ch k (Some c) differs
 
 pub job_core : (me : ℕ) (j : Job) (core : List ℕ) → IsJob me j → length core ≡ length j.core
-  → IsJob me (with_core j core)
+    → IsJob me (with_core j core)
 job_core me j core is e = record { owner = is.owner; core = e ∙ is.core; channels = is.channels }
 
 pub job_open : (me : ℕ) (j : Job) (ch : ℕ) (c : Channel) → IsJob me j → IsJob me (with_open j ch c)
@@ -117,7 +117,7 @@ left_join : (ext : ℕ) → ext < 2 ^ 18 → left (join ext 0) ≡ ext
 left_join ext few = grind arith
 
 named : (j : Job) (e ppn name ext : ℕ) (me : ℕ) → j.ppn ≡ me → slice_index j.core e ≡ name
-  → left (slice_index j.core (e + 1)) ≡ ext
+    → left (slice_index j.core (e + 1)) ≡ ext
     → slice_index j.core (e + 3) ≡ ppn
     → place_at j e ≡ record { ppn = own_if_zero ppn me; name = record { name = name; ext = ext } }
 named j e ppn name ext me f g h i = rw (f, g, h, i) refl
@@ -213,7 +213,7 @@ module _ (pack : Pack) (s : State) (j0 : Job) (there : job_at s 1 ≡ Some j0) (
       ∙ ap (λ p. at s (lookup_done pack (at s j2) j2 1 open_channel file_words p)) place
       ∙ ap (λ o. at s (looked_up pack j2 1 open_channel file_words (place_of me spec) o)) v.1 in
       let is3 : IsJob me (with_core j2 core) =
-        job_core me j2 core is2 (length-sized pack j2.core file_words v.0.file) in
+      job_core me j2 core is2 (length-sized pack j2.core file_words v.0.file) in
       record {
         job = j3;
         is = last.2.2 ∙ ends;

@@ -100,7 +100,7 @@ same_open s true n r = refl
 same_open s false n r = refl
 
 same_call : (pack : Pack) (serial : ℕ) (s : State) (n : ℕ) (job : Job) (call : Call) (moment : Moment)
-  → IsQuietCall call
+    → IsQuietCall call
     → Same s (call_of pack serial s n job call moment)
 same_call pack serial s n job (Open ch a) moment q = same_open s (nat_le ch 15) n _
 same_call pack serial s n job (Inbuf ch k) moment q = same_channel s _ (channel_at job ch) (λ c. refl)

@@ -102,7 +102,7 @@ module _ (pack : Pack) (s : State) (j0 : Job) (there : job_at s 1 ≡ Some j0) (
       let row = row_done pack s j0 there j1 (open_answer j1 2 open_words) (open_done j1 2 open_words) (λ reply. j1)
       parts.2.0 (open_test (at s j1) (nat_le 2 15) _ parts.2.0 call.1) in
       let mode : slice_index core1 open_words ≡ 0 =
-        found j.core open_words opening_words 0 (omega arith) (omega arith) in
+      found j.core open_words opening_words 0 (omega arith) (omega arith) in
       let named : slice_index core1 (open_words + 2) ≡ join header_words 0 = found j.core open_words opening_words 2
       (omega arith) (omega arith) in
       parts.2.2 ∙ row.1 ∙ ap (λ core. at s (with_channel (with_core j core) 2 (Some (channel_opened core1 open_words))))
@@ -202,7 +202,7 @@ module _ (pack : Pack) (s : State) (j0 : Job) (there : job_at s 1 ≡ Some j0) (
       let rest : List Event = names new_words spec 0 ++ calls moment (Enter 2 new_words) ∷ calls moment (Outbuf 2 1)
       ∷ puts moment ∷ [] in
       let one =
-        split_done pack (at s j) (deposits open_words opening_words ++ calls moment (Open 2 open_words) ∷ []) rest t
+      split_done pack (at s j) (deposits open_words opening_words ++ calls moment (Open 2 open_words) ∷ []) rest t
       (subst (λ es. AllDone pack (at s j) es t)
       (sym (append_assoc (deposits open_words opening_words) (calls moment (Open 2 open_words) ∷ []) rest)) all) in
       let core1 = after_writes j.core (placed open_words opening_words) in

@@ -97,7 +97,7 @@ module _ (pack : Pack) (s : State) (j0 : Job) (there : job_at s 1 ≡ Some j0) (
       let is1 : Reads me place v (k + 1 + 1) 128 d.0 = subst (λ n. Reads me place v n 128 d.0) two d.2 in
       let behind : List ℕ → Plan = λ words. types_blocks moment more (λ others. next (words ++ others)) in
       let got =
-        fetched pack s j0 there moment 128 d.0 block_address behind said new (let l = d.2.whole.core in omega arith)
+      fetched pack s j0 there moment 128 d.0 block_address behind said new (let l = d.2.whole.core in omega arith)
       (subst (λ x. Comes pack (Serving x) (fetches moment 128 block_address behind) said new) (same ∙ d.1) rest) in
       let one : k + 1 + more + 1 ≡ k + suc more + 1 = omega arith in
       let all_words : words ++ take (more * 128) (drop ((k + 1) * 128) v.file.body)
@@ -148,7 +148,7 @@ module _ (pack : Pack) (s : State) (j0 : Job) (there : job_at s 1 ≡ Some j0) (
           let core = after_writes j1.core (placed list_words (list_pair count)) in
           let j2 = with_core j1 core in
           let is2 : IsJob me j2 =
-            job_core me j1 core is1 (writes_length j1.core (placed list_words (list_pair count))) in
+          job_core me j1 core is1 (writes_length j1.core (placed list_words (list_pair count))) in
           let to2 = deposits_done pack s j0 there (list_pair count) j1 list_words parts.0 parts.1 in
           let j3 = with_open j2 1 (reading place v (more + 1)) in
           let to3 : parts.2.0 ≡ at s j3 = goes_done pack s j0 there moment j2 place v (more + 1) k parts.2.0 first1
@@ -280,7 +280,7 @@ reads_are_exact pack moment me s encoding spec said new ready few short come = �
         (λ size. types_body moment (blocks_said size) size closing) said new (let l = is.core in omega arith)
         (subst (λ u. Comes pack (Serving u) rests said new) to_j rest) in
         let sized =
-          subst (λ n. Comes pack (Serving (at s j)) (types_body moment (blocks_said n) n closing) said new) size
+        subst (λ n. Comes pack (Serving (at s j)) (types_body moment (blocks_said n) n closing) said new) size
         examined in
         ⊎_elim inr (λ (j', is', reads', more). finished v f.there j' is' reads' more)
         (body_read pack s j0 there moment me (place_of me spec) v said new

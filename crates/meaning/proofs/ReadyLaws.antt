@@ -264,7 +264,7 @@ module _ (pack : Pack) (serial : ℕ) (s : State) (n : ℕ) (job : Job) (there :
   call_keeps (Outbuf ch k) moment = on_channel_keeps _ (channel_at job ch) (λ c. ring_keeps ch k c.output_header c)
   call_keeps (Lookup ch e) moment = on_channel_keeps _ (channel_at job ch) (λ c.
       by_row (lookup_answer s job c e (place_at job e)) (lookup_done pack s job ch c e (place_at job e))
-        (refused_at job e)
+      (refused_at job e)
       (found_alike ch e c (place_at job e) (file_at s.files (place_at job e))) (refused_alike e))
   call_keeps (Enter ch e) moment = on_channel_keeps _ (channel_at job ch) (λ c.
       by_row (enter_answer pack s job c e (place_at job e)) (enter_done pack s job ch c e moment (place_at job e))
@@ -288,7 +288,7 @@ module _ (pack : Pack) (serial : ℕ) (s : State) (n : ℕ) (job : Job) (there :
       (alike_with job job.core ch (Some (useto_done c k)) refl) (stopped_alike ch c))
   call_keeps (Close ch bits) moment = on_channel_keeps _ (channel_at job ch) (λ c.
       by_files (close_answer pack s job c bits) (close_done serial job ch c bits)
-        (files_closed serial s.files job c bits)
+      (files_closed serial s.files job c bits)
       (stopped_in job ch c)
       (alike_with job (core_closed job.core c bits) ch (Some (channel_closed serial job c bits)) (closed_long c bits))
       (stopped_alike ch c))
@@ -344,7 +344,7 @@ module _ (pack : Pack) (serial : ℕ) (s : State) (me : ℕ) (ready : IsReady s 
   own_event (Examine n address) other one = subst (λ k. IsReady (step pack serial s (Examine k address)).1 me) (sym one)
       (own_job (λ job. (examine_answer job address, s)) ready)
   own_event (Calls n call moment) other one =
-    subst (λ k. IsReady (step pack serial s (Calls k call moment)).1 me) (sym one)
+      subst (λ k. IsReady (step pack serial s (Calls k call moment)).1 me) (sym one)
       (own_if (nat_lt (last_date pack.layout) moment.date) _ (own_job (λ job. call_of pack serial s 1 job call moment)
       (kept (call_keeps pack serial s 1 ready.job ready.logged_in call moment))))
     where

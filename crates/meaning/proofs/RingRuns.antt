@@ -213,7 +213,7 @@ pub no_last : (core : List ℕ) → length core ≡ 4096 → Ring 0 core → las
 unfolding last_words
 no_last core l is =
     let last : has_last core header ≡ true =
-      has (is_unused core header) (current core header) (used core l 0 (omega arith)
+    has (is_unused core header) (current core header) (used core l 0 (omega arith)
     is) (used_current core l 0 (omega arith) is) in
     chosen (has_last core header) (last_is_good core header) (lies_outside core header 3) (buffer_data core header) last
     (used_good core l 0 (omega arith) is) (ap (λ n. nat_lt n (header + 3)) l)

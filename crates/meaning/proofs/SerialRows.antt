@@ -347,7 +347,7 @@ module _ (f : ℕ → ℕ) where
         ≡ on_value re_both (renames pack s job ch c e)
     renames-re job ch c e =
         settled-re re_both (rename_answer pack s job c e) _
-          (rename_done job ch c, files_renamed s.files job e c.input) (
+        (rename_done job ch c, files_renamed s.files job e c.input) (
           rename_done (re_job f job) ch (re_channel f c),
           files_renamed (re_files f s.files) (re_job f job) e (option_map (re_input f) c.input),
         )

@@ -128,7 +128,7 @@ put_short pack s o words none few =
 placed_fits : (pack : Pack) (s : State) (c : Channel) (o : Output) (words : List ℕ)
     → place_answer pack s c o words ≡ Done → finds_no_place pack s o (length words) ≡ false
 placed_fits pack s c o words e =
-  (passed_test (finds_no_place pack s o (length words)) _ Done (λ w. let v = w in cc) e).0
+    (passed_test (finds_no_place pack s o (length words)) _ Done (λ w. let v = w in cc) e).0
 
 put_fits : (pack : Pack) (s : State) (c : Channel) (side : Option Output) (found : Option Outgoing) (o : Output)
     (f : Outgoing) → put_answer pack s c side found ≡ Done → side ≡ Some o → found ≡ Some f
@@ -137,7 +137,7 @@ put_fits pack s c None found o f e is at = let wrong : None ≡ Some o = is in c
 put_fits pack s c (Some p) None o f e is at = let wrong : None ≡ Some f = at in cc
 put_fits pack s c (Some p) (Some g) o f e is at =
     let h = placed_fits pack s c p g.words
-      (passed_test _ (Refused 5) (place_answer pack s c p g.words) (λ w. cc) e).1 in
+    (passed_test _ (Refused 5) (place_answer pack s c p g.words) (λ w. cc) e).1 in
     subst (λ q. finds_no_place pack s q (length f.words) ≡ false) (some_same is)
     (subst (λ (q : Outgoing). finds_no_place pack s p (length q.words) ≡ false) (some_same at) h)
 
@@ -318,7 +318,7 @@ module _ (pack : Pack) (serial : ℕ) (s : State) (short : IsShort s) (n : ℕ) 
       (side_of ch c is)) (λ r. own))
   call_short (Lookup ch e) moment = on_channel_short _ (channel_at job ch) (λ c is.
       by_row (lookup_answer s job c e (place_at job e)) (lookup_done pack s job ch c e (place_at job e))
-        (refused_at job e)
+      (refused_at job e)
       (λ done. found_short ch e c (place_at job e) (file_at s.files (place_at job e)) is) (refused_short e))
   call_short (Enter ch e) moment = on_channel_short _ (channel_at job ch) (λ c is.
       by_row (enter_answer pack s job c e (place_at job e)) (enter_done pack s job ch c e moment (place_at job e))
@@ -348,7 +348,7 @@ module _ (pack : Pack) (serial : ℕ) (s : State) (short : IsShort s) (n : ℕ) 
       (stopped_short ch c is))
   call_short (Close ch bits) moment = on_channel_short _ (channel_at job ch) (λ c is.
       by_files (close_answer pack s job c bits) (close_done serial job ch c bits)
-        (files_closed serial s.files job c bits)
+      (files_closed serial s.files job c bits)
       (stopped_in job ch c)
       (λ done. (
         short_with job own (core_closed job.core c bits) ch (Some (channel_closed serial job c bits))
@@ -428,12 +428,12 @@ HasShortFiles files = (ppn : ℕ) (d : Directory File) (name : FileName) (f : Fi
     → get d.files name ≡ Some f → length f.body ≤ longest
 
 of_map : {X Y : Type 0} (g : X → Y) (o : Option X) (y : Y) → option_map g o ≡ Some y → (x : X) × (o ≡ Some x)
-  × (g x ≡ y)
+    × (g x ≡ y)
 of_map g None y e = let wrong : None ≡ Some y = e in cc
 of_map g (Some x) y e = (x, refl, some_same e)
 
 standing_short : (size : ℕ) (contents : Contents) (files : Files File) → Stands size contents files
-  → HasShortFiles files
+    → HasShortFiles files
 standing_short size contents files (settled, is, (m, has, same)) ppn d name f at there =
     let found = of_map directory_of (get m.directories ppn) d
     (sym (get-map_values nat_cmp_total directory_of m.directories ppn) ∙ ap (λ fs. get fs ppn) same ∙ at) in

@@ -155,10 +155,10 @@ module _ (pack : Pack) (s : State) (j0 : Job) (there : job_at s 1 ≡ Some j0) (
   fetched zero j a next said new small c = c
   fetched (suc count) j a next said new small c =
       let first =
-        told j a (λ word. fetches moment count (a + 1) (λ words. next (word ∷ words))) said new (omega arith) c in
+      told j a (λ word. fetches moment count (a + 1) (λ words. next (word ∷ words))) said new (omega arith) c in
       let rest = fetched count j (a + 1) (λ words. next (slice_index j.core a ∷ words)) said new (omega arith) first in
       subst (λ ws. Comes pack (Serving (at s j)) (next ws) said new)
-        (sym (window-cons j.core a count (omega arith))) rest
+      (sym (window-cons j.core a count (omega arith))) rest
 
   -- Block n is taken over words that are all the same: these show behind the words of the version.
   takes_over_done : (me : ℕ) (place : Place) (v : Version) (n word : ℕ) (next : List ℕ → Plan) (said : Spoken)
@@ -198,14 +198,14 @@ module _ (pack : Pack) (s : State) (j0 : Job) (there : job_at s 1 ≡ Some j0) (
           let first2 : parts.2.0 ≡ at s j2 = goes_done pack s j0 there moment j1 place v n k parts.2.0 first
           (subst (λ u. Steps pack u (goes_to moment n) Done parts.2.0) first1 parts.2.1) in
           let open2 : channel_at j2 1 ≡ Some (reading place v n) =
-            at_own j1 me 1 (reading place v n) is1 (omega arith) in
+          at_own j1 me 1 (reading place v n) is1 (omega arith) in
           let core3 = taken core1 128 ahead in
           let c3 = reading place v (n + blocks_of (moved core1 128 ahead)) in
           let j3 = with_open (with_core j2 core3) 1 c3 in
           let is3 : IsJob me (with_core j2 core3) = job_core me j2 core3 is2
           (writes_length core1 (placed block_address (take 128 ahead))) in
           let first3 : parts.2.2.0 ≡ at s j3 =
-            takes_done pack s j0 there moment me j2 place v n 128 parts.2.2.0 is2 open2
+          takes_done pack s j0 there moment me j2 place v n 128 parts.2.2.0 is2 open2
           (omega arith) (omega arith) lists1
           (subst (λ u. Steps pack u (takes moment) Done parts.2.2.0) first2 parts.2.2.1) in
           let here : window core3 block_address 128 ≡ laid (take 128 ahead) word =

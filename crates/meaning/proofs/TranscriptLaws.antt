@@ -95,7 +95,7 @@ module _ (pack : Pack) (moment : Moment) where
   same_conduct (Show owner next) s t u w (Asks event reply ∷ acts) bcts one other r a b p q = absurd a
   same_conduct (Show owner next) s t u w (Looks shown answer ∷ acts) [] one other r a b p q = absurd (say_show b)
   same_conduct (Show owner next) s t u w (Looks shown answer ∷ acts) (Asks event reply ∷ bcts) one other r a b p q =
-    absurd b
+      absurd b
   same_conduct (Show owner next) s t u w (Looks shown answer ∷ acts) (Looks shown' answer' ∷ bcts) one other r a b p q =
       let o : shown ≡ shown' = a.0 ∙ sym b.0 in
       let l : answer ≡ answer' = p.0 ∙ (related_shown pack s t r).1 1 shown ∙ ap (list t 1) o ∙ sym q.0 in

@@ -42,7 +42,7 @@ number_there bytes at fits =
 pub nine_bytes-pair : (words : List ℕ) (i d e : ℕ) → 2 * i + 1 < length words
     → nine_bytes (drop (2 * i) words)
     ≡ big_bytes 9 (get_or words (2 * i) d * 2 ^ 36 + get_or words (2 * i + 1) e)
-      ++ nine_bytes (drop (2 * (i + 1)) words)
+    ++ nine_bytes (drop (2 * (i + 1)) words)
 nine_bytes-pair words i d e inside =
     let further : 2 * (i + 1) ≡ 2 * i + 1 + 1 = omega arith in
     let first = drop_more words (2 * i) d (omega arith) in

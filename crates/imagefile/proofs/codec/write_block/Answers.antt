@@ -21,7 +21,7 @@ packed : {E : Type 0} (answer : Result (Unit {0}) E) (b : Bytes) (n at : ℕ) (b
     → length bytes ≡ 576 → nine_words bytes ≡ words
     → OnOk answer (window b at (length bytes) ≡ bytes) → OnOk answer (image_contents Packed b n ≡ Some words)
 packed (Ok done) b n at bytes words place long same put =
-  packed_put b n at (length bytes) bytes place long words put same
+    packed_put b n at (length bytes) bytes place long words put same
 packed (Err fault) b n at bytes words place long same put = tt
 
 pub returns-in-Wide-clause-writes : goal.returns-in-Wide-clause-writes
