@@ -21,8 +21,9 @@ test:
 	sh examples/starts crates/filser/out/filser
 	sh examples/emulate crates/filser/out/filser
 	python3 examples/files crates/filser/out/filser
-	python3 examples/hostile crates/filser/out/filser
+	python3 examples/hostile crates/filser/out/filser 2000
 	python3 examples/jobs crates/filser/out/filser
+	python3 examples/forms crates/filser/out/filser
 	tools/check-docs crates/filser/out/filser
 	tools/test-wrong-bodies
 
@@ -37,8 +38,9 @@ examples:
 	sh examples/starts crates/filser/out/filser
 	sh examples/emulate crates/filser/out/filser
 	python3 examples/files crates/filser/out/filser
-	python3 examples/hostile crates/filser/out/filser
+	python3 examples/hostile crates/filser/out/filser 2000
 	python3 examples/jobs crates/filser/out/filser
+	python3 examples/forms crates/filser/out/filser
 	tools/check-docs crates/filser/out/filser
 
 # The first time every crate below the program is proved too; what was proved is kept below crates/*/out.

@@ -18,7 +18,13 @@ pub struct Desk {
     pub wanted: String,
     /// How many lines came out otherwise.
     pub mistakes: u64,
-    /// Whether they are counted and not printed.
+    /// How many events came out as wanted.
+    pub answered: usize,
+    /// Whether an event met the fault of the disk, so that each one behind it finds a service that has failed.
+    pub has_failed: bool,
+    /// Whether the disk may fail.
+    may_fail: bool,
+    /// Whether mistakes are counted and not printed.
     is_silent: bool,
 }
 
@@ -32,6 +38,9 @@ impl Desk {
             asked: String::new(alloc),
             wanted: String::new(alloc),
             mistakes: 0,
+            answered: 0,
+            has_failed: false,
+            may_fail: false,
             is_silent: false,
         })
     }
@@ -40,6 +49,13 @@ impl Desk {
     pub fn silent(alloc: Global, alternative: usize) -> Result<Desk> {
         let mut desk = Desk::new(alloc, alternative)?;
         desk.is_silent = true;
+        Ok(desk)
+    }
+
+    /// The same over a disk that may fail: from the event on that meets the fault the service has failed.
+    pub fn failing(alloc: Global) -> Result<Desk> {
+        let mut desk = Desk::silent(alloc, 0)?;
+        desk.may_fail = true;
         Ok(desk)
     }
 
@@ -61,7 +77,7 @@ impl Desk {
         wanted: &str,
         found: &str,
     ) -> io::Result<()> {
-        if wanted == found {
+        if self.comes_out(wanted, found) {
             return Ok(());
         }
         self.mistakes = self.mistakes.saturating_add(1);
@@ -71,6 +87,37 @@ impl Desk {
         let alternative = self.alternative;
         println!(rt; "? {line}: {found} in place of {wanted} (alternative {alternative})")
     }
+
+    /// Whether an event comes out as is wanted, or as it has to where the disk fails.
+    fn comes_out(&mut self, wanted: &str, found: &str) -> bool {
+        if self.has_failed {
+            return is_failed(found);
+        }
+        if wanted == found {
+            self.answered = self.answered.saturating_add(1);
+            return true;
+        }
+        self.has_failed = self.may_fail && meets_fault(wanted, found);
+        self.has_failed
+    }
+}
+
+/// Whether an event, a session or a start answers that the device failed: a session behind a part of what it is to print.
+fn meets_fault(wanted: &str, found: &str) -> bool {
+    match found.split_once("?Device fault\n") {
+        Some((printed, behind)) => wanted.starts_with(printed) && is_failed(behind),
+        None => found == "DEVICE" || found == "REFUSED device fault",
+    }
+}
+
+/// Whether an event or a session is answered by a service that has failed, in which nobody logs in any more.
+fn is_failed(found: &str) -> bool {
+    found == "FAILED" || found.lines().all(is_line_of_failed)
+}
+
+/// Whether a line is what a session prints then.
+fn is_line_of_failed(line: &str) -> bool {
+    line == "?Service stopped" || line == "?Not logged in"
 }
 
 /// Puts a line behind a text. At its end `\r` stands for a carriage return, and `\c` says that no line feed follows.

@@ -286,7 +286,7 @@ fn play_row(rt: &impl Print, desk: &mut Desk, row: &Row, kept: usize) -> Result<
 }
 
 /// How many blocks of two disks are not the same.
-fn different_blocks(one: &mut MemDisk, other: &mut MemDisk) -> u32 {
+pub fn different_blocks(one: &mut MemDisk, other: &mut MemDisk) -> u32 {
     let mut count = 0u32;
     for n in 0..one.blocks() {
         if n < one.blocks() && n < other.blocks() && one.read(n) != other.read(n) {

@@ -15,7 +15,7 @@ use anyhow::Result;
 use row::Row;
 use std::alloc::Global;
 use std::mem;
-use stops::{Stops, play_stops};
+use stops::{Manner, Stops, play_stops};
 
 /// Plays each row of the input, and prints what comes out otherwise; gives how many lines did.
 pub fn play_all(rt: &(impl Print + Input), alloc: Global) -> Result<u64> {
@@ -24,7 +24,7 @@ pub fn play_all(rt: &(impl Print + Input), alloc: Global) -> Result<u64> {
     let mut mistakes = 0u64;
     for line in rt.lines(alloc) {
         let line = line?;
-        if line.starts_with("ROW ") || line.starts_with("STOPS ") || line.starts_with("PART ") {
+        if is_title(&line) {
             let begun = mem::replace(&mut row, Row::titled(alloc, &line)?);
             mistakes = mistakes.saturating_add(play(rt, alloc, &begun)?);
             parts.push(begun)?;
@@ -37,10 +37,19 @@ pub fn play_all(rt: &(impl Print + Input), alloc: Global) -> Result<u64> {
     Ok(mistakes.saturating_add(play(rt, alloc, &row)?))
 }
 
+/// Whether a row begins with a line.
+fn is_title(line: &str) -> bool {
+    let (word, _title) = line.split_once(' ').unwrap_or((line, ""));
+    matches!(word, "ROW" | "STOPS" | "FAULTS" | "PART")
+}
+
 /// Plays a row with each of its alternatives, and prints its title. A part is played in rows alone.
 fn play(rt: &impl Print, alloc: Global, row: &Row) -> Result<u64> {
     if let Some(title) = row.title().strip_prefix("STOPS ") {
-        return play_stopped(rt, alloc, row, title);
+        return play_stopped(rt, alloc, row, title, Manner::Stops);
+    }
+    if let Some(title) = row.title().strip_prefix("FAULTS ") {
+        return play_stopped(rt, alloc, row, title, Manner::Faults);
     }
     let Some(title) = row.title().strip_prefix("ROW ") else {
         return Ok(0);
@@ -58,8 +67,14 @@ fn play(rt: &impl Print, alloc: Global, row: &Row) -> Result<u64> {
 }
 
 /// Plays a row that is stopped at each call of its disk, and prints its title.
-fn play_stopped(rt: &impl Print, alloc: Global, row: &Row, title: &str) -> Result<u64> {
-    let Stops { starts, mistakes } = play_stops(rt, alloc, row)?;
+fn play_stopped(
+    rt: &impl Print,
+    alloc: Global,
+    row: &Row,
+    title: &str,
+    manner: Manner,
+) -> Result<u64> {
+    let Stops { starts, mistakes } = play_stops(rt, alloc, row, manner)?;
     match mistakes {
         0 => println!(rt; "{title}: started {starts} times, as before or after")?,
         _ => println!(rt; "{title}: {mistakes} of {starts} starts came out otherwise")?,

@@ -1,7 +1,7 @@
-//! Stops at each call of a disk, and again in recovery: what a crash leaves is started, and has the files from before the
-//! lines of a row, or those behind them.
+//! Stops at each call of a disk, and again in recovery: what a crash leaves is started, and has the files from behind the
+//! events that were answered, or those from behind one more.
 use crate::desk::Desk;
-use crate::disks::{disk_of, forget_record, play_over, start_over};
+use crate::disks::{different_blocks, disk_of, forget_record, play_over, start_over};
 use crate::row::Row;
 use anyhow::{Result, ensure};
 use blockdisk::{Disk, Fail, FuseDisk, MemDisk, Pick};
@@ -11,28 +11,60 @@ use std::alloc::Global;
 const PICKS: [Pick; 5] = [Pick::Old, Pick::New, Pick::Damaged, Pick::Half, Pick::Open];
 
 /// More calls than the lines of a row make of their disk.
-const MOST_CALLS: u64 = 500;
+const MOST_CALLS: u64 = 5000;
+
+/// How many writes and syncs of a recovery are recorded.
+const RECORDED: usize = 500;
+
+/// How the lines of a row are stopped.
+#[derive(Clone, Copy, PartialEq, Eq)]
+pub enum Manner {
+    /// By a crash, of which each pick is tried, and by another one in each recovery.
+    Stops,
+    /// By a fault of the disk alone, behind which it serves.
+    Faults,
+}
 
 /// How a row came out at its stops.
 #[derive(Clone, Copy)]
 pub struct Stops {
     /// How often what was left was started.
     pub starts: u64,
-    /// How often the files were neither those from before the lines nor those behind them.
+    /// How often the files were others, or an event was answered otherwise.
     pub mistakes: u64,
 }
 
-/// The lines of a row: those that are stopped, and those that tell what is there behind them, before the lines (as
-/// alternative 0) or after them (as alternative 1).
+impl Stops {
+    /// Something came out otherwise.
+    fn miss(&mut self) {
+        self.mistakes = self.mistakes.saturating_add(1);
+    }
+}
+
+/// A row that is stopped.
 #[derive(Clone, Copy)]
-struct Parts<'a> {
+struct Trial<'a> {
+    row: &'a Row,
+    /// The lines that are stopped.
     stopped: &'a [String],
+    /// Those that tell what is there behind so many events, which is the number of their alternative.
     telling: &'a [String],
+    manner: Manner,
+}
+
+/// What is left where the disk failed, or didn't.
+#[derive(Drop)]
+struct Left {
+    disk: MemDisk,
+    /// How many events were answered before.
+    answered: usize,
+    has_failed: bool,
+    mistakes: u64,
 }
 
 /// A disk with the same blocks, on which nothing is recorded.
 fn copy_of(alloc: Global, disk: &mut MemDisk) -> Result<MemDisk> {
-    let mut copy = MemDisk::new(alloc, disk.blocks(), MOST_CALLS as usize)?;
+    let mut copy = MemDisk::new(alloc, disk.blocks(), RECORDED)?;
     for n in 0..disk.blocks() {
         ensure!(n < disk.blocks() && n < copy.blocks(), "no block {n}");
         match disk.read(n) {
@@ -56,31 +88,61 @@ fn comes_out(
     Ok(desk.mistakes == 0)
 }
 
-/// Starts what is left of a disk: the lines come out as before or as after.
+/// Starts what is left of a disk: the files are those behind so many events, or behind one more.
 fn judge(
     rt: &impl Print,
     alloc: Global,
-    disk: &mut MemDisk,
-    parts: Parts<'_>,
+    disk: MemDisk,
+    trial: Trial<'_>,
+    answered: usize,
     stops: &mut Stops,
 ) -> Result<()> {
     stops.starts = stops.starts.saturating_add(1);
-    let before = copy_of(alloc, disk)?;
-    let after = copy_of(alloc, disk)?;
-    if !comes_out(rt, alloc, before, parts.telling, 0)?
-        && !comes_out(rt, alloc, after, parts.telling, 1)?
+    let mut disk = disk;
+    let before = copy_of(alloc, &mut disk)?;
+    if !comes_out(rt, alloc, before, trial.telling, answered)?
+        && !comes_out(rt, alloc, disk, trial.telling, answered.saturating_add(1))?
     {
-        stops.mistakes = stops.mistakes.saturating_add(1);
+        stops.miss();
     }
     Ok(())
 }
 
-/// Starts the service on a disk that fails once so many calls have passed. Gives the disk, and whether it was stopped.
-fn recover(alloc: Global, disk: MemDisk, passing: u64) -> (MemDisk, bool) {
-    match start_over(alloc, FuseDisk::new(disk, passing, Fail::All)) {
+/// Starts the service on a copy of a disk that fails once so many calls have passed, and crashes it. Gives the disk, and
+/// whether it was stopped.
+fn recover(alloc: Global, disk: &mut MemDisk, passing: u64, pick: Pick) -> Result<(MemDisk, bool)> {
+    let fused = FuseDisk::new(copy_of(alloc, disk)?, passing, Fail::All);
+    let (mut left, was_stopped) = match start_over(alloc, fused) {
         Ok(monitor) => (monitor.finish().into_inner(), false),
-        Err((_error, disk)) => (disk.into_inner(), true),
+        Err((_error, fused)) => (fused.into_inner(), true),
+    };
+    left.crash(pick);
+    Ok((left, was_stopped))
+}
+
+/// Stops the recovery of a disk behind so many calls, and crashes it in each way that leaves something else. Gives whether
+/// it was stopped.
+fn stop_recovery(
+    rt: &impl Print,
+    alloc: Global,
+    disk: &mut MemDisk,
+    passing: u64,
+    trial: Trial<'_>,
+    answered: usize,
+    stops: &mut Stops,
+) -> Result<bool> {
+    let (mut old, was_stopped) = recover(alloc, disk, passing, Pick::Old)?;
+    if !was_stopped {
+        return Ok(false);
     }
+    for pick in PICKS {
+        let (mut left, _) = recover(alloc, disk, passing, pick)?;
+        if different_blocks(&mut old, &mut left) > 0 {
+            judge(rt, alloc, left, trial, answered, stops)?;
+        }
+    }
+    judge(rt, alloc, old, trial, answered, stops)?;
+    Ok(true)
 }
 
 /// Stops the recovery of a disk at each of its calls.
@@ -88,74 +150,104 @@ fn stop_recoveries(
     rt: &impl Print,
     alloc: Global,
     disk: &mut MemDisk,
-    pick: Pick,
-    parts: Parts<'_>,
+    trial: Trial<'_>,
+    answered: usize,
     stops: &mut Stops,
 ) -> Result<()> {
     for passing in 0..MOST_CALLS {
-        let (mut left, was_stopped) = recover(alloc, copy_of(alloc, disk)?, passing);
-        if !was_stopped {
+        if !stop_recovery(rt, alloc, disk, passing, trial, answered, stops)? {
             return Ok(());
         }
-        left.crash(pick);
-        judge(rt, alloc, &mut left, parts, stops)?;
     }
+    stops.miss(); // a recovery that doesn't end
     Ok(())
 }
 
-/// Plays the lines of a row over a disk that fails once so many calls have passed. Gives the disk, and whether it was
-/// stopped.
-fn play_stopped(
+/// Plays the lines of a row over a disk that fails once so many calls have passed.
+fn play_failing(
     rt: &impl Print,
     alloc: Global,
-    row: &Row,
-    lines: &[String],
+    trial: Trial<'_>,
     passing: u64,
-) -> Result<(MemDisk, bool)> {
-    let mut disk = disk_of(alloc, row, 0)?;
+    fail: Fail,
+) -> Result<Left> {
+    let mut disk = disk_of(alloc, trial.row, 0)?;
     forget_record(&mut disk);
-    let mut desk = Desk::silent(alloc, 0)?;
-    let fused = FuseDisk::new(disk, passing, Fail::All);
-    let disk = play_over(rt, &mut desk, fused, lines)?.into_inner();
-    Ok((disk, desk.mistakes > 0))
+    let mut desk = Desk::failing(alloc)?;
+    let fused = FuseDisk::new(disk, passing, fail);
+    let disk = play_over(rt, &mut desk, fused, trial.stopped)?.into_inner();
+    Ok(Left {
+        disk,
+        answered: desk.answered,
+        has_failed: desk.has_failed,
+        mistakes: desk.mistakes,
+    })
 }
 
-/// Stops the lines of a row at each call of its disk.
+/// Stops the lines of a row behind so many calls of the disk, by a crash with this pick.
+fn crash_lines(
+    rt: &impl Print,
+    alloc: Global,
+    trial: Trial<'_>,
+    passing: u64,
+    pick: Pick,
+    stops: &mut Stops,
+) -> Result<()> {
+    let Left {
+        mut disk,
+        answered,
+        ..
+    } = play_failing(rt, alloc, trial, passing, Fail::One)?;
+    disk.crash(pick);
+    stop_recoveries(rt, alloc, &mut disk, trial, answered, stops)?;
+    judge(rt, alloc, disk, trial, answered, stops)
+}
+
+/// Stops the lines of a row behind so many calls of the disk: once it has failed it is asked for nothing more, whether it
+/// would serve or not. Gives whether they were stopped.
 fn stop_lines(
     rt: &impl Print,
     alloc: Global,
-    row: &Row,
-    pick: Pick,
-    parts: Parts<'_>,
+    trial: Trial<'_>,
+    passing: u64,
     stops: &mut Stops,
-) -> Result<()> {
-    for passing in 0..MOST_CALLS {
-        let (mut left, was_stopped) = play_stopped(rt, alloc, row, parts.stopped, passing)?;
-        if !was_stopped {
-            return judge(rt, alloc, &mut left, parts, stops);
-        }
-        left.crash(pick);
-        judge(rt, alloc, &mut left, parts, stops)?;
-        stop_recoveries(rt, alloc, &mut left, pick, parts, stops)?;
+) -> Result<bool> {
+    let mut failing = play_failing(rt, alloc, trial, passing, Fail::All)?;
+    let mut serving = play_failing(rt, alloc, trial, passing, Fail::One)?;
+    if failing.mistakes.saturating_add(serving.mistakes) > 0
+        || different_blocks(&mut failing.disk, &mut serving.disk) > 0
+    {
+        stops.miss();
     }
-    stops.mistakes = stops.mistakes.saturating_add(1); // the lines don't come out on a disk that serves
-    Ok(())
+    if failing.has_failed && trial.manner == Manner::Stops {
+        for pick in PICKS {
+            crash_lines(rt, alloc, trial, passing, pick, stops)?;
+        }
+    } else {
+        judge(rt, alloc, serving.disk, trial, serving.answered, stops)?;
+    }
+    Ok(failing.has_failed)
 }
 
-/// Plays a row of which the lines up to its RESTART are stopped at each call of the disk, and each recovery behind that at
-/// each of its own, whatever a crash leaves of the open blocks.
-pub fn play_stops(rt: &impl Print, alloc: Global, row: &Row) -> Result<Stops> {
+/// Plays a row of which the lines up to its RESTART are stopped at each call of the disk, and where they are stopped by a
+/// crash, each recovery behind that at each of its own, whatever the crashes leave of the open blocks.
+pub fn play_stops(rt: &impl Print, alloc: Global, row: &Row, manner: Manner) -> Result<Stops> {
     let mut sections = row.lines().split(|line| line.as_str() == "RESTART");
-    let parts = Parts {
+    let trial = Trial {
+        row,
         stopped: sections.next().unwrap_or(&[]),
         telling: sections.next().unwrap_or(&[]),
+        manner,
     };
     let mut stops = Stops {
         starts: 0,
         mistakes: 0,
     };
-    for pick in PICKS {
-        stop_lines(rt, alloc, row, pick, parts, &mut stops)?;
+    for passing in 0..MOST_CALLS {
+        if !stop_lines(rt, alloc, trial, passing, &mut stops)? {
+            return Ok(stops);
+        }
     }
+    stops.miss(); // the lines don't come to their end
     Ok(stops)
 }
