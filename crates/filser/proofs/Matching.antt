@@ -16,8 +16,8 @@ use Rattle.imagefile.specs.declared.form.Form.{Form}
 use Rattle.meaning.specs.Lines.{upper}
 use Rattle.meaning.specs.Spellings.{IsPair}
 use Rattle.commands.specs.Files.{IsFileName}
-use Rattle.filser.specs.CommandLine.{command_line, serving, filing, looking, init_app, run_app, calls_app, put_app}
-use Rattle.filser.specs.CommandLine.{get_app, list_app, check_app, convert_app, converting, dated, filed, formed, sized}
+use Rattle.arguments.specs.CommandLine.{command_line, serving, filing, looking, init_app, run_app, calls_app, put_app}
+use Rattle.arguments.specs.CommandLine.{get_app, list_app, check_app, convert_app, converting, dated, filed, formed, sized}
 use Rattle.filser.specs.Requests.{Asks, IsAsked, IsTask, IsAt, IsNamed, IsPlace, HasForm, HasText, HasNumber}
 use Rattle.filser.specs.Requests.{Spells, task_name}
 use Rattle.filser.specs.declared.task.NamedFile.{NamedFile}

@@ -1,4 +1,3 @@
-pub mod CommandLine
 pub mod Requests
 pub mod Statuses
 pub mod Refusals

@@ -18,7 +18,6 @@
 //! What an image stands for, and what a line does, is not known here.
 #![tactic(auto)]
 
-mod arguments;
 mod asked;
 mod convert;
 mod error;
@@ -37,7 +36,6 @@ mod refusal;
 mod serving;
 mod status;
 mod streams;
-mod table;
 mod task;
 #[cfg(test)]
 mod tests;

@@ -1,7 +1,7 @@
 ghost use Rattle.std.specs.Prelude.{◌≡◌, ◌≢◌, ◌⊎◌, ◌≤◌, ℕ, List, [], map, true, Option, IfOk, IfErr, IfSome, MatchResult};
 ghost use Rattle.std.specs.Io.KnownBytes.{Keeps};
 ghost use Rattle.clap.specs.Words.{fault_of, kind_of, subcommand_of};
-ghost use Rattle.filser.specs.CommandLine.{command_line};
+ghost use Rattle.arguments.specs.CommandLine.{command_line};
 ghost use Rattle.filser.specs.Endings.{AreMistaken, AskToSee, EndsUnasked, IsShown};
 ghost use Rattle.filser.specs.HostFaults.{forbids_errors, forbids_output};
 ghost use Rattle.filser.specs.Requests.{Asks, InRange};

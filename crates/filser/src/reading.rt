@@ -4,7 +4,7 @@ ghost use Rattle.clap.specs.Words.{Row, found_of, rows_of, first_of, subcommand_
 ghost use Rattle.clap.specs.Words.{kind_of, IsAmong};
 ghost use Rattle.clap.specs.declared.error.Error.{Error as ClapError};
 ghost use Rattle.clap.specs.declared.error.kind.ErrorKind.TheVariants.{OutOfMemory};
-ghost use Rattle.filser.specs.CommandLine.{command_line};
+ghost use Rattle.arguments.specs.CommandLine.{command_line};
 ghost use Rattle.filser.specs.Requests.{Asks, IsAsked, IsAt, IsNamed, IsPlace, IsStyle, IsTask, HasForm, HasText, HasNumber};
 ghost use Rattle.filser.specs.Requests.{InRange};
 ghost use Rattle.words36.specs.declared.moment.Moment.{Moment as Moments};
@@ -15,8 +15,8 @@ ghost use Rattle.meaning.specs.declared.encoding.Encoding.TheVariants.{Words};
 ghost use Rattle.filser.specs.declared.asked.Request.{Request as Asked};
 ghost use Rattle.filser.specs.declared.error.RequestError.TheVariants.{Usage, BadArgument};
 
-use crate::table::command_line;
 use crate::{NamedFile, Request, RequestError, Task};
+use arguments::command_line;
 use clap::error::ErrorKind;
 use clap::{ArgMatches, Error};
 use commands::{Encoding, Style, file_named, owner_named};

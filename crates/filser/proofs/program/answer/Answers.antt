@@ -1,6 +1,6 @@
 use Rattle.std.proofs.Common.{inl, inr, map, refl}
 use Rattle.clap.specs.Words.{fault_of}
-use Rattle.filser.specs.CommandLine.{command_line}
+use Rattle.arguments.specs.CommandLine.{command_line}
 use Rattle.filser.proofs.ExitCodes.{prints_only}
 use Rattle.filser.proofs.Unasked.{ends_mistaken, ends_shown}
 use Rattle.filser.proofs.program.answer.Goals as goal

@@ -3,8 +3,8 @@
 ghost use Rattle.std.specs.Prelude.{◌≡◌, IfOk, codes, false};
 ghost use Rattle.clap.specs.Words.{app_of, with_subcommand};
 ghost use Rattle.clap.specs.declared.builder.command.Command.TheViews.{out-Command as fields_of};
-ghost use Rattle.filser.specs.CommandLine.{calls_app, check_app, command_line, convert_app, converting};
-ghost use Rattle.filser.specs.CommandLine.{filing, get_app, init_app, list_app, looking, put_app, run_app, serving, versioned};
+ghost use Rattle.arguments.specs.CommandLine.{calls_app, check_app, command_line, convert_app, converting};
+ghost use Rattle.arguments.specs.CommandLine.{filing, get_app, init_app, list_app, looking, put_app, run_app, serving, versioned};
 
 use crate::arguments::{
     about, dated, filed, formed, place, shown, sized, tsv, wanted, with_argument,
@@ -238,9 +238,14 @@ fn program<'a>(alloc: Global) -> Command<'a>
     .version(VERSION)
 }
 
-/// The whole command line.
+/// The whole command line: its subcommands, the arguments of each with the ranges of their numbers, and the texts of its
+/// help (this project's profile).
+///
+/// # Errors
+///
+/// `AllocError` where memory ran out.
 #[tactic(auto, unfolding(crate::specs::CommandLine::command_line))]
-pub(crate) fn command_line<'a>(alloc: Global) -> Result<Command<'a>, AllocError>
+pub fn command_line<'a>(alloc: Global) -> Result<Command<'a>, AllocError>
     ensures { IfOk result (λ c. app_of c ≡ command_line) }
 {
     let command = with_serving(alloc, program(alloc))?;
