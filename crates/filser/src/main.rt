@@ -1,6 +1,6 @@
 //! The program: what its arguments ask for, and a run of it. What the layer keeps:
 //!
-//! 1. The command line is a value of `clap`'s, and a definition says which. (`specs/CommandLine.antt`)
+//! 1. The command line is a value of `clap`'s, and a definition says which. (`arguments`)
 //! 2. `request` answers Ok only with what `clap` matches: the subcommand, its texts and its numbers are
 //!    a function of the words, and each number is decimal and in its range. (`asked`, `range`, `taken`)
 //! 3. `Usage` comes only where `clap` refuses the words, or is asked for help or the version, and with
