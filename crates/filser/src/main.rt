@@ -23,13 +23,7 @@ mod asked;
 mod convert;
 mod error;
 mod fault;
-#[cfg(test)]
-mod file_tests;
-#[cfg(test)]
-mod host_tests;
 mod image;
-#[cfg(test)]
-mod image_tests;
 mod lines;
 mod program;
 mod reading;
@@ -39,8 +33,6 @@ mod status;
 mod streams;
 mod table;
 mod task;
-#[cfg(test)]
-mod tests;
 
 pub use asked::Request;
 pub use error::RequestError;
