@@ -24,6 +24,7 @@ test:
 	python3 examples/hostile crates/filser/out/filser 2000
 	python3 examples/jobs crates/filser/out/filser
 	python3 examples/forms crates/filser/out/filser
+	python3 examples/program crates/filser/out/filser
 	tools/check-docs crates/filser/out/filser
 	tools/test-wrong-bodies
 
@@ -41,6 +42,7 @@ examples:
 	python3 examples/hostile crates/filser/out/filser 2000
 	python3 examples/jobs crates/filser/out/filser
 	python3 examples/forms crates/filser/out/filser
+	python3 examples/program crates/filser/out/filser
 	tools/check-docs crates/filser/out/filser
 
 # The first time every crate below the program is proved too; what was proved is kept below crates/*/out.

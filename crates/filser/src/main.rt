@@ -22,13 +22,7 @@ mod asked;
 mod convert;
 mod error;
 mod fault;
-#[cfg(test)]
-mod file_tests;
-#[cfg(test)]
-mod host_tests;
 mod image;
-#[cfg(test)]
-mod image_tests;
 mod lines;
 mod program;
 mod reading;
@@ -37,8 +31,6 @@ mod serving;
 mod status;
 mod streams;
 mod task;
-#[cfg(test)]
-mod tests;
 
 pub use asked::Request;
 pub use error::RequestError;

@@ -31,15 +31,6 @@ pub struct MissingStreams {
 }
 
 impl MissingStreams {
-    /// None is missing.
-    pub fn none() -> Self {
-        MissingStreams {
-            first: None,
-            second: None,
-            third: None,
-        }
-    }
-
     /// Finds the streams that are missing, and takes their places. The system gives a file the lowest number that is
     /// free, so that the first one above them shows that all are taken.
     ///
