@@ -1,5 +1,5 @@
 use crate::image_tests::{V1, expect_failed, expect_run, expect_told, image_of, put};
-use crate::{MissingStreams, work};
+use crate::{MissingStreams, Telling, work};
 use std::alloc::{AllocError, Allocator, Global};
 use std::fs::{self, File, Metadata, OpenOptions};
 use std::io::{self, Read};
@@ -271,6 +271,7 @@ fn an_input_that_breaks_off(rt: HostRuntime) {
         alloc,
         &["filser"],
         &missing,
+        Telling::Silent,
         &mut reader,
         &mut writer,
         &mut errors,

@@ -1,4 +1,4 @@
-use crate::{MissingStreams, Refusal, make_image, work};
+use crate::{MissingStreams, Refusal, Telling, make_image, work};
 use imagefile::Form;
 use std::alloc::{AllocError, Global};
 use std::fs::{self, File};
@@ -102,6 +102,7 @@ pub(crate) fn expect_told<T: Abort, F: Files<File = File>>(
         alloc,
         words,
         &missing,
+        Telling::Silent,
         &mut reader,
         &mut writer,
         &mut errors,
@@ -337,6 +338,7 @@ fn outcome<F: Files<File = File> + Alloc<A = Global>>(
         alloc,
         words,
         &MissingStreams::none(),
+        Telling::Silent,
         &mut "".as_bytes(),
         &mut writer,
         &mut errors,

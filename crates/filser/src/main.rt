@@ -32,6 +32,7 @@ mod image;
 mod image_tests;
 mod lines;
 mod program;
+mod progress;
 mod reading;
 mod refusal;
 mod serving;
@@ -47,11 +48,12 @@ pub use error::RequestError;
 pub use fault::{HostFault, ImageFault};
 pub use image::make_image;
 pub use program::work;
+pub use progress::Telling;
 pub use reading::request;
 pub use refusal::Refusal;
 pub use status::Status;
 use std::env;
-use std::io::{self, ErrorKind};
+use std::io::{self, ErrorKind, IsTerminal};
 use std::process::ExitCode;
 pub use streams::MissingStreams;
 pub use task::{NamedFile, Task};
@@ -82,11 +84,17 @@ fn run(rt: &HostRuntime) -> io::Result<u8> {
     let texts: Vec<&str> = words.iter().map(|word| word.as_str()).collect(alloc)?;
     let mut output = rt.stdout();
     let mut errors = rt.stderr();
+    let telling = if errors.is_terminal() {
+        Telling::Progress
+    } else {
+        Telling::Silent
+    };
     let code = work(
         rt,
         alloc,
         texts.as_slice(),
         &missing,
+        telling,
         &mut rt.reader(),
         &mut output,
         &mut errors,

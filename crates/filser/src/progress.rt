@@ -1,0 +1,125 @@
+ghost use Rattle.std.specs.Prelude.{◌≡◌};
+
+use blockdisk::{Disk, Fault};
+use std::io::Write;
+use words36::Block;
+
+/// Work on fewer blocks is over before anybody looks.
+const TOLD_BLOCKS: u32 = 8192;
+
+/// Whether people are told how far a run is.
+#[derive(Clone, Copy, Debug, PartialEq, Eq)]
+pub enum Telling {
+    /// They aren't: nobody may be looking.
+    Silent,
+    /// They are, by a line of a terminal that is written over.
+    Progress,
+}
+
+/// How far the work on so many blocks is, as people are told on the standard error. What can't be written there is left
+/// out.
+#[derive(Drop)]
+pub(crate) struct Progress<'a, E: Write> {
+    errors: &'a mut E,
+    telling: Telling,
+    blocks: u32,
+    done: u32,
+    percent: u64,
+}
+
+impl<'a, E: Write> Progress<'a, E> {
+    /// None of so many blocks is done yet. People are told so, unless the work is short.
+    pub(crate) fn new(errors: &'a mut E, telling: Telling, blocks: u32) -> Self {
+        let telling = if blocks < TOLD_BLOCKS {
+            Telling::Silent
+        } else {
+            telling
+        };
+        Progress {
+            errors,
+            telling,
+            blocks,
+            done: 0,
+            percent: 0,
+        }
+    }
+
+    /// How many hundredths of the blocks are done.
+    fn hundredths(&self) -> u64 {
+        let done = u64::from(self.done) * 100;
+        done.checked_div(u64::from(self.blocks)).unwrap_or(100)
+    }
+
+    /// Counts a block that is done, and tells people where it is the last one of a hundredth.
+    fn advance(&mut self) {
+        self.done = self.done.saturating_add(1);
+        let percent = self.hundredths();
+        if self.telling == Telling::Progress && percent > self.percent {
+            self.percent = percent;
+            let _ = write!(self.errors, "\rfilser: convert: {percent} %");
+        }
+    }
+
+    /// Ends the line that people are told by, so that the next text begins one of its own.
+    fn end(&mut self) {
+        if self.percent > 0 {
+            let _ = writeln!(self.errors);
+        }
+    }
+}
+
+/// A disk that hands each call on to another disk, and tells people how many of its blocks are written.
+#[derive(Drop)]
+pub(crate) struct Watched<'a, D: Disk, E: Write> {
+    inner: D,
+    progress: Progress<'a, E>,
+}
+
+impl<'a, D: Disk, E: Write> Watched<'a, D, E> {
+    /// The same disk, whose writes people are told of.
+    pub(crate) fn new(inner: D, progress: Progress<'a, E>) -> Self
+        ensures { result.inner ≡ inner }
+    {
+        Watched { inner, progress }
+    }
+
+    /// Tells no more, and hands the disk under it back, as it is.
+    pub(crate) fn finish(self) -> D
+        ensures { result ≡ self.inner }
+    {
+        let Watched { inner, progress } = self;
+        let mut progress = progress;
+        progress.end();
+        inner
+    }
+}
+
+impl<D: Disk, E: Write> Disk for Watched<'_, D, E> {
+    ghost state = { λ disk. D.state disk.inner };
+
+    ghost counts_now = { λ disk t c h le left. D.counts_now disk.inner t c h le left };
+
+    ghost only_now = { λ disk c h left. D.only_now disk.inner c h left };
+
+    ghost reaches_back = { λ disk t u c h le left. D.reaches_back disk.inner t u c h le left };
+
+    fn blocks(&self) -> u32 {
+        self.inner.blocks()
+    }
+
+    fn read(&mut self, n: u32) -> Result<Block, Fault> {
+        self.inner.read(n)
+    }
+
+    fn write(&mut self, n: u32, block: &Block) -> Result<(), Fault> {
+        let written = self.inner.write(n, block);
+        if written.is_ok() {
+            self.progress.advance();
+        }
+        written
+    }
+
+    fn sync(&mut self) -> Result<(), Fault> {
+        self.inner.sync()
+    }
+}
