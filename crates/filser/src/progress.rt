@@ -28,20 +28,22 @@ pub(crate) struct Progress<'a, E: Write> {
 }
 
 impl<'a, E: Write> Progress<'a, E> {
-    /// None of so many blocks is done yet. People are told so, unless the work is short.
+    /// None of so many blocks is done yet. Nobody is told where they are few.
     pub(crate) fn new(errors: &'a mut E, telling: Telling, blocks: u32) -> Self {
         let telling = if blocks < TOLD_BLOCKS {
             Telling::Silent
         } else {
             telling
         };
-        Progress {
+        let mut progress = Progress {
             errors,
             telling,
             blocks,
             done: 0,
             percent: 0,
-        }
+        };
+        progress.tell();
+        progress
     }
 
     /// How many hundredths of the blocks are done.
@@ -50,19 +52,26 @@ impl<'a, E: Write> Progress<'a, E> {
         done.checked_div(u64::from(self.blocks)).unwrap_or(100)
     }
 
-    /// Counts a block that is done, and tells people where it is the last one of a hundredth.
+    /// Counts a block that is done. People are told once for each hundredth.
     fn advance(&mut self) {
         self.done = self.done.saturating_add(1);
         let percent = self.hundredths();
-        if self.telling == Telling::Progress && percent > self.percent {
+        if percent > self.percent {
             self.percent = percent;
-            let _ = write!(self.errors, "\rfilser: convert: {percent} %");
+            self.tell();
         }
     }
 
-    /// Ends the line that people are told by, so that the next text begins one of its own.
+    /// Writes over the line that people are told by. It names no file, so that it is never wider than the terminal.
+    fn tell(&mut self) {
+        if self.telling == Telling::Progress {
+            let _ = write!(self.errors, "\rfilser: convert: {} %", self.percent);
+        }
+    }
+
+    /// Ends that line, so that the next text begins one of its own.
     fn end(&mut self) {
-        if self.percent > 0 {
+        if self.telling == Telling::Progress {
             let _ = writeln!(self.errors);
         }
     }
