@@ -158,8 +158,8 @@ fn copied<E: Write>(
     }
 }
 
-/// Copies a disk to another, which the host has made of as many blocks, and tells people how far it is. The other one is
-/// handed back.
+/// Copies a disk to another, which the host has made of as many blocks, and tells people how far it is. The other one
+/// is handed back.
 ///
 /// The answer is that of `Volume::copy_image`, or `Target` where the host has given another number of blocks.
 fn copy<E: Write>(

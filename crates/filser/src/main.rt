@@ -8,8 +8,8 @@
 //! 4. Why a run ends before a line is served is shown as the definition has it, byte by byte, and the
 //!    status of such a run is the definition's. (`specs/Refusals.antt`)
 //! 5. `work` is a whole run: it ends, takes nothing but what it is handed, and answers a status from 0 to
-//!    4. `main` holds the numbers of the standard streams that are missing, hands `work` the streams and the host's
-//!    files, and does nothing else.
+//!    4. `main` holds the numbers of the standard streams that are missing, asks whether the standard error is a
+//!    terminal, hands `work` the streams and the host's files, and does nothing else.
 //! 6. No file with the number of a standard stream is taken for an image. (`open_file`)
 //!
 //! 7. Whatever is done on an image is done by one function, `serve`: it starts a service on the image's disk, or says why
