@@ -11,7 +11,7 @@ ghost use Rattle.filser.specs.declared.status.Status.TheVariants.{BadArguments};
 use crate::fault::report;
 use crate::image::{disk_in, failure_of, new_file, open_file, zeros_in};
 use crate::program::refuse_image;
-use crate::progress::{Progress, Watched};
+use crate::progress::Watched;
 use crate::{ImageFault, Refusal, Status, Telling};
 use blockdisk::Disk;
 use commands::Volume;
@@ -101,12 +101,7 @@ fn write_new<F: Files<File = File>, W: Write, E: Write>(
     };
     let blocks = source.blocks();
     match zeros_in(file, new, form, blocks, errors) {
-        Ok(target) => match copied(
-            alloc,
-            source,
-            target,
-            Progress::new(errors, telling, blocks),
-        ) {
+        Ok(target) => match copied(alloc, source, target, telling, errors) {
             Ok(()) => tell_converted(blocks, writer),
             Err(Side::Source(fault)) => {
                 tell_incomplete(new, errors);
@@ -141,10 +136,11 @@ fn copied<E: Write>(
     alloc: Global,
     source: ImageDisk<HostFile>,
     target: ImageDisk<HostFile>,
-    progress: Progress<'_, E>,
+    telling: Telling,
+    errors: &mut E,
 ) -> Result<(), Side> {
     let mut source = source;
-    let (copied, target) = copy(alloc, &mut source, target, progress);
+    let (copied, target) = copy(alloc, &mut source, target, telling, errors);
     match copied {
         Ok(()) => Ok(()),
         Err(CopyError::Source(error)) => Err(Side::Source(ImageFault {
@@ -166,7 +162,8 @@ fn copy<E: Write>(
     alloc: Global,
     source: &mut ImageDisk<HostFile>,
     target: ImageDisk<HostFile>,
-    progress: Progress<'_, E>,
+    telling: Telling,
+    errors: &mut E,
 ) -> (Result<(), CopyError>, ImageDisk<HostFile>)
     // Where both files have kept to the model up to the end: the copy stands for what the image stood for.
     ensures files { (⟦<ImageDisk<HostFile> as Disk>⟧.state source.new).honest
@@ -180,9 +177,10 @@ fn copy<E: Write>(
     if source.blocks() != target.blocks() {
         return (Err(CopyError::Target), target);
     }
-    let mut watched = Watched::new(target, progress);
+    let mut watched = Watched::new(target, telling, errors);
     let copied = Volume::copy_image(alloc, source, &mut watched);
-    (copied, watched.finish())
+    watched.end();
+    (copied, watched.inner)
 }
 
 /// Prints how many blocks were converted.

@@ -19,26 +19,26 @@ pub enum Telling {
 /// How far the work on so many blocks is, as people are told on the standard error. What can't be written there is left
 /// out.
 #[derive(Drop)]
-pub(crate) struct Progress<'a, E: Write> {
-    errors: &'a mut E,
+struct Progress<'a, E: Write> {
     telling: Telling,
     blocks: u32,
+    errors: &'a mut E,
     done: u32,
     percent: u64,
 }
 
 impl<'a, E: Write> Progress<'a, E> {
     /// None of so many blocks is done yet. Nobody is told where they are few.
-    pub(crate) fn new(errors: &'a mut E, telling: Telling, blocks: u32) -> Self {
+    fn new(telling: Telling, blocks: u32, errors: &'a mut E) -> Self {
         let telling = if blocks < TOLD_BLOCKS {
             Telling::Silent
         } else {
             telling
         };
         let mut progress = Progress {
-            errors,
             telling,
             blocks,
+            errors,
             done: 0,
             percent: 0,
         };
@@ -80,26 +80,28 @@ impl<'a, E: Write> Progress<'a, E> {
 /// A disk that hands each call on to another disk, and tells people how many of its blocks are written.
 #[derive(Drop)]
 pub(crate) struct Watched<'a, D: Disk, E: Write> {
-    inner: D,
+    /// The disk under it.
+    pub(crate) inner: D,
     progress: Progress<'a, E>,
 }
 
 impl<'a, D: Disk, E: Write> Watched<'a, D, E> {
     /// The same disk, whose writes people are told of.
-    pub(crate) fn new(inner: D, progress: Progress<'a, E>) -> Self
+    pub(crate) fn new(inner: D, telling: Telling, errors: &'a mut E) -> Self
         ensures { result.inner ≡ inner }
     {
-        Watched { inner, progress }
+        let blocks = inner.blocks();
+        Watched {
+            inner,
+            progress: Progress::new(telling, blocks, errors),
+        }
     }
 
-    /// Tells no more, and hands the disk under it back, as it is.
-    pub(crate) fn finish(self) -> D
-        ensures { result ≡ self.inner }
+    /// Ends the line that people are told by.
+    pub(crate) fn end(&mut self)
+        ensures { self.new.inner ≡ self.old.inner }
     {
-        let Watched { inner, progress } = self;
-        let mut progress = progress;
-        progress.end();
-        inner
+        self.progress.end();
     }
 }
 
