@@ -11,7 +11,8 @@ ghost use Rattle.filser.specs.declared.status.Status.TheVariants.{BadArguments};
 use crate::fault::report;
 use crate::image::{disk_in, failure_of, new_file, open_file, zeros_in};
 use crate::program::refuse_image;
-use crate::{ImageFault, Refusal, Status};
+use crate::progress::Watched;
+use crate::{ImageFault, Refusal, Status, Telling};
 use blockdisk::Disk;
 use commands::Volume;
 use imagefile::{Form, HostFile, ImageDisk, Supposition};
@@ -23,13 +24,14 @@ use volume::{CopyError, VolumeError};
 
 /// Writes what is on an image, which has this form, to a new one of the other form, and prints how many blocks they
 /// have. Nothing else is written to the one that is there than its recovery. A new one that can't be finished is left,
-/// and people are told that it is incomplete.
+/// and people are told that it is incomplete; where `telling` says so, they are told before how far it is.
 pub(crate) fn convert_image<F: Files<File = File>, W: Write, E: Write>(
     files: &F,
     alloc: Global,
     path: &str,
     new: &str,
     form: Form,
+    telling: Telling,
     writer: &mut W,
     errors: &mut E,
 ) -> Status
@@ -52,6 +54,7 @@ pub(crate) fn convert_image<F: Files<File = File>, W: Write, E: Write>(
             path,
             new,
             form.other(),
+            telling,
             writer,
             errors,
         ),
@@ -84,6 +87,7 @@ fn write_new<F: Files<File = File>, W: Write, E: Write>(
     path: &str,
     new: &str,
     form: Form,
+    telling: Telling,
     writer: &mut W,
     errors: &mut E,
 ) -> Status
@@ -97,7 +101,7 @@ fn write_new<F: Files<File = File>, W: Write, E: Write>(
     };
     let blocks = source.blocks();
     match zeros_in(file, new, form, blocks, errors) {
-        Ok(target) => match copied(alloc, source, target) {
+        Ok(target) => match copied(alloc, source, target, telling, errors) {
             Ok(()) => tell_converted(blocks, writer),
             Err(Side::Source(fault)) => {
                 tell_incomplete(new, errors);
@@ -128,14 +132,16 @@ enum Side {
 /// # Errors
 ///
 /// The refusal of the one that is there, or a fault of either.
-fn copied(
+fn copied<E: Write>(
     alloc: Global,
     source: ImageDisk<HostFile>,
     target: ImageDisk<HostFile>,
+    telling: Telling,
+    errors: &mut E,
 ) -> Result<(), Side> {
     let mut source = source;
-    let mut target = target;
-    match copy(alloc, &mut source, &mut target) {
+    let (copied, target) = copy(alloc, &mut source, target, telling, errors);
+    match copied {
         Ok(()) => Ok(()),
         Err(CopyError::Source(error)) => Err(Side::Source(ImageFault {
             refusal: Refusal::Start(error),
@@ -148,29 +154,33 @@ fn copied(
     }
 }
 
-/// Copies a disk to another, which the host has made of as many blocks.
+/// Copies a disk to another, which the host has made of as many blocks, and tells people how far it is. The other one
+/// is handed back.
 ///
-/// # Errors
-///
-/// As of `Volume::copy_image`; `Target` too where the host has given another number of blocks.
-fn copy(
+/// The answer is that of `Volume::copy_image`, or `Target` where the host has given another number of blocks.
+fn copy<E: Write>(
     alloc: Global,
     source: &mut ImageDisk<HostFile>,
-    target: &mut ImageDisk<HostFile>,
-) -> Result<(), CopyError>
+    target: ImageDisk<HostFile>,
+    telling: Telling,
+    errors: &mut E,
+) -> (Result<(), CopyError>, ImageDisk<HostFile>)
     // Where both files have kept to the model up to the end: the copy stands for what the image stood for.
     ensures files { (⟦<ImageDisk<HostFile> as Disk>⟧.state source.new).honest
-        → (⟦<ImageDisk<HostFile> as Disk>⟧.state target.new).honest → (files : Files StoredFile)
+        → (⟦<ImageDisk<HostFile> as Disk>⟧.state result.1).honest → (files : Files StoredFile)
         → Stands (⟦<ImageDisk<HostFile> as Disk>⟧.state source.old).size
         (⟦<ImageDisk<HostFile> as Disk>⟧.state source.old).contents files
-        → OnOk result (RestsAt (⟦<ImageDisk<HostFile> as Disk>⟧.state target.new) files) }
-    ensures settled { (⟦<ImageDisk<HostFile> as Disk>⟧.state target.new).honest
-        → OnOk result (NoneOpen (⟦<ImageDisk<HostFile> as Disk>⟧.state target.new)) }
+        → OnOk result.0 (RestsAt (⟦<ImageDisk<HostFile> as Disk>⟧.state result.1) files) }
+    ensures settled { (⟦<ImageDisk<HostFile> as Disk>⟧.state result.1).honest
+        → OnOk result.0 (NoneOpen (⟦<ImageDisk<HostFile> as Disk>⟧.state result.1)) }
 {
     if source.blocks() != target.blocks() {
-        return Err(CopyError::Target);
+        return (Err(CopyError::Target), target);
     }
-    Volume::copy_image(alloc, source, target)
+    let mut watched = Watched::new(target, telling, errors);
+    let copied = Volume::copy_image(alloc, source, &mut watched);
+    watched.end();
+    (copied, watched.inner)
 }
 
 /// Prints how many blocks were converted.

@@ -8,8 +8,8 @@
 //! 4. Why a run ends before a line is served is shown as the definition has it, byte by byte, and the
 //!    status of such a run is the definition's. (`specs/Refusals.antt`)
 //! 5. `work` is a whole run: it ends, takes nothing but what it is handed, and answers a status from 0 to
-//!    4. `main` holds the numbers of the standard streams that are missing, hands `work` the streams and the host's
-//!    files, and does nothing else.
+//!    4. `main` holds the numbers of the standard streams that are missing, asks whether the standard error is a
+//!    terminal, hands `work` the streams and the host's files, and does nothing else.
 //! 6. No file with the number of a standard stream is taken for an image. (`open_file`)
 //!
 //! 7. Whatever is done on an image is done by one function, `serve`: it starts a service on the image's disk, or says why
@@ -25,6 +25,7 @@ mod fault;
 mod image;
 mod lines;
 mod program;
+mod progress;
 mod reading;
 mod refusal;
 mod serving;
@@ -37,11 +38,12 @@ pub use error::RequestError;
 pub use fault::{HostFault, ImageFault};
 pub use image::make_image;
 pub use program::work;
+pub use progress::Telling;
 pub use reading::request;
 pub use refusal::Refusal;
 pub use status::Status;
 use std::env;
-use std::io::{self, ErrorKind};
+use std::io::{self, ErrorKind, IsTerminal};
 use std::process::ExitCode;
 pub use streams::MissingStreams;
 pub use task::{NamedFile, Task};
@@ -72,11 +74,17 @@ fn run(rt: &HostRuntime) -> io::Result<u8> {
     let texts: Vec<&str> = words.iter().map(|word| word.as_str()).collect(alloc)?;
     let mut output = rt.stdout();
     let mut errors = rt.stderr();
+    let telling = if errors.is_terminal() {
+        Telling::Progress
+    } else {
+        Telling::Silent
+    };
     let code = work(
         rt,
         alloc,
         texts.as_slice(),
         &missing,
+        telling,
         &mut rt.reader(),
         &mut output,
         &mut errors,

@@ -18,7 +18,9 @@ use crate::image::{Image, open_file, tell_failure};
 use crate::lines::LineReader;
 use crate::serving::{say, serve_file, serve_fresh};
 use crate::streams::stream_at;
-use crate::{ImageFault, MissingStreams, Request, RequestError, Status, make_image, request};
+use crate::{
+    ImageFault, MissingStreams, Request, RequestError, Status, Telling, make_image, request,
+};
 use blockcache::Cached;
 use blockdisk::{Disk, MemDisk};
 use clap::Error;
@@ -30,7 +32,8 @@ use std::rt::Files;
 
 /// A whole run of the program: reads the words, the first of which is its name, does what they ask for over
 /// the files of the host, and answers the exit status, 0 to 4. Texts go to `writer`. To `errors` go those on wrong
-/// arguments, why the host didn't give what was asked of an image, and the line that the input broke off in.
+/// arguments, why the host didn't give what was asked of an image, and the line that the input broke off in; and, where
+/// `telling` says so, how far a conversion is.
 ///
 /// Where several faults stand, the first of these is met: the arguments, a new file that is there, a file
 /// that can't be opened or made or that another process has, its size, the start, the input.
@@ -39,6 +42,7 @@ pub fn work<F: Files<File = File>, R: Read, W: Write, E: Write>(
     alloc: Global,
     words: &[&str],
     missing: &MissingStreams,
+    telling: Telling,
     reader: &mut R,
     writer: &mut W,
     errors: &mut E,
@@ -56,7 +60,9 @@ pub fn work<F: Files<File = File>, R: Read, W: Write, E: Write>(
         (R.remaining reader.old) left (W.contents writer.old) full status }
 {
     let mut lines = LineReader::new(reader);
-    let status = answer(files, alloc, words, missing, &mut lines, writer, errors);
+    let status = answer(
+        files, alloc, words, missing, telling, &mut lines, writer, errors,
+    );
     if let Some((line, fault)) = lines.fault() {
         report(
             errors,
@@ -83,6 +89,7 @@ fn answer<F: Files<File = File>, R: Read, W: Write, E: Write>(
     alloc: Global,
     words: &[&str],
     missing: &MissingStreams,
+    telling: Telling,
     reader: &mut R,
     writer: &mut W,
     errors: &mut E,
@@ -97,7 +104,9 @@ fn answer<F: Files<File = File>, R: Read, W: Write, E: Write>(
         (R.remaining reader.old) (R.remaining reader.new) (W.contents writer.old) (W.contents writer.new) result }
 {
     match request(alloc, words) {
-        Ok(asked) => start(files, alloc, &asked, missing, reader, writer, errors),
+        Ok(asked) => start(
+            files, alloc, &asked, missing, telling, reader, writer, errors,
+        ),
         Err(error) => refuse(&error, writer, errors),
     }
 }
@@ -108,6 +117,7 @@ fn start<F: Files<File = File>, R: Read, W: Write, E: Write>(
     alloc: Global,
     asked: &Request<'_>,
     missing: &MissingStreams,
+    telling: Telling,
     reader: &mut R,
     writer: &mut W,
     errors: &mut E,
@@ -128,7 +138,7 @@ fn start<F: Files<File = File>, R: Read, W: Write, E: Write>(
         report(errors, "standard input or output", &"it is closed");
         return Status::Fault;
     }
-    perform(files, alloc, asked, reader, writer, errors)
+    perform(files, alloc, asked, telling, reader, writer, errors)
 }
 
 /// Does what is asked for.
@@ -136,6 +146,7 @@ fn perform<F: Files<File = File>, R: Read, W: Write, E: Write>(
     files: &F,
     alloc: Global,
     asked: &Request<'_>,
+    telling: Telling,
     reader: &mut R,
     writer: &mut W,
     errors: &mut E,
@@ -162,7 +173,7 @@ fn perform<F: Files<File = File>, R: Read, W: Write, E: Write>(
             Err(fault) => refuse_image(fault, path, writer, errors),
         },
         Request::Convert(path, new, form) => {
-            convert_image(files, alloc, path, new, *form, writer, errors)
+            convert_image(files, alloc, path, new, *form, telling, writer, errors)
         }
     }
 }
