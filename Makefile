@@ -14,9 +14,10 @@ help:
 	@echo 'make install  build it, and put the program, its man page and its completion for bash below'
 	@echo '              PREFIX (now $(PREFIX))'
 
-# The program that rt ci leaves is the one that it built from nothing.
+# The program that rt ci leaves is the one that it built from nothing. It proves as many things side by side as there are
+# processors; left to itself it waits for more memory than proofs take (docs/PROVING.md).
 test:
-	tools/timed rt ci
+	RT_JOBS=$${RT_JOBS:-$$(nproc)} tools/timed rt ci
 	sh examples/run crates/filser/out/filser
 	sh examples/starts crates/filser/out/filser
 	sh examples/emulate crates/filser/out/filser
