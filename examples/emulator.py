@@ -75,8 +75,8 @@ def main(program, image):
     disk.do("1 OUT 1 400")
     disk.do("1 CLOSE 1 0")  # the file is there now, whatever happens
 
-    disk.deposit(1, 0o303, [0])
-    disk.do("1 LOOKUP 1 300")
+    disk.deposit(1, 0o303, [0])  # a directory's name may stand there, and zero is the job's own
+    disk.do("1 LOOKUP 1 300")  # and now the file's length does
     disk.deposit(1, 0o400, area(0o2000, 128))
     disk.do("1 IN 1 400")
     print(*(f"{disk.examine(1, 0o2000 + place):o}" for place in range(3)))

@@ -127,7 +127,7 @@ fn words<'a>(alloc: Global) -> Arg<'a>
     Arg::new(alloc, "words")
         .long("words")
         .action(ArgAction::SetTrue)
-        .help("Any file, as words: eight bytes each, the most significant first")
+        .help("As words: eight bytes each, the most significant first")
 }
 
 /// A command with a file of a directory.
