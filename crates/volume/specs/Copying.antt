@@ -1,5 +1,5 @@
 -- An image that is copied block by block, with zeros in the place of a block that is damaged.
-use Rattle.std.specs.Prelude.{◌≡◌, ◌⊎◌, ◌<◌, ℕ, List, Option, Some, None, Result, IfErr, IsErrOf, replicate}
+use Rattle.std.specs.Prelude.{◌≡◌, ◌⊎◌, ◌<◌, ◌≤◌, ℕ, List, Option, Some, None, Result, IfErr, IsErrOf, replicate}
 use Rattle.blockdisk.specs.Disk.{Contents, DiskState, SameDisk, one_more}
 use Rattle.changeset.specs.Reads.{OnlyReads}
 use Rattle.volume.specs.declared.error.CopyError.{CopyError}
@@ -14,6 +14,10 @@ copied (Some words) = words
 -- Of each block below `end` the copy has the words.
 abbrev pub AreCopied : ℕ → Contents → Contents → Type 0
 AreCopied end from to = (n : ℕ) → n < end → to n ≡ Some (copied (from n))
+
+-- So it is of each block from `first` on and below `end`.
+abbrev pub ArePartlyCopied : ℕ → ℕ → Contents → Contents → Type 0
+ArePartlyCopied first end from to = (n : ℕ) → first ≤ n → n < end → to n ≡ Some (copied (from n))
 
 -- The one disk, which was s, was only read; the other, which was t, may hold anything; and which device failed where
 -- that is refused.

@@ -1,10 +1,10 @@
-ghost use Rattle.std.specs.Prelude.{◌≡◌, ◌⊎◌, ◌<◌, ℕ, Some, OnOk, IfOk, IfErr, IsErrOf};
+ghost use Rattle.std.specs.Prelude.{◌≡◌, ◌⊎◌, ◌<◌, ◌≤◌, ℕ, Some, OnOk, IfOk, IfErr, IsErrOf};
 ghost use Rattle.blockdisk.specs.Disk.{LeavesOnly, NoneOpen, SameDisk, SameOutside, Still, one_more};
 ghost use Rattle.changeset.specs.Crashes.{IsRecovered, SyncsFirst};
 ghost use Rattle.changeset.specs.Reads.{OnlyReads};
 ghost use Rattle.meaning.specs.Files.{File, Files};
 ghost use Rattle.meaning.specs.Stands.{Stands};
-ghost use Rattle.volume.specs.Copying.{copied, AreCopied, IsCopyStep};
+ghost use Rattle.volume.specs.Copying.{copied, AreCopied, ArePartlyCopied, IsCopyStep};
 ghost use Rattle.volume.specs.FaultsFound.{NamesInSpace, Refuses};
 ghost use Rattle.volume.specs.Rest.{RestsAt, StandsLike, StandsLikeBefore};
 ghost use Rattle.volume.specs.declared.error.CopyError.TheVariants.{Source, Target};
@@ -15,13 +15,15 @@ use crate::map::Volume;
 use crate::start::read_volume;
 use crate::{CopyError, VolumeError};
 use blockdisk::{Disk, Fault};
+use meaning::layout::GATE;
 use std::alloc::Global;
 use words36::{BLOCK_WORDS, Block, Word};
 
 impl<D: Disk> Volume<D> {
     /// Copies the volume on a disk to another disk of as many blocks: recovers it and reads all that it reaches, as
-    /// `open` does, then writes every block in their order, zeros for each that is damaged, and waits until all are on
-    /// the disk. It isn't safe against a stop: what the other disk holds until then is no copy.
+    /// `open` does, then writes every block, zeros for each that is damaged, and waits until all are on the disk. The home
+    /// copies come last, once all else is there: what the other disk holds until then is no copy, and where it began with
+    /// zeros, no volume (that isn't promised by a clause).
     ///
     /// # Errors
     ///
@@ -84,7 +86,8 @@ impl<D: Disk> Volume<D> {
     }
 }
 
-/// Copies each block of a disk to another of as many blocks, and waits until all are on it.
+/// Copies each block of a disk to another of as many blocks, the home copies last, which stand before the gate: the rest
+/// is on the disk before, so that what is left of a copy that is cut short looks like no volume.
 fn copy_all<D: Disk, E: Disk>(from: &mut D, to: &mut E) -> Result<(), CopyError>
     requires { (D.state from.old).size ≡ (E.state to.old).size }
     ensures copied { (D.state from.new).honest → (E.state to.new).honest
@@ -92,21 +95,53 @@ fn copy_all<D: Disk, E: Disk>(from: &mut D, to: &mut E) -> Result<(), CopyError>
     ensures settled { (E.state to.new).honest → OnOk result (NoneOpen (E.state to.new)) }
     ensures step { IsCopyStep (D.state from.old) (D.state from.new) (E.state to.old) (E.state to.new) result }
 {
-    copy_blocks(from, to)?;
+    let blocks = from.blocks();
+    let behind_home = blocks.min(GATE);
+    copy_part(from, to, behind_home, blocks)?;
+    copy_part(from, to, 0, behind_home)
+}
+
+/// Copies the blocks from one to before another, and waits until they are on the disk.
+fn copy_part<D: Disk, E: Disk>(
+    from: &mut D,
+    to: &mut E,
+    first: u32,
+    end: u32,
+) -> Result<(), CopyError>
+    requires here { end ≤ (D.state from.old).size }
+    requires there { end ≤ (E.state to.old).size }
+    ensures copied { (D.state from.new).honest → (E.state to.new).honest
+        → OnOk result (ArePartlyCopied first end (D.state from.old).contents (E.state to.new).contents) }
+    ensures others { (E.state to.new).honest
+        → OnOk result (SameOutside (λ n. first ≤ n) (E.state to.old).contents (E.state to.new).contents
+        × SameOutside (λ n. n < end) (E.state to.old).contents (E.state to.new).contents) }
+    ensures settled { (E.state to.new).honest → OnOk result (NoneOpen (E.state to.new)) }
+    ensures step { IsCopyStep (D.state from.old) (D.state from.new) (E.state to.old) (E.state to.new) result }
+{
+    copy_blocks(from, to, first, end)?;
     match to.sync() {
         Ok(()) => Ok(()),
         Err(_) => Err(CopyError::Target),
     }
 }
 
-/// Writes each block of a disk to another of as many blocks.
-fn copy_blocks<D: Disk, E: Disk>(from: &mut D, to: &mut E) -> Result<(), CopyError>
-    requires { (D.state from.old).size ≡ (E.state to.old).size }
+/// Writes the blocks of a disk from one to before another to a disk.
+fn copy_blocks<D: Disk, E: Disk>(
+    from: &mut D,
+    to: &mut E,
+    first: u32,
+    end: u32,
+) -> Result<(), CopyError>
+    requires here { end ≤ (D.state from.old).size }
+    requires there { end ≤ (E.state to.old).size }
     ensures copied { (D.state from.new).honest → (E.state to.new).honest
-        → OnOk result (AreCopied (D.state from.old).size (D.state from.old).contents (E.state to.new).contents) }
+        → OnOk result (ArePartlyCopied first end (D.state from.old).contents (E.state to.new).contents) }
+    ensures others { (E.state to.new).honest
+        → SameOutside (λ n. first ≤ n) (E.state to.old).contents (E.state to.new).contents
+        × SameOutside (λ n. n < end) (E.state to.old).contents (E.state to.new).contents }
     ensures step { IsCopyStep (D.state from.old) (D.state from.new) (E.state to.old) (E.state to.new) result }
 {
-    for n in 0..from.blocks() {
+    for n in first..end {
         copy_block(from, to, n)?;
     }
     Ok(())

@@ -1,7 +1,7 @@
-use Rattle.std.proofs.Common.{◌≡◌}
-use Rattle.blockdisk.specs.Disk.{SameDisk}
+use Rattle.std.proofs.Common.{◌≡◌, ◌<◌, ◌≤◌}
+use Rattle.blockdisk.specs.Disk.{SameDisk, SameOutside}
 use Rattle.changeset.specs.Reads.{OnlyReads}
-use Rattle.volume.specs.Copying.{AreCopied}
+use Rattle.volume.specs.Copying.{ArePartlyCopied}
 use Rattle.volume.proofs.copy.copy_blocks.Given as goal
 
 abbrev pub invariant-loop-n : goal.invariant-loop-n
@@ -12,5 +12,9 @@ invariant-loop-n g l = record {
   served_source : (g.D.Disk.state l.from).failures ≡ (g.D.Disk.state l.initial.from).failures;
   served_target : (g.E.Disk.state l.to).failures ≡ (g.E.Disk.state l.initial.to).failures;
   copied : (g.D.Disk.state l.from).honest → (g.E.Disk.state l.to).honest
-      → AreCopied l.n (g.D.Disk.state l.initial.from).contents (g.E.Disk.state l.to).contents;
+      → ArePartlyCopied l.first l.n (g.D.Disk.state l.initial.from).contents (g.E.Disk.state l.to).contents;
+  before : (g.E.Disk.state l.to).honest
+      → SameOutside (λ n. l.first ≤ n) (g.E.Disk.state l.initial.to).contents (g.E.Disk.state l.to).contents;
+  behind : (g.E.Disk.state l.to).honest
+      → SameOutside (λ n. n < l.end) (g.E.Disk.state l.initial.to).contents (g.E.Disk.state l.to).contents;
 }
