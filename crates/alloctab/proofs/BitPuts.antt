@@ -11,7 +11,8 @@ use Rattle.alloctab.specs.Words.{PutsBit}
 use Rattle.alloctab.specs.Reading.{CopiesWords}
 
 -- the word in which a bit is set has 36 bits
-pub with_mask_fits : (word place : ℕ) → word < 2 ^ 36 → place < 36 → bit_or word (1 * 2 ^ (35 - place) % 2 ^ 64) < 2 ^ 36
+pub with_mask_fits : (word place : ℕ) → word < 2 ^ 36 → place < 36 → bit_or word (1 * 2 ^ (35 - place) % 2 ^ 64)
+    < 2 ^ 36
 with_mask_fits word place fits inside =
     let mask = one_shl (35 - place) 64 (omega arith) in
     let few = pow_below (35 - place) 36 (omega arith) in
@@ -49,14 +50,16 @@ module _ (a k : ℕ) (xs ys : List ℕ) (room : a + k ≤ length xs) (long : len
   pub placed_behind : (w : ℕ) → a + k ≤ w → get_or (put_mid a k xs ys) w 0 ≡ get_or xs w 0
   placed_behind w from = search (rules, places)
 
-pub copies_words : (words all part : List ℕ) (i from size : ℕ) → from ≡ 128 * i → size ≡ 128 → 128 * (i + 1) ≤ length all
+pub copies_words : (words all part : List ℕ) (i from size : ℕ) → from ≡ 128 * i → size ≡ 128 → 128 * (i + 1)
+    ≤ length all
     → length words ≡ 128 → part ≡ words → CopiesWords words i all (put_mid from size all part)
 copies_words words all part i from size at few room long is =
     let whole = ap length is ∙ long ∙ sym few in
     record {
       long = length-placed from size all part (omega arith) whole;
       copied = λ n here.
-          ap (λ (w : ℕ). bit_at w (35 - n % 36)) (placed_in from size all part (omega arith) whole (n / 36) (omega arith)
+          ap (λ (w : ℕ). bit_at w (35 - n % 36)) (placed_in from size all part (omega arith) whole (n / 36)
+          (omega arith)
           (omega arith) ∙ ap (λ (l : List ℕ). get_or l (n / 36 - from) 0) is)
           ∙ ap (λ (k : ℕ). bit_at (get_or words k 0) (35 - n % 36)) (omega arith);
       others = λ n apart. ap (λ (w : ℕ). bit_at w (35 - n % 36)) (⊎_elim

@@ -29,7 +29,8 @@ flag-flags bits zero n below = absurd (omega arith)
 flag-flags bits (suc k) n below =
     let long = length-flags bits k in
     ap (λ (l : List Bool). get_or l n false) (flags_more bits k) ∙ ⊎_elim
-    (λ last. get_or_push (flags bits k) (eqb (bits k) 1) false n (omega arith) ∙ ap (λ (m : ℕ). eqb (bits m) 1) (sym last))
+    (λ last. get_or_push (flags bits k) (eqb (bits k) 1) false n (omega arith)
+    ∙ ap (λ (m : ℕ). eqb (bits m) 1) (sym last))
     (λ other. get_or_append_left (flags bits k) (eqb (bits k) 1 ∷ []) false n (omega arith)
     ∙ flag-flags bits k n (omega arith)) (cases_eq n k)
 
@@ -50,10 +51,12 @@ pub word_bit-lt : (words : List ℕ) (n : ℕ) → word_bit words n < 2
 word_bit-lt words n = bit_at-lt (get_or words (n / 36) 0) (35 - n % 36)
 
 -- the bits of the table are those of the words
-pub bit_is : (size : ℕ) (words : List ℕ) → IsClearFrom size words → (n : ℕ) → digit_at (flags (word_bit words) size) n ≡ word_bit words n
+pub bit_is : (size : ℕ) (words : List ℕ) → IsClearFrom size words → (n : ℕ) → digit_at (flags (word_bit words) size) n
+    ≡ word_bit words n
 bit_is size words clear n = ⊎_elim
     (λ below. ap digit (flag-flags (word_bit words) size n below) ∙ digit-eqb (word_bit words n) (word_bit-lt words n))
-    (λ past. ap digit (get_or_past (flags (word_bit words) size) n false (omega (arith, length-flags (word_bit words) size)))
+    (λ past. ap digit (get_or_past (flags (word_bit words) size) n false
+    (omega (arith, length-flags (word_bit words) size)))
     ∙ sym (clear n past)) (cases_lt n size)
 
 -- A bit that is put.

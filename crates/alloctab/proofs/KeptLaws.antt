@@ -6,7 +6,8 @@ use Rattle.std.specs.Int.{bit_at}
 use Rattle.std.proofs.lemmas.Bool.{cases_eq, cases_lt, cond-false}
 use Rattle.std.proofs.lemmas.Bool.Decides.{nat_tests}
 use Rattle.std.proofs.lemmas.List.{get_or_past, length-set}
-use Rattle.std.proofs.lemmas.List.{take_rest, get_or-set_same, get_or-set_other, get_or-drop, length-drop, length-replicate, get_or-replicate}
+use Rattle.std.proofs.lemmas.List.{take_rest, get_or-set_same, get_or-set_other, get_or-drop, length-drop}
+use Rattle.std.proofs.lemmas.List.{length-replicate, get_or-replicate}
 use Rattle.std.proofs.lemmas.Nat.Bits.{bit_at-zero}
 use Rattle.blockdisk.specs.Disk.{Contents}
 use Rattle.meaning.specs.Regions.{IsVolumeSize, table_blocks, space_start}
@@ -30,10 +31,12 @@ clear_put size n flag old new inside puts clear m past = puts.others m (λ same.
 abbrev one_if_held : ℕ → ℕ
 one_if_held count = cond (eqb count 0) 0 1
 
-held_digit : (count : ℕ) (flag : Bool) → (flag ≡ true → 0 < count) → (flag ≡ false → count ≡ 0) → digit flag ≡ one_if_held count
+held_digit : (count : ℕ) (flag : Bool) → (flag ≡ true → 0 < count) → (flag ≡ false → count ≡ 0) → digit flag
+    ≡ one_if_held count
 held_digit zero true some none = absurd (let e = some refl in omega arith)
 held_digit zero false some none = refl
-held_digit (suc count) true some none = sym (ap (λ (b : Bool). cond {A = ℕ} b 0 1) (ne_eqb (suc count) 0 (λ e. absurd (omega arith))))
+held_digit (suc count) true some none = sym (ap (λ (b : Bool). cond {A = ℕ} b 0 1)
+    (ne_eqb (suc count) 0 (λ e. absurd (omega arith))))
 held_digit (suc count) false some none = absurd (let e = none refl in omega arith)
 
 module _ (size : ℕ) (words held counts : List ℕ) (changed : List Bool) (hint : ℕ)
@@ -83,7 +86,8 @@ module _ (size : ℕ) (words held counts : List ℕ) (changed : List Bool) (hint
     counts_long = length-set counts n count ∙ kept.counts_long;
     in_step = λ m below. ⊎_elim
         (λ here. ap (word_bit new) here ∙ puts.same ∙ held_digit count flag some none
-        ∙ ap one_if_held (sym (get_or-set_same counts n count 0 (omega (arith, kept.counts_long))) ∙ ap (λ (k : ℕ). get_or (set counts n count) k 0) (sym here)))
+        ∙ ap one_if_held (sym (get_or-set_same counts n count 0 (omega (arith, kept.counts_long)))
+        ∙ ap (λ (k : ℕ). get_or (set counts n count) k 0) (sym here)))
         (λ other. puts.others m other ∙ kept.in_step m below
         ∙ ap one_if_held (sym (get_or-set_other counts n m count 0 other))) (cases_eq m n);
     changed_long = kept.changed_long;
@@ -94,7 +98,8 @@ module _ (size : ℕ) (words held counts : List ℕ) (changed : List Bool) (hint
   }
     where
       held_there : (m : ℕ) → m ≡ n → m < hint' → (b : Bool) → flag ≡ b → word_bit words m + word_bit new m ≡ 0 → ⊥
-      held_there m here below true is none = absurd (let e = ap (word_bit new) here ∙ puts.same ∙ ap digit is in omega arith)
+      held_there m here below true is none = absurd (let e = ap (word_bit new) here ∙ puts.same
+          ∙ ap digit is in omega arith)
       held_there m here below false is none = absurd (let e = ap (word_bit words) here in
           let f = free is (omega arith) in omega arith)
 
@@ -116,13 +121,15 @@ module _ (size : ℕ) (words held counts : List ℕ) (changed : List Bool) (hint
   }
     where
       used_there : (m : ℕ) → m ≡ n → m < hint' → (b : Bool) → flag ≡ b → word_bit new m + word_bit held m ≡ 0 → ⊥
-      used_there m here below true is none = absurd (let e = ap (word_bit new) here ∙ puts.same ∙ ap digit is in omega arith)
+      used_there m here below true is none = absurd (let e = ap (word_bit new) here ∙ puts.same
+          ∙ ap digit is in omega arith)
       used_there m here below false is none = by_count (get_or counts n 0) refl
         where
           by_count : (count : ℕ) → get_or counts n 0 ≡ count → ⊥
           by_count zero e = absurd (let f = free is e in omega arith)
           by_count (suc count) e = absurd (let f = ap (word_bit held) here ∙ kept.in_step n inside ∙ ap one_if_held e
-              ∙ ap (λ (b : Bool). cond {A = ℕ} b 0 1) (ne_eqb (suc count) 0 (λ same. absurd (omega arith))) in omega arith)
+              ∙ ap (λ (b : Bool). cond {A = ℕ} b 0 1) (ne_eqb (suc count) 0 (λ same. absurd (omega arith))) in omega
+              arith)
 
   -- the hint behind a search, where no block below it is free
   pub kept_raised : (booked hint' : ℕ) → hint' ≤ size
@@ -154,7 +161,8 @@ module _ (size : ℕ) (words held counts : List ℕ) (changed : List Bool) (hint
       → table_of size words counts booked changed ≡ t
       → table_of size new counts booked (set changed (n / 4608) true) ≡ with_bit t n flag
   with_bit_is booked n flag new t inside puts is =
-      ap (with_bits booked n) (flags_put size n flag words new inside puts) ∙ ap (λ (s : TableState). with_bit s n flag) is
+      ap (with_bits booked n) (flags_put size n flag words new inside puts)
+      ∙ ap (λ (s : TableState). with_bit s n flag) is
 
   -- what a search finds that begins at the word of the hint
 
@@ -171,7 +179,8 @@ module _ (size : ℕ) (words held counts : List ℕ) (changed : List Bool) (hint
         ∙ ap (λ (w : ℕ). bit_at w (35 - m % 36)) (get_or-drop first list (m / 36) 0)
         ∙ (λ i. bit_at (get_or list (word i) 0) (35 - place i))
 
-    not_clear : (m : ℕ) → 36 * first ≤ m → (clear_bit set' held' (m - 36 * first) ≡ 1 → ⊥) → word_bit words m + word_bit held m ≡ 0 → ⊥
+    not_clear : (m : ℕ) → 36 * first ≤ m → (clear_bit set' held' (m - 36 * first) ≡ 1 → ⊥)
+        → word_bit words m + word_bit held m ≡ 0 → ⊥
     not_clear m from other none = other (
         let at : 36 * first + (m - 36 * first) ≡ m = omega arith in
         let a = in_words words set' (m - 36 * first) set_is ∙ ap (word_bit words) at in
@@ -182,7 +191,8 @@ module _ (size : ℕ) (words held counts : List ℕ) (changed : List Bool) (hint
     before_hint : (m : ℕ) → m < 36 * first → m < size → IsFree (table_of size words counts booked changed) m → ⊥
     before_hint m before inside = not_free booked m inside (kept.none_below m (omega arith))
 
-    pub found_inside : (n : ℕ) → IsLowest (clear_bit set' held') (36 * length set') (Some n) → first * 36 + n < 36 * length words
+    pub found_inside : (n : ℕ) → IsLowest (clear_bit set' held') (36 * length set') (Some n) → first * 36 + n
+        < 36 * length words
     found_inside n found = let a = found.0 in let b = long in let c = kept.set_long in let d = kept.hint_inside in
         let e = kept.volume.small in omega arith
 
@@ -231,7 +241,8 @@ zeros k n = ap (λ (w : ℕ). bit_at w (35 - n % 36)) (none k (n / 36)) ∙ bit_
 
 pub kept_loaded : (size : ℕ) (words held counts : List ℕ) (changed : List Bool) (long : ℕ) → IsVolumeSize size
     → long ≡ table_blocks size * 128 → length words ≡ long → IsClearFrom size words → held ≡ replicate long 0
-    → counts ≡ replicate size 0 → changed ≡ replicate (table_blocks size) false → IsKept size words held counts changed 0
+    → counts ≡ replicate size 0 → changed ≡ replicate (table_blocks size) false
+    → IsKept size words held counts changed 0
 kept_loaded size words held counts changed long volume is set_long clear held_is counts_are changed_is = record {
   volume = volume;
   set_long = omega arith;

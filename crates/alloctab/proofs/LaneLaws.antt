@@ -1,13 +1,15 @@
 -- The bits that are clear in two words, and in eight at a time.
 use Rattle.std.proofs.Common.{◌≡◌, ⊎_elim, ℕ, zero, suc, ◌+◌, ◌*◌, ◌-◌, ◌/◌, ◌%◌, ◌^◌, ◌<◌, ◌≤◌, max, Bool, true, false}
-use Rattle.std.proofs.Common.{List, [], ◌∷◌, length, get_or, map, replicate, cond, eqb, not, refl, sym, ◌∙◌, ap, subst, add-suc, add-zero, zero-add, pow_mono, ne_eqb, arith}
+use Rattle.std.proofs.Common.{List, [], ◌∷◌, length, get_or, map, replicate, cond, eqb, not, refl, sym, ◌∙◌, ap, subst}
+use Rattle.std.proofs.Common.{add-suc, add-zero, zero-add, pow_mono, ne_eqb, arith}
 use Rattle.std.specs.Int.{bit_at}
 use Rattle.std.specs.Int.Bits.{bit_or, bit_xor}
 use Rattle.std.specs.Int.Count.{ones, count_leading_zeros, count_trailing_zeros}
 use Rattle.std.proofs.lemmas.Bool.{cases_lt}
 use Rattle.std.proofs.lemmas.Bool.Decides.{nat_tests}
 use Rattle.std.proofs.lemmas.Nat.{or_lt, xor_lt, leading_top, ones-le}
-use Rattle.std.proofs.lemmas.Nat.Bits.{bit_at_or, bit_at_xor, bit_at_ones, bit_at-lt, bit_at-zero, bit_at_above, bit_at-suc}
+use Rattle.std.proofs.lemmas.Nat.Bits.{bit_at_or, bit_at_xor, bit_at_ones, bit_at-lt, bit_at-zero, bit_at_above}
+use Rattle.std.proofs.lemmas.Nat.Bits.{bit_at-suc}
 use Rattle.std.proofs.lemmas.Nat.Bits.{bit_at_lowest}
 use Rattle.std.specs.List.{prefix_len}
 use Rattle.std.proofs.lemmas.List.{take_all, get_or_read}
@@ -103,7 +105,8 @@ lanes_long m xs ys p q =
     let e = length-zip2 bit_or xs ys (p ∙ sym q) ∙ p in
     length-zip2 bit_xor (replicate 8 m) (zip2 bit_or xs ys) (sym e)
 
-pub clear_lane : (xs ys : List ℕ) (k a b : ℕ) → length xs ≡ 8 → length ys ≡ 8 → k < 8 → get_or xs k 0 ≡ a → get_or ys k 0 ≡ b
+pub clear_lane : (xs ys : List ℕ) (k a b : ℕ) → length xs ≡ 8 → length ys ≡ 8 → k < 8 → get_or xs k 0 ≡ a
+    → get_or ys k 0 ≡ b
     → get_or (zip2 bit_xor (replicate 8 (2 ^ 36 - 1)) (zip2 bit_or xs ys)) k 0 ≡ clear_word a b
 clear_lane xs ys k a b p q below at_a at_b =
     let e = length-zip2 bit_or xs ys (p ∙ sym q) ∙ p in
@@ -148,14 +151,16 @@ module _ (xs : List ℕ) (r : ℕ) (long : length xs ≡ 8) (is : lanes_before x
   few_before = run_in_chunk_le some_bit xs 0 8 r 0 room is
 
   pub none_before : (k : ℕ) → k < r → get_or xs k 0 ≡ 0
-  none_before k below = zero_or (get_or xs k 0) (run_in_chunk_fails some_bit xs 0 8 r 0 room is k (omega arith) (omega arith))
+  none_before k below = zero_or (get_or xs k 0) (run_in_chunk_fails some_bit xs 0 8 r 0 room is k (omega arith)
+      (omega arith))
     where
       zero_or : (n : ℕ) → some_bit n ≡ false → n ≡ 0
       zero_or n e = grind (arith, nat_tests)
 
   pub one_there : r < 8 → get_or xs r 0 ≡ 0 → ⊥
   one_there below = some_or (get_or xs r 0)
-      (ap (λ (n : ℕ). some_bit (get_or xs n 0)) (sym (zero-add r)) ∙ run_in_chunk_stops some_bit xs 0 8 r 0 room is below)
+      (ap (λ (n : ℕ). some_bit (get_or xs n 0)) (sym (zero-add r))
+      ∙ run_in_chunk_stops some_bit xs 0 8 r 0 room is below)
     where
       some_or : (n : ℕ) → some_bit n ≡ true → n ≡ 0 → ⊥
       some_or n e = grind (arith, nat_tests)
@@ -193,7 +198,8 @@ clear_few set held (suc n) = let rest = clear_few set held n in
     at_most m = grind (arith, nat_tests)
 
 pub word_counted : (set held : List ℕ) (w k : ℕ) → k ≡ 36 → clear_at set held w < 2 ^ k
-    → sum_below (clear_bit set held) (36 * w) + ones (clear_at set held w) ≡ sum_below (clear_bit set held) (36 * (w + 1))
+    → sum_below (clear_bit set held) (36 * w) + ones (clear_at set held w)
+    ≡ sum_below (clear_bit set held) (36 * (w + 1))
 word_counted set held w k is few =
     let parts = sum_split (clear_bit set held) (36 * w) k in
     let here = sum_of_places (λ p. clear_bit set held (36 * w + p)) k (clear_at set held w) few
@@ -210,7 +216,8 @@ words_counted set held [] from each few =
     let e = ap (λ (n : ℕ). sum_below (clear_bit set held) (36 * n)) (add-zero from) in omega arith
 words_counted set held (x ∷ xs) from each few =
     let first : x ≡ clear_at set held from = each 0 (omega arith) ∙ ap (clear_at set held) (omega arith) in
-    let one = word_counted set held from 36 refl (let e = few 0 (omega arith) in subst (λ (n : ℕ). n < 2 ^ 36) first e) in
+    let one = word_counted set held from 36 refl (let e = few 0 (omega arith) in subst (λ (n : ℕ). n < 2 ^ 36) first e)
+    in
     let rest = words_counted set held xs (from + 1)
     (λ k below. each (suc k) (omega arith) ∙ ap (clear_at set held) (omega arith))
     (λ k below. few (suc k) (omega arith)) in
@@ -253,7 +260,8 @@ pub count_more : (set held : List ℕ) (from place count a b r : ℕ) → length
     → a ≡ get_or set place a → b ≡ get_or held place b → r ≡ clear_word a b → r < 2 ^ 36 → count ≤ 36 * place
     → sum_below (clear_bit set held) (36 * from) + count ≡ sum_below (clear_bit set held) (36 * place)
     → (count + ones r ≤ 36 * (place + 1))
-    × (sum_below (clear_bit set held) (36 * from) + (count + ones r) ≡ sum_below (clear_bit set held) (36 * (place + 1)))
+    × (sum_below (clear_bit set held) (36 * from) + (count + ones r)
+    ≡ sum_below (clear_bit set held) (36 * (place + 1)))
 count_more set held from place count a b r same inside p q is fits few so_far =
     let word = is ∙ word_read set held place a b same inside p q in
     let one = ones_few r fits in

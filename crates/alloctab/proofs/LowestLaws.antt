@@ -35,14 +35,16 @@ lowest_is bits zero n below one first = absurd (omega arith)
 lowest_is bits (suc k) n below one first = lowest_more bits k ∙ ⊎_elim
     (λ same. ap (λ (o : Option ℕ). or_else o (one_at bits k)) (lowest_none bits k (λ m before. first m (omega arith)))
     ∙ at_one bits k (ap bits (sym same) ∙ one) ∙ ap Some (sym same))
-    (λ other. ap (λ (o : Option ℕ). or_else o (one_at bits k)) (lowest_is bits k n (omega arith) one first)) (cases_eq n k)
+    (λ other. ap (λ (o : Option ℕ). or_else o (one_at bits k)) (lowest_is bits k n (omega arith) one first))
+    (cases_eq n k)
 
 -- What the lowest number is, where there is one.
 abbrev pub IsLowest : (ℕ → ℕ) → ℕ → Option ℕ → Type 0
 IsLowest bits k None = (m : ℕ) → m < k → bits m ≡ 1 → ⊥
 IsLowest bits k (Some n) = (n < k) × (bits n ≡ 1) × ((m : ℕ) → m < n → bits m ≡ 1 → ⊥)
 
-lowest_still : (bits : ℕ → ℕ) (k : ℕ) (o : Option ℕ) → IsLowest bits k o → IsLowest bits (suc k) (or_else o (one_at bits k))
+lowest_still : (bits : ℕ → ℕ) (k : ℕ) (o : Option ℕ) → IsLowest bits k o
+    → IsLowest bits (suc k) (or_else o (one_at bits k))
 lowest_still bits k (Some n) is = (omega arith, is.1, is.2)
 lowest_still bits k None none = ⊎_elim
     (λ one. subst (IsLowest bits (suc k)) (sym (at_one bits k one)) (omega arith, one, none))
@@ -62,7 +64,8 @@ lowest_of bits k o is = subst (IsLowest bits k) (sym is) (lowest_stands bits k)
 
 pub none_in_words : (set held : List ℕ) (places : ℕ) → ((w : ℕ) → w < places → clear_at set held w ≡ 0) → (m : ℕ)
     → m < 36 * places → clear_bit set held m ≡ 1 → ⊥
-none_in_words set held places full m below is = none_in_word (get_or set (m / 36) 0) (get_or held (m / 36) 0) (35 - m % 36)
+none_in_words set held places full m below is = none_in_word (get_or set (m / 36) 0) (get_or held (m / 36) 0)
+    (35 - m % 36)
     (omega arith) (full (m / 36) (omega arith)) (zero_from_one (word_bit set m + word_bit held m) is)
 
 pub first_in_words : (set held : List ℕ) (place first a b : ℕ) → length set ≡ length held → place < length set

@@ -4,7 +4,8 @@ ghost use Rattle.std.specs.Prelude.{◌≡◌, IfOk, codes, false};
 ghost use Rattle.clap.specs.Words.{app_of, with_subcommand};
 ghost use Rattle.clap.specs.declared.builder.command.Command.TheViews.{out-Command as fields_of};
 ghost use Rattle.arguments.specs.CommandLine.{calls_app, check_app, command_line, convert_app, converting};
-ghost use Rattle.arguments.specs.CommandLine.{filing, get_app, init_app, list_app, looking, put_app, run_app, serving, versioned};
+ghost use Rattle.arguments.specs.CommandLine.{filing, get_app, init_app, list_app, looking, put_app, run_app, serving};
+ghost use Rattle.arguments.specs.CommandLine.{versioned};
 
 use crate::arguments::{
     about, dated, filed, formed, place, shown, sized, tsv, wanted, with_argument,
@@ -238,8 +239,8 @@ fn program<'a>(alloc: Global) -> Command<'a>
     .version(VERSION)
 }
 
-/// The whole command line: its subcommands, the arguments of each with the ranges of their numbers, and the texts of its
-/// help (this project's profile).
+/// The whole command line: its subcommands, the arguments of each with the ranges of their numbers, and the texts of
+/// its help (this project's profile).
 ///
 /// # Errors
 ///

@@ -57,8 +57,8 @@ pub fn image(rt: &impl Abort, alloc: Global, calls: usize) -> Result<MemDisk, No
     Ok(disk)
 }
 
-/// A monitor over a disk, where that is accepted. What `start` promises stays behind this function: the proofs of tests are
-/// short without it.
+/// A monitor over a disk, where that is accepted. What `start` promises stays behind this function: the proofs of tests
+/// are short without it.
 pub fn start(alloc: Global, disk: MemDisk) -> Option<Monitor<MemDisk>> {
     Monitor::start(alloc, disk).ok()
 }

@@ -3,7 +3,8 @@ use Rattle.std.proofs.Common.{◌≡◌, ◌≢◌, ℕ, ◌||◌, Bool, true, f
 use Rattle.std.proofs.Common.{Some, None, Result, Ok, Err, IfOk, unwrap_or}
 use Rattle.std.specs.Prelude.{codes}
 use Rattle.words36.specs.declared.moment.Moment.{Moment}
-use Rattle.meaning.specs.Texts.{Spoken, complains, refuses, prints, refusal, is_broken, greeting, line, list_text, list_said}
+use Rattle.meaning.specs.Texts.{Spoken, complains, refuses, prints, refusal, is_broken, greeting, line, list_text}
+use Rattle.meaning.specs.Texts.{list_said}
 use Rattle.meaning.specs.Plans.{Act, Asks, Looks, Plan, Show, Say, Conducts, begins, fails, ends, ok}
 use Rattle.meaning.specs.Transcripts.{Speaks, core_words}
 use Rattle.meaning.specs.declared.entry.Entry.{Entry}
@@ -194,7 +195,8 @@ module _ {V E S : Type 0} (machine : S → Machine) (stands : AlwaysStands machi
     text = subst (λ (l : List Entry). IfOk result (λ v. bytes v ≡ list_text style owner l)) same text;
   }
 
-  pub shown_refused : (counted : Tally) (old new : S) (style : Style) (owner : ℕ) (reply : Reply) (words : List ℕ) (broken : Bool)
+  pub shown_refused : (counted : Tally) (old new : S) (style : Style) (owner : ℕ) (reply : Reply) (words : List ℕ)
+      (broken : Bool)
       → IsListed (machine old) (machine new) 1 owner (Err reply)
       → words ≡ refusal reply → broken ≡ is_broken reply → counted.refused ≡ true
       → counted.broke ≡ tally.broke || broken → IfOk result (λ v. bytes v ≡ line words)

@@ -175,7 +175,8 @@ pub none_there : (place : Option ℕ) → ((owner : ℕ) → place ≡ Some owne
 none_there None other = refl
 none_there (Some owner) other = absurd (other owner refl)
 
-pub surveyed : {S : Type 0} (machine : S → Machine) (moment : Moment) (style : Style) (sink full : Option (List ℕ)) (a b : S)
+pub surveyed : {S : Type 0} (machine : S → Machine) (moment : Moment) (style : Style) (sink full : Option (List ℕ))
+    (a b : S)
     (shown owners : List ℕ) (result : Result Tally SessionError) → shown ≡ owners
     → Errand sink full machine a b (surveys moment style shown) result
     → Errand sink full machine a b (surveys moment style owners) result

@@ -125,7 +125,8 @@ module _ {S : Type 0} (machine : S → Machine) where
       behind = drop (i + 1) events
 
       goes : GoesBy machine a c (p.acts ++ Asks item reply ∷ [])
-      goes = goes_on machine a b c p.acts (Asks item reply ∷ []) p.goes (goes_answered machine stands b c item reply answered)
+      goes = goes_on machine a b c p.acts (Asks item reply ∷ []) p.goes
+          (goes_answered machine stands b c item reply answered)
 
       pub done_more : reply ≡ Done → HasDone machine a c (take (i + 1) events)
       done_more is = record {

@@ -1,5 +1,6 @@
 -- What the errands of job 1 come to.
-use Rattle.std.proofs.Common.{◌≡◌, ◌⊎◌, inl, inr, ⊎_elim, ◌<◌, ℕ, true, List, [], ◌∷◌, length, Option, Some, None, Ok, refl}
+use Rattle.std.proofs.Common.{◌≡◌, ◌⊎◌, inl, inr, ⊎_elim, ◌<◌, ℕ, true, List, [], ◌∷◌, length, Option, Some, None, Ok}
+use Rattle.std.proofs.Common.{refl}
 use Rattle.std.proofs.Common.{sym, ap, subst}
 use Rattle.std.specs.Io.KnownBytes.{Appends, Consumes, IsAtEnd}
 use Rattle.words36.specs.declared.moment.Moment.{Moment}
@@ -54,7 +55,8 @@ module _ {S : Type 0} (machine : S → Machine) where
         d.appended,
         end.0,
         end.1,
-        delivered (machine old).pack s moment me encoding spec d.read done.1 d.acts (spoken d.written tally) end.0 there few
+        delivered (machine old).pack s moment me encoding spec d.read done.1 d.acts
+            (spoken d.written tally) end.0 there few
             done.2 done.3 went,
       )) (λ unread. absurd unread.0) d.delivers
 

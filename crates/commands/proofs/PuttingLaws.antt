@@ -48,7 +48,8 @@ module _ {S : Type 0} (machine : S → Machine) (first : ℕ) (words : List ℕ)
   module _ (a b c : S) (i word : ℕ) (h : i < length words) (at : word ≡ get_or words i word) (p : Deposits a b i)
       (event : Event) (is : event ≡ Deposit 1 (first + i) word) where
     deposit_then : (moment : Moment) (next rest : Plan)
-        → Led machine b c (each moment (event ∷ []) (each moment (deposits (first + (i + 1)) (drop (i + 1) words)) next))
+        → Led machine b c (each moment (event ∷ []) (each moment
+        (deposits (first + (i + 1)) (drop (i + 1) words)) next))
         rest → Led machine a c (each moment (deposits first words) next) rest
     deposit_then moment next rest q =
         led_on machine a b c _ _ rest (p moment next)
@@ -91,7 +92,8 @@ part_filled moment encoding more words next = refl
 -- the first part, and those behind it
 pub first_part : (moment : Moment) (encoding : Encoding) (words part rest : List ℕ) (next : Plan) → 0 < length words
     → part ≡ take 128 words → rest ≡ drop 128 words
-    → fills_all moment encoding words next ≡ each moment (fills moment encoding part) (fills_all moment encoding rest next)
+    → fills_all moment encoding words next ≡ each moment (fills moment encoding part)
+    (fills_all moment encoding rest next)
 first_part moment encoding words part rest next h is_part is_rest =
     let long : length (drop 128 words) ≡ length words - 128 = length-drop 128 words in
     let count : blocks_of (length words) ≡ suc (blocks_of (length (drop 128 words))) = some_blocks (length words) h
@@ -151,7 +153,8 @@ module _ {S : Type 0} (machine : S → Machine) (moment : Moment) (encoding : En
     pub filled_broken : (reply : Reply)
         → ((next : Plan) → Led machine b c (each moment (fills moment encoding part) next) (fails moment reply))
         → (next : Plan) → Led machine a c (fills_all moment encoding words next) (fails moment reply)
-    filled_broken reply broken next = part_then next (fails moment reply) (broken (fills_all moment encoding after next))
+    filled_broken reply broken next = part_then next (fails moment reply)
+        (broken (fills_all moment encoding after next))
 
   pub filled_all : (a b : S) (rest : List ℕ) → length rest ≡ 0 → Filled a b rest → (next : Plan)
       → Led machine a b (fills_all moment encoding words next) next

@@ -215,7 +215,8 @@ says_no_delete text word argument said none f is bad = says_nothing text word ar
 })
 
 pub says_no_protect : (text word argument : List ℕ) (said : Option Command) → said ≡ None
-    → AreFields (word ∷ argument ∷ []) text → word ≡ codes "PROTECT" → ((x : Spec) (n : ℕ) → IsProtected argument x n → ⊥)
+    → AreFields (word ∷ argument ∷ []) text → word ≡ codes "PROTECT"
+    → ((x : Spec) (n : ℕ) → IsProtected argument x n → ⊥)
     → Says text said
 says_no_protect text word argument said none f is bad = says_nothing text word argument said none f (record {
   login = λ e. absurd (other_word 80 76 _ _ word refl is e);

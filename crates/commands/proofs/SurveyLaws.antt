@@ -67,7 +67,8 @@ module _ {S : Type 0} (machine : S → Machine) (style : Style) (owners : List �
 
   pub shows_done : (a b : S) (i : ℕ) (bytes : List ℕ) (counted : Tally) → length owners ≤ i → Shows a b i bytes counted
       → Led machine a b (shows_all style owners (spoken [] tally)) (Say (spoken bytes counted))
-  shows_done a b i bytes counted h p = subst (λ (l : Plan). Led machine a b (shows_all style owners (spoken [] tally)) l)
+  shows_done a b i bytes counted h p = subst (λ (l : Plan). Led machine a b
+      (shows_all style owners (spoken [] tally)) l)
       (ap (λ (l : List ℕ). shows_all style l (spoken bytes counted)) (drop_all i owners h)
       ∙ shows_last style (spoken bytes counted)) p
 

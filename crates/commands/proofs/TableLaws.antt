@@ -1,5 +1,6 @@
 -- Lines of a list as a table, part by part.
-use Rattle.std.proofs.Common.{◌≡◌, ℕ, ◌+◌, ◌-◌, ◌<◌, ◌≤◌, ◌==◌, Bool, true, false, List, [], ◌∷◌, ◌++◌, length, take, get_or}
+use Rattle.std.proofs.Common.{◌≡◌, ℕ, ◌+◌, ◌-◌, ◌<◌, ◌≤◌, ◌==◌, Bool, true, false, List, [], ◌∷◌, ◌++◌, length, take}
+use Rattle.std.proofs.Common.{get_or}
 use Rattle.std.proofs.Common.{◌/◌, ◌%◌, ◌^◌, append_assoc, sym, ◌∙◌, ap, subst, arith}
 use Rattle.std.proofs.lemmas.Bool.Decides.{nat_tests}
 use Rattle.std.proofs.lemmas.List.Elements.{All-nil, All-cons}
@@ -43,10 +44,12 @@ from_blank ext text is =
 
 -- The parts of a line.
 
-pub place_pushed : (owner : ℕ) (name : FileName) (old owned placed named tabbed extended ended place first last : List ℕ)
+pub place_pushed : (owner : ℕ) (name : FileName) (old owned placed named tabbed extended ended place first last : List
+    ℕ)
     → place ≡ owner_text owner → first ≡ trimmed (characters name.name)
     → last ≡ trimmed (extension_text name.ext)
-    → owned ≡ old ++ place → placed ≡ owned ++ 9 ∷ [] → named ≡ placed ++ first → tabbed ≡ named ++ 9 ∷ [] → extended ≡ tabbed ++ last
+    → owned ≡ old ++ place → placed ≡ owned ++ 9 ∷ [] → named ≡ placed ++ first → tabbed ≡ named ++ 9 ∷ [] → extended
+    ≡ tabbed ++ last
     → ended ≡ extended ++ 9 ∷ [] → ended ≡ old ++ place_fields owner name
 place_pushed owner name old owned placed named tabbed extended ended place first last is_place is_first is_last
     is_owned is_placed is_named is_tabbed is_extended is_ended =
@@ -65,7 +68,8 @@ rights_pushed protection mode old protected tabbed moded ended three two is_thre
     is_ended =
     let protected' = is_protected ∙ ap (λ (l : List ℕ). old ++ l) is_three in
     let moded' : moded ≡ tabbed ++ two_octal mode = is_moded ∙ ap (λ (l : List ℕ). tabbed ++ l) is_two in
-    behind old moded ended _ _ (behind old tabbed moded _ _ (behind old protected tabbed _ _ protected' is_tabbed) moded')
+    behind old moded ended _ _ (behind old tabbed moded _ _ (behind old protected tabbed _ _ protected' is_tabbed)
+    moded')
     is_ended
 
 pub row_pushed : (owner : ℕ) (e : Entry) (old placed righted dated timed sized ended : List ℕ)
@@ -97,7 +101,8 @@ pub minute_pushed : (minute : ℕ) (old houred parted minuted tabbed hour rest :
     → hour ≡ two_digits (minute / 60) → rest ≡ two_digits (minute % 60) → houred ≡ old ++ hour
     → parted ≡ houred ++ 58 ∷ [] → minuted ≡ parted ++ rest → tabbed ≡ minuted ++ 9 ∷ []
     → tabbed ≡ old ++ minute_field minute
-minute_pushed minute old houred parted minuted tabbed hour rest is_hour is_rest is_houred is_parted is_minuted is_tabbed =
+minute_pushed minute old houred parted minuted tabbed hour rest is_hour is_rest is_houred is_parted is_minuted is_tabbed
+    =
     let houred' = is_houred ∙ ap (λ (l : List ℕ). old ++ l) is_hour in
     let minuted' : minuted ≡ parted ++ two_digits (minute % 60) = is_minuted
     ∙ ap (λ (l : List ℕ). parted ++ l) is_rest in

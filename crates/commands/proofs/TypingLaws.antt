@@ -1,5 +1,5 @@
--- What is asked where a file is read and how far its plan has come, call by call; and the bytes of words that follow one
--- another.
+-- What is asked where a file is read and how far its plan has come, call by call; and the bytes of words that follow
+-- one another.
 use Rattle.std.proofs.Common.{◌≡◌, ℕ, ◌+◌, ◌||◌, Bool, true, List, [], ◌∷◌, ◌++◌, zero, suc}
 use Rattle.std.proofs.Common.{sym, ◌∙◌, ap, subst, append_assoc, append-nil, Result, Ok, Err, IfOk}
 use Rattle.std.proofs.lemmas.Grind.{flat_map-append}

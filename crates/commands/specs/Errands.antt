@@ -32,8 +32,8 @@ Carries bytes result machine old new plan counted =
     MatchResult result (λ v. Led machine old new plan (Say (spoken (bytes v) counted)))
     (λ error. (rest : Plan) × Led machine old new plan rest)
 
--- By these acts a plan was done to its end, and these bytes are its text; or the writer refused the text's end; or there
--- was no memory for it, and nothing is written.
+-- By these acts a plan was done to its end, and these bytes are its text; or the writer refused the text's end; or
+-- there was no memory for it, and nothing is written.
 abbrev pub Performs : Plan → List Act → List ℕ → Result Tally SessionError → Type 0
 Performs plan acts written (Ok tally) = Conducts plan acts (spoken written tally)
 Performs plan acts written (Err Read) = ⊥
@@ -58,8 +58,8 @@ IsUnread (Err Read) = Unit {0}
 IsUnread (Err Write) = ⊥
 IsUnread (Err NoMemory) = Unit {0}
 
--- The whole input was read, and then a plan for the words that it says was done; or it wasn't read, and nothing was done
--- and written.
+-- The whole input was read, and then a plan for the words that it says was done; or it wasn't read, and nothing was
+-- done and written.
 abbrev pub Delivers : Encoding → Type 0 → (Option (List ℕ) → Plan) → List ℕ → List Act → List ℕ
     → Result Tally SessionError → Type 0
 Delivers encoding at_end plan read acts written result =

@@ -41,8 +41,8 @@ pub fn orders_have_one_reading()
 {}
 
 /// What an errand of job 1 comes to, where the service has kept its promises up to its end: a file that was put has the
-/// words that the input says, or it was refused and nothing has changed; a file that was got was written as the words of
-/// the version that was found, or refused.
+/// words that the input says, or it was refused and nothing has changed; a file that was got was written as the words
+/// of the version that was found, or refused.
 pub fn errands_reach_files<S: FileService>()
     ensures put { DeliveriesKeepFiles S.machine }
     ensures got { ErrandsShowFiles S.machine }

@@ -79,13 +79,13 @@ pub fn script<R: Read, W: Write, D: Disk>(
     play(alloc, reader, writer, monitor, moment)
 }
 
-/// Writes a file, as it is printed, by job 1, which logs in for it as the owner of a directory, at a moment. Of the calls
-/// that are made what is said of those of a session is said.
+/// Writes a file, as it is printed, by job 1, which logs in for it as the owner of a directory, at a moment. Of the
+/// calls that are made what is said of those of a session is said.
 ///
 /// # Errors
 ///
-/// `Write` where the writer failed: it holds a beginning of the file. `NoMemory` where the file found no room: nothing is
-/// written.
+/// `Write` where the writer failed: it holds a beginning of the file. `NoMemory` where the file found no room: nothing
+/// is written.
 pub fn get<W: Write, D: Disk>(
     alloc: Global,
     writer: &mut W,
@@ -103,13 +103,14 @@ pub fn get<W: Write, D: Disk>(
     write_out(alloc, writer, monitor, moment, owner, encoding, spec)
 }
 
-/// Makes a file of all that a reader has, by job 1, which logs in for it as the owner of a directory, at a moment; a file
-/// that is there is superseded. All of the input is read and tested before anything is asked. `OK` is written, or why not.
+/// Makes a file of all that a reader has, by job 1, which logs in for it as the owner of a directory, at a moment; a
+/// file that is there is superseded. All of the input is read and tested before anything is asked. `OK` is written, or
+/// why not.
 ///
 /// # Errors
 ///
-/// `Read` where the reader failed, `NoMemory` where its bytes or their words found no room: nothing was asked, and nothing
-/// is written. `Write` where the writer failed, `NoMemory` where the text found no room: the calls were made.
+/// `Read` where the reader failed, `NoMemory` where its bytes or their words found no room: nothing was asked, and
+/// nothing is written. `Write` where the writer failed, `NoMemory` where the text found no room: the calls were made.
 pub fn put<R: Read, W: Write, D: Disk>(
     alloc: Global,
     reader: &mut R,
@@ -130,8 +131,8 @@ pub fn put<R: Read, W: Write, D: Disk>(
     )
 }
 
-/// Writes the list of a directory, or of all that there are, one behind the other, as DIRECTORY prints it or as a table,
-/// by job 1, which logs in for it as [1,2], at a moment.
+/// Writes the list of a directory, or of all that there are, one behind the other, as DIRECTORY prints it or as a
+/// table, by job 1, which logs in for it as [1,2], at a moment.
 ///
 /// # Errors
 ///
@@ -162,8 +163,8 @@ pub fn list<W: Write, D: Disk>(
 ///
 /// # Errors
 ///
-/// `Write` where the writer failed: it holds a beginning of the line. `NoMemory` where the line found no room: nothing is
-/// written.
+/// `Write` where the writer failed: it holds a beginning of the line. `NoMemory` where the line found no room: nothing
+/// is written.
 pub fn check<W: Write, D: Disk>(
     alloc: Global,
     writer: &mut W,

@@ -1,6 +1,7 @@
 -- The entry with a key, and where it stands.
 use Rattle.std.proofs.Common.{◌≡◌, ℕ, zero, suc, ◌+◌, ◌*◌, ◌%◌, ◌<◌, Bool, true, false, cond, List, [], ◌∷◌, ◌++◌, map}
-use Rattle.std.proofs.Common.{length, take, get_or, slice_get, Option, Some, None, IfNone, is_some, refl, sym, ap, subst, ◌∙◌, Ordering}
+use Rattle.std.proofs.Common.{length, take, get_or, slice_get, Option, Some, None, IfNone, is_some, refl, sym, ap}
+use Rattle.std.proofs.Common.{subst, ◌∙◌, Ordering}
 use Rattle.std.proofs.Common.{arith}
 use Rattle.std.proofs.lemmas.List.{take_more, length-map, get_or-map}
 use Rattle.std.specs.Ordering.{eq_by_cmp, is_eq}

@@ -1,9 +1,11 @@
 -- Places by rising keys: what a search in them finds, and how they stay in step with the entries.
 -- In each section `o` says that the order of the keys is total, and `exact` that only equal keys tie in it.
 use Rattle.std.proofs.Common.{◌≡◌, ◌⊎◌, inl, inr, ℕ, zero, suc, ◌+◌, ◌-◌, ◌<◌, ◌≤◌, List, [], ◌∷◌, ◌++◌, length, take}
-use Rattle.std.proofs.Common.{drop, map, get_or, slice_set, slice_get, swap_remove, Option, Some, None, refl, sym, ap, subst}
+use Rattle.std.proofs.Common.{drop, map, get_or, slice_set, slice_get, swap_remove, Option, Some, None, refl, sym, ap}
+use Rattle.std.proofs.Common.{subst}
 use Rattle.std.proofs.Common.{◌∙◌, Bool, true, false, cond, Ordering, Less, Equal, Greater, arith, length-append}
-use Rattle.std.proofs.lemmas.List.{length-map, map_push, get_or-map, take-map, map-set, length-set, length-take-le, get_or-take, get_or-drop, length-take, length-drop}
+use Rattle.std.proofs.lemmas.List.{length-map, map_push, get_or-map, take-map, map-set, length-set, length-take-le}
+use Rattle.std.proofs.lemmas.List.{get_or-take, get_or-drop, length-take, length-drop}
 use Rattle.std.proofs.lemmas.List.Elements.{All-from_recursion, recursion_from_All}
 use Rattle.std.proofs.lemmas.Option.{slice_get_within, slice_get-get_or, get_or_from_slice_get}
 use Rattle.std.specs.List.{AllByRecursion, HoldsAt}
@@ -18,10 +20,13 @@ use Rattle.meaning.proofs.Lists.{times_here, times_later}
 use Rattle.meaning.proofs.MapLaws.{some_none, some_same}
 use Rattle.meaning.proofs.SlotLaws.{all_append}
 use Rattle.directory.specs.Edits.{StandsAt}
-use Rattle.directory.specs.Indexes.{order_to, HasKeyAt, Precedes, AreRising, Compares, IsGap, IsEntered, IsIndex, IsLeft}
+use Rattle.directory.specs.Indexes.{order_to, HasKeyAt, Precedes, AreRising, Compares, IsGap, IsEntered, IsIndex}
+use Rattle.directory.specs.Indexes.{IsLeft}
 use Rattle.directory.proofs.Finding.{find_at}
-use Rattle.directory.proofs.Orders.{one, one_same, one_other, same_or_not, strict, all_in, all_at, all_take, all_drop, times_left}
-use Rattle.directory.proofs.Orders.{length_left, length_entered, times_entered, times_parts, times_at, get_within, get-take, taken, get-set_same}
+use Rattle.directory.proofs.Orders.{one, one_same, one_other, same_or_not, strict, all_in, all_at, all_take, all_drop}
+use Rattle.directory.proofs.Orders.{times_left}
+use Rattle.directory.proofs.Orders.{length_left, length_entered, times_entered, times_parts, times_at, get_within}
+use Rattle.directory.proofs.Orders.{get-take, taken, get-set_same}
 use Rattle.directory.proofs.Orders.{get-set_other, get-push, get-push_last}
 
 less_or_equal : Less ≡ Equal → ⊥
@@ -290,7 +295,8 @@ module _ {K V : Type 0} {R : K → K → Ordering} (o : IsTotalOrder R) (exact :
 
   -- what was found at a place of the order
   pub stands_found : (items : List (K × V)) (order : List ℕ) → IsIndex R items order → (k : K) (i d : ℕ)
-      → (p : ℕ) × (slice_get order i ≡ Some p) × HasKeyAt R items k p → (v : V) × StandsAt R items k v (get_or order i d)
+      → (p : ℕ) × (slice_get order i ≡ Some p) × HasKeyAt R items k p → (v : V)
+      × StandsAt R items k v (get_or order i d)
   stands_found items order index k i d found =
       let has = found.2 in (
         has.0,
@@ -385,7 +391,8 @@ module _ {K V : Type 0} {R : K → K → Ordering} (o : IsTotalOrder R) (exact :
           let was = index.inside p (omega arith) in omega arith
 
   -- the same of a list, as it is seen
-  pub pushed_index : {E : Type 0} (view : E → K × V) (list seen : List E) (e : E) (k : K) (n : ℕ) (order before new : List ℕ)
+  pub pushed_index : {E : Type 0} (view : E → K × V) (list seen : List E) (e : E) (k : K) (n : ℕ)
+      (order before new : List ℕ)
       → seen ≡ list → k ≡ (view e).0 → n ≡ length list → before ≡ order → IsIndex R (map view list) order
       → IsEntered R (map view seen) k n before new → (all : List E) → all ≡ list ++ e ∷ []
       → IsIndex R (map view all) new
@@ -453,7 +460,10 @@ module _ {K V : Type 0} {R : K → K → Ordering} (o : IsTotalOrder R) (exact :
       → IsIndex R (take (length items - 1) (slice_set items i e)) new
   index_shorter items i e order new within last index left =
       record {
-        rising = rising_kept R items after new (λ p h. (let b = below_last p h in let m = many in omega arith, kept p h))
+        rising = rising_kept R items after new (λ p h. (
+          let b = below_last p h in let m = many in omega arith,
+          kept p h,
+        ))
             rising_less;
         inside = λ p h. let m = many in let f = fewer p in let was = index.inside p (omega arith) in
             let other = one_other p i (λ s. omega arith) in omega arith;
@@ -535,7 +545,8 @@ module _ {K V : Type 0} {R : K → K → Ordering} (o : IsTotalOrder R) (exact :
 
       back : (p : ℕ) → times p new + one p (length items - 1) ≡ times p order
       back p = let f = fewer p in
-          let c : times p new ≡ one p i + times p least = ap (times p) entered.is ∙ times_entered least entered.at i p in
+          let c : times p new ≡ one p i + times p least = ap (times p) entered.is
+          ∙ times_entered least entered.at i p in
           omega arith
 
       gone : (p : ℕ) → 0 < times p least → p ≡ i → ⊥

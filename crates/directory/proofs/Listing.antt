@@ -1,7 +1,9 @@
 -- Entries in the order of their keys are those of the map.
 -- In each section `o` says that the order of the keys is total, and `exact` that only equal keys tie in it.
-use Rattle.std.proofs.Common.{◌≡◌, ◌⊎◌, inl, inr, ℕ, zero, suc, ◌+◌, ◌<◌, ◌≤◌, Bool, true, false, ◌&&◌, T, List, [], ◌∷◌, map}
-use Rattle.std.proofs.Common.{◌++◌, length, take, get_or, slice_get, Option, Some, None, option_map, refl, sym, ap, subst}
+use Rattle.std.proofs.Common.{◌≡◌, ◌⊎◌, inl, inr, ℕ, zero, suc, ◌+◌, ◌<◌, ◌≤◌, Bool, true, false, ◌&&◌, T, List, []}
+use Rattle.std.proofs.Common.{◌∷◌, map}
+use Rattle.std.proofs.Common.{◌++◌, length, take, get_or, slice_get, Option, Some, None, option_map, refl, sym, ap}
+use Rattle.std.proofs.Common.{subst}
 use Rattle.std.proofs.Common.{◌∙◌, Ordering, Less, arith}
 use Rattle.std.proofs.lemmas.List.{take_all, take_more}
 use Rattle.std.proofs.lemmas.Option.{slice_get-map, slice_get-get_or, slice_get_within}
@@ -80,7 +82,8 @@ at_contains : {X : Type 0} (items : List X) (order : List ℕ) (listed : List X)
 at_contains items [] [] at p h x is = absurd (omega arith)
 at_contains items [] (y ∷ ys) at p h x is = absurd at
 at_contains items (q ∷ order) [] at p h x is = absurd at
-at_contains items (q ∷ order) (y ∷ ys) at p h x is = step (same_or_not p q) (λ k. at_contains items order ys at.1 p k x is)
+at_contains items (q ∷ order) (y ∷ ys) at p h x is = step (same_or_not p q)
+    (λ k. at_contains items order ys at.1 p k x is)
   where
     step : (p ≡ q) ⊎ (p ≡ q → ⊥) → (0 < times p order → Contains ys x) → Contains (y ∷ ys) x
     step (inl e) rest = (0, omega arith, some_same (sym at.0 ∙ ap (slice_get items) (sym e) ∙ is))
@@ -131,7 +134,8 @@ module _ {K X : Type 0} {R : K → K → Ordering} (o : IsTotalOrder R) (exact :
     alike : (q : K) → find R q items ≡ find R q listed
     alike q = step (find R q items) refl (find R q listed) refl
       where
-        step : (a : Option X) → find R q items ≡ a → (b : Option X) → find R q listed ≡ b → find R q items ≡ find R q listed
+        step : (a : Option X) → find R q items ≡ a → (b : Option X) → find R q listed ≡ b → find R q items
+            ≡ find R q listed
         step (Some x) e b f = e ∙ sym (found_listed q x e)
         step None e None f = e ∙ sym f
         step None e (Some x) f = absurd (listed_nowhere q x e f)

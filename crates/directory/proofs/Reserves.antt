@@ -11,7 +11,8 @@ use Rattle.directory.specs.Spares.{IsSpareFor}
 module _ {E K V : Type 0} {R : K → K → Ordering} (view : E → K × V) (old : ChainState E) (k : K) where
   -- what is found is enough
   pub found_reserve : (spare : Places) → IsSpareFor (length old.entries) spare.entries
-      → IsSpareFor (length old.entries) spare.order → (length old.entries ≡ 42 * length old.blocks → IsSpareFor (length old.blocks) spare.blocks)
+      → IsSpareFor (length old.entries) spare.order → (length old.entries ≡ 42 * length old.blocks
+      → IsSpareFor (length old.blocks) spare.blocks)
       → IsReserve R (viewed view old) k spare
   found_reserve spare entries order blocks =
       let many = length-map old.entries view in
@@ -22,7 +23,8 @@ module _ {E K V : Type 0} {R : K → K → Ordering} (view : E → K × V) (old 
       }
 
   -- nothing is enough where the key is there
-  pub no_reserve : (spare : Places) → (find R k (map view old.entries) ≡ None → ⊥) → IsReserve R (viewed view old) k spare
+  pub no_reserve : (spare : Places) → (find R k (map view old.entries) ≡ None → ⊥)
+      → IsReserve R (viewed view old) k spare
   no_reserve spare there = record {
     entries = λ none. absurd (there none);
     order = λ none. absurd (there none);

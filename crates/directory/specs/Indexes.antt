@@ -1,5 +1,6 @@
 -- The places of entries by rising keys, beside a list of entries in another order.
-use Rattle.std.specs.Prelude.{◌≡◌, ℕ, ◌<◌, ◌≤◌, ◌++◌, ◌∷◌, suc, List, [], length, slice_get, Option, Some, None, take, drop, ⊤}
+use Rattle.std.specs.Prelude.{◌≡◌, ℕ, ◌<◌, ◌≤◌, ◌++◌, ◌∷◌, suc, List, [], length, slice_get, Option, Some, None, take}
+use Rattle.std.specs.Prelude.{drop, ⊤}
 use Rattle.std.specs.List.{AllByRecursion}
 use Rattle.std.specs.declared.cmp.Ordering.{Ordering}
 use Rattle.std.specs.declared.cmp.Ordering.TheVariants.{Less, Greater}

@@ -131,8 +131,8 @@ impl<E: Entry> Entries<E> {
     /// Puts an entry in the place of another. Its key stands in no other place.
     pub fn set(&mut self, i: usize, entry: E)
         requires within { i < length self.old }
-        requires alone { find E.order (E.view entry).0 (take i (map E.view self.old) ++ drop (suc i) (map E.view self.old))
-            ≡ None }
+        requires alone { find E.order (E.view entry).0 (take i (map E.view self.old)
+            ++ drop (suc i) (map E.view self.old)) ≡ None }
         ensures { self.new ≡ slice_set self.old i entry }
     {
         rename_place(&mut self.order, &self.list, i, &entry);

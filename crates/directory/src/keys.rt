@@ -7,8 +7,8 @@ use blockdisk::NoMemory;
 use std::alloc::Global;
 use std::marker::Model;
 
-/// A number for each entry of a chain, in their order: the key of what is kept of it elsewhere. It grows in memory found
-/// before, as the chain does.
+/// A number for each entry of a chain, in their order: the key of what is kept of it elsewhere. It grows in memory
+/// found before, as the chain does.
 #[derive(Drop)]
 pub struct Keys {
     list: Vec<usize>,

@@ -24,8 +24,8 @@
 //!    refused it, chain and change set are as before. (`same`, `unput`)
 //! 11. `insert_into` makes the edit of `insert` in memory that `reserve_for` found before, and can't fail.
 //!
-//! A key is found by the places of the entries in the order of their keys, which are kept beside the entries, and a list
-//! is copied only where it has come to be full.
+//! A key is found by the places of the entries in the order of their keys, which are kept beside the entries, and a
+//! list is copied only where it has come to be full.
 #![tactic(auto)]
 
 mod chain;

@@ -1,5 +1,6 @@
 -- What a run on an image comes to, by how it was concluded.
-use Rattle.std.proofs.Common.{◌≡◌, ◌⊎◌, inl, inr, ⊎_elim, ℕ, List, Option, Result, Ok, Err, IfOk, IfErr, sym, subst, ◌∙◌}
+use Rattle.std.proofs.Common.{◌≡◌, ◌⊎◌, inl, inr, ⊎_elim, ℕ, List, Option, Result, Ok, Err, IfOk, IfErr, sym, subst}
+use Rattle.std.proofs.Common.{◌∙◌}
 use Rattle.blockdisk.specs.Disk.{DiskState}
 use Rattle.filser.specs.Runs.{IsAttended, IsExcused, IsTurnedAway}
 use Rattle.filser.specs.declared.status.Status.{Status}

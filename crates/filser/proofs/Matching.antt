@@ -1,5 +1,6 @@
 -- From what `clap` matched to what is asked for.
-use Rattle.std.proofs.Common.{◌≡◌, ◌+◌, ◌*◌, ◌≤◌, ◌<◌, ◌^◌, ◌∙◌, sym, ap, subst, refl, List, ℕ, map, codes, Option, Some, None}
+use Rattle.std.proofs.Common.{◌≡◌, ◌+◌, ◌*◌, ◌≤◌, ◌<◌, ◌^◌, ◌∙◌, sym, ap, subst, refl, List, ℕ, map, codes, Option}
+use Rattle.std.proofs.Common.{Some, None}
 use Rattle.std.proofs.Common.{Err, arith, true, inl, inr}
 use Rattle.std.specs.Prelude.{[], slice_index, option_map, MatchOption, IsErrOf}
 use Rattle.std.specs.Str.Parse.{IsNumeral, digits_value, without_leading_plus}
@@ -17,7 +18,8 @@ use Rattle.meaning.specs.Lines.{upper}
 use Rattle.meaning.specs.Spellings.{IsPair}
 use Rattle.commands.specs.Files.{IsFileName}
 use Rattle.arguments.specs.CommandLine.{command_line, serving, filing, looking, init_app, run_app, calls_app, put_app}
-use Rattle.arguments.specs.CommandLine.{get_app, list_app, check_app, convert_app, converting, dated, filed, formed, sized}
+use Rattle.arguments.specs.CommandLine.{get_app, list_app, check_app, convert_app, converting, dated, filed, formed}
+use Rattle.arguments.specs.CommandLine.{sized}
 use Rattle.filser.specs.Requests.{Asks, IsAsked, IsTask, IsAt, IsNamed, IsPlace, HasForm, HasText, HasNumber}
 use Rattle.filser.specs.Requests.{Spells, task_name}
 use Rattle.filser.specs.declared.task.NamedFile.{NamedFile}
@@ -31,11 +33,13 @@ use Rattle.filser.specs.declared.asked.Request.TheVariants.{Fresh, Init, Work, C
 -- The command line is one of those whose matches `clap` computes.
 
 pub line-simple : is_simple command_line ≡ true
-unfolding clap_on_literals command_line serving filing looking init_app dated filed run_app calls_app put_app get_app list_app check_app convert_app converting formed sized
+unfolding clap_on_literals command_line serving filing looking init_app dated filed run_app calls_app put_app get_app
+    list_app check_app convert_app converting formed sized
 line-simple = refl
 
 pub line-free : is_simple_and_free command_line ≡ true
-unfolding clap_on_literals command_line serving filing looking init_app dated filed run_app calls_app put_app get_app list_app check_app convert_app converting formed sized
+unfolding clap_on_literals command_line serving filing looking init_app dated filed run_app calls_app put_app get_app
+    list_app check_app convert_app converting formed sized
 line-free = refl
 
 -- Texts and numbers.
@@ -118,7 +122,8 @@ pub no_name : (rows : List Row) (text : Text) → HasText rows (codes "NAME") te
     → ((name ext : ℕ) → IsFileName (map upper text) name ext → ⊥) → (f : NamedFile) → IsNamed rows f → ⊥
 no_name rows text has none f named =
     let same = same_some named.name.0 text (sym named.name.1 ∙ has) in
-    none f.name.name f.name.ext (subst (λ (t : Text). IsFileName (map upper t) f.name.name f.name.ext) same named.name.2)
+    none f.name.name f.name.ext (subst (λ (t : Text). IsFileName (map upper t) f.name.name f.name.ext) same
+    named.name.2)
 
 pub no_place : (rows : List Row) (text : Text) → HasText rows (codes "PPN") text
     → ((owner : ℕ) → IsPair 6 text owner → ⊥) → (place : Option ℕ) → IsPlace rows place → ⊥
@@ -168,7 +173,8 @@ other_task name x task m p other is asked = differ name x (task_name task) m (ta
 
 init_is_no_task : (name : Text) (task : Task) → name ≡ codes "init" → name ≡ task_name task → ⊥
 init_is_no_task name (Run at) is asked = other_task name (codes "init") (Run at) 325 refl (λ e. omega arith) is asked
-init_is_no_task name (Calls at) is asked = other_task name (codes "init") (Calls at) 325 refl (λ e. omega arith) is asked
+init_is_no_task name (Calls at) is asked = other_task name (codes "init") (Calls at) 325 refl
+    (λ e. omega arith) is asked
 init_is_no_task name (Put file at) is asked = other_task name (codes "init") (Put file at) 325 refl (λ e. omega arith)
     is asked
 init_is_no_task name (Get file at) is asked = other_task name (codes "init") (Get file at) 325 refl (λ e. omega arith)
@@ -182,7 +188,8 @@ pub no_init : (name : Text) (rows : List Row) → name ≡ codes "init"
 no_init name rows is none Fresh asked = asked
 no_init name rows is none (Init image blocks form) asked = none blocks asked.2
 no_init name rows is none (Work image form task) asked = init_is_no_task name task is asked.2.0
-no_init name rows is none (Convert image new form) asked = differ name (codes "init") (codes "convert") 325 321 refl refl
+no_init name rows is none (Convert image new form) asked = differ name (codes "init")
+    (codes "convert") 325 321 refl refl
     (λ e. omega arith) is asked.0
 
 convert_is_no_task : (name : Text) (task : Task) → name ≡ codes "convert" → name ≡ task_name task → ⊥
@@ -194,7 +201,8 @@ convert_is_no_task name (Put file at) is asked = other_task name (codes "convert
     (λ e. omega arith) is asked
 convert_is_no_task name (Get file at) is asked = other_task name (codes "convert") (Get file at) 321 refl
     (λ e. omega arith) is asked
-convert_is_no_task name (ListAll place style) is asked = other_task name (codes "convert") (ListAll place style) 321 refl
+convert_is_no_task name (ListAll place style) is asked = other_task name (codes "convert")
+    (ListAll place style) 321 refl
     (λ e. omega arith) is asked
 convert_is_no_task name Check is asked = other_task name (codes "convert") Check 321 refl (λ e. omega arith) is asked
 
@@ -227,9 +235,11 @@ pub no_run : (name : Text) (rows : List Row) → name ≡ codes "run" → ((at :
 no_run name rows is none (Run at) asked = none at asked.1
 no_run name rows is none (Calls at) asked = other_task name (codes "run") (Calls at) 348 refl (λ e. omega arith) is
     asked.0
-no_run name rows is none (Put file at) asked = other_task name (codes "run") (Put file at) 348 refl (λ e. omega arith) is
+no_run name rows is none (Put file at) asked = other_task name (codes "run") (Put file at) 348 refl
+    (λ e. omega arith) is
     asked.0
-no_run name rows is none (Get file at) asked = other_task name (codes "run") (Get file at) 348 refl (λ e. omega arith) is
+no_run name rows is none (Get file at) asked = other_task name (codes "run") (Get file at) 348 refl
+    (λ e. omega arith) is
     asked.0
 no_run name rows is none (ListAll place style) asked = other_task name (codes "run") (ListAll place style) 348 refl
     (λ e. omega arith) is asked.0
@@ -254,7 +264,8 @@ no_put name rows is none (Run at) asked = other_task name (codes "put") (Run at)
 no_put name rows is none (Calls at) asked = other_task name (codes "put") (Calls at) 346 refl (λ e. omega arith) is
     asked.0
 no_put name rows is none (Put file at) asked = none file at asked.1.0 asked.1.1
-no_put name rows is none (Get file at) asked = other_task name (codes "put") (Get file at) 346 refl (λ e. omega arith) is
+no_put name rows is none (Get file at) asked = other_task name (codes "put") (Get file at) 346 refl
+    (λ e. omega arith) is
     asked.0
 no_put name rows is none (ListAll place style) asked = other_task name (codes "put") (ListAll place style) 346 refl
     (λ e. omega arith) is asked.0
@@ -265,7 +276,8 @@ pub no_get : (name : Text) (rows : List Row) → name ≡ codes "get"
 no_get name rows is none (Run at) asked = other_task name (codes "get") (Run at) 305 refl (λ e. omega arith) is asked.0
 no_get name rows is none (Calls at) asked = other_task name (codes "get") (Calls at) 305 refl (λ e. omega arith) is
     asked.0
-no_get name rows is none (Put file at) asked = other_task name (codes "get") (Put file at) 305 refl (λ e. omega arith) is
+no_get name rows is none (Put file at) asked = other_task name (codes "get") (Put file at) 305 refl
+    (λ e. omega arith) is
     asked.0
 no_get name rows is none (Get file at) asked = none file at asked.1.0 asked.1.1
 no_get name rows is none (ListAll place style) asked = other_task name (codes "get") (ListAll place style) 305 refl

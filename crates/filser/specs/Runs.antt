@@ -26,8 +26,8 @@ use Rattle.filser.specs.declared.status.Status.TheVariants.{Done, Fault}
 use Rattle.filser.specs.declared.task.Task.{Task}
 use Rattle.filser.specs.declared.task.Task.TheVariants.{Run}
 
--- A task was attended to by a service on a disk of some kind, and the status is that of what was counted, or of what broke
--- it off.
+-- A task was attended to by a service on a disk of some kind, and the status is that of what was counted, or of what
+-- broke it off.
 pub record IsAttended {D : Type 0} (state : D → DiskState) (task : Task) (source left sink full : Option (List ℕ))
     (status : Status) : Type 0 where
   pub first : MonitorState D
@@ -52,8 +52,9 @@ abbrev pub IsTold : ℕ → Option (List ℕ) → Option (List ℕ) → Status �
 IsTold blocks sink full status = (status ≡ Fault)
     ⊎ ((status ≡ Done) × Appends sink full (codes "Converted " ++ decimal blocks ++ codes " blocks" ++ feed ∷ []))
 
--- What was asked for was done: the lines of the reader were served at date 0 and minute 0, over a fresh volume in memory;
--- an image was made, of which nothing is printed; a task was attended to on the image that is named; or it was converted.
+-- What was asked for was done: the lines of the reader were served at date 0 and minute 0, over a fresh volume in
+-- memory; an image was made, of which nothing is printed; a task was attended to on the image that is named; or it was
+-- converted.
 abbrev pub IsRun : {D E : Type 0} → (D → DiskState) → (E → DiskState) → Request → Option (List ℕ) → Option (List ℕ)
     → Option (List ℕ) → Option (List ℕ) → Status → Type 0
 IsRun memory image Fresh source left sink full status =

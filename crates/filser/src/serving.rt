@@ -149,9 +149,9 @@ pub(crate) fn serve<D: Disk + Drop, R: Read, W: Write>(
     }
 }
 
-/// Does a task on the image of this form in a file of the host. Nothing of the host is known beforehand, so that this is
-/// said for whatever may be supposed of the file: where its calls were answered, up to the end, as by a file that began so
-/// and keeps to the model, what it began with is what was served.
+/// Does a task on the image of this form in a file of the host. Nothing of the host is known beforehand, so that this
+/// is said for whatever may be supposed of the file: where its calls were answered, up to the end, as by a file that
+/// began so and keeps to the model, what it began with is what was served.
 ///
 /// # Errors
 ///

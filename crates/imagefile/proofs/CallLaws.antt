@@ -9,7 +9,8 @@ use Rattle.imagefile.specs.File.{Bytes, MayRemain, Inside, window, FilePasses, F
 use Rattle.imagefile.specs.File.{FileFails}
 use Rattle.imagefile.specs.Calls.{Call, SeekStart, SeekEnd, Read, Write, Sync, answer, came}
 use Rattle.imagefile.specs.Unseen.{Unseen, size_of, left_by}
-use Rattle.imagefile.specs.Recorded.{is_inside, bytes_after, moved, after_calls, IsHonestRecord, BeginsAt, GoesTo, recorded}
+use Rattle.imagefile.specs.Recorded.{is_inside, bytes_after, moved, after_calls, IsHonestRecord, BeginsAt, GoesTo}
+use Rattle.imagefile.specs.Recorded.{recorded}
 use Rattle.imagefile.proofs.FileLaws.{keeps_on, writes_after}
 use Rattle.imagefile.proofs.Record.{window-list}
 

@@ -148,7 +148,8 @@ module _ (form : Form) (blocks : ℕ) where
     image_keeps keeps = record {
       contents = λ n. content-same form s.bytes s'.bytes n (λ p inside. keeps.bytes p);
       is_open =
-          λ n. opened-same s.is_open s'.is_open (block_length form * n) (block_length form) (λ p inside. keeps.is_open p);
+          λ n. opened-same s.is_open s'.is_open (block_length form * n) (block_length form)
+          (λ p inside. keeps.is_open p);
       time = image_passes keeps.time;
     }
 
@@ -172,7 +173,8 @@ module _ (form : Form) (blocks : ℕ) where
           (λ p inside. fails.bytes p
           (closed_each s.is_open (block_length form * n) (block_length form) closed p inside));
       is_open =
-          λ n. opened-same s.is_open s'.is_open (block_length form * n) (block_length form) (λ p inside. fails.is_open p);
+          λ n. opened-same s.is_open s'.is_open (block_length form * n) (block_length form)
+          (λ p inside. fails.is_open p);
       time = image_passes fails.time;
     }
 

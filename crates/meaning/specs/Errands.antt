@@ -1,6 +1,7 @@
 -- Errands: what job 1 asks of the service where it logs in for one thing. A file is got, or put, or directories are
 -- listed.
-use Rattle.std.specs.Prelude.{◌≡◌, ℕ, ℤ, zero, suc, ◌+◌, ◌-◌, ◌&&◌, nat_le, Bool, List, [], ◌∷◌, ◌++◌, length, take, drop}
+use Rattle.std.specs.Prelude.{◌≡◌, ℕ, ℤ, zero, suc, ◌+◌, ◌-◌, ◌&&◌, nat_le, Bool, List, [], ◌∷◌, ◌++◌, length, take}
+use Rattle.std.specs.Prelude.{drop}
 use Rattle.std.specs.Prelude.{All, Option, Some, None, Result, Ok, Err, codes, flat_map}
 use Rattle.std.specs.Fmt.{decimal, signed_decimal}
 use Rattle.words36.specs.Words.{IsWord, join}
@@ -79,16 +80,16 @@ header_words = 0o60
 abbrev pub buffer_data : ℕ
 buffer_data = 0o143
 
--- The new file is entered on channel 2: for characters in mode 0, with a ring of one buffer that an OUT brings into use,
--- else in dump mode.
+-- The new file is entered on channel 2: for characters in mode 0, with a ring of one buffer that an OUT brings into
+-- use, else in dump mode.
 abbrev pub creates : Moment → Encoding → Spec → List Event
 creates moment Characters spec =
     deposits open_words (0 ∷ disk ∷ join header_words 0 ∷ []) ++ calls moment (Open 2 open_words)
     ∷ (names new_words spec 0 ++ calls moment (Enter 2 new_words) ∷ calls moment (Outbuf 2 1) ∷ puts moment ∷ [])
 creates moment Words spec = writes moment spec
 
--- So many words are the next that are put: the header's byte pointer is at the last character of the last of them, or the
--- command list names them.
+-- So many words are the next that are put: the header's byte pointer is at the last character of the last of them, or
+-- the command list names them.
 abbrev pub announces : Moment → Encoding → ℕ → List Event
 announces moment Characters count =
     Deposit 1 (header_words + 1) (join 0o010700 (buffer_data - 1 + count)) ∷ puts moment ∷ []

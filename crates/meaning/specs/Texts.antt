@@ -152,8 +152,8 @@ total_text owner (e ∷ es) =
 unfoldable pub listing : ℕ → List Entry → List ℕ
 listing owner entries = flat_map entry_text entries ++ total_text owner entries
 
--- The list of a directory as a table: a line for each file, whose fields are apart by a tab. They are its owner, name and
--- extension, protection and mode in octal, day and minute, words and blocks.
+-- The list of a directory as a table: a line for each file, whose fields are apart by a tab. They are its owner, name
+-- and extension, protection and mode in octal, day and minute, words and blocks.
 
 abbrev pub tab : List ℕ
 tab = 9 ∷ []

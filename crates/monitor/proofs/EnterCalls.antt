@@ -64,7 +64,8 @@ creates_new true = refl
 creates_new false = refl
 
 module _ (w : UnderKeys) (job : Job) (c : Channel) (e : ℕ) (moment : Moment) (q : Place) (digit : ℕ) (kind : Kind)
-    (prime : Prime) (directory : ℕ) (mode : mode_number prime.mode ≡ mode_number c.mode) (at : prime.moment ≡ moment) where
+    (prime : Prime) (directory : ℕ) (mode : mode_number prime.mode ≡ mode_number c.mode)
+    (at : prime.moment ≡ moment) where
   file_is : (protection : ℕ) → prime.protection ≡ protection → new_file protection (channel_of w c) moment
       ≡ file_begun prime
   file_is protection is =

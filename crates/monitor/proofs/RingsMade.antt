@@ -31,7 +31,8 @@ module _ (job : Job) (number : ℕ) (c : Channel) (header count : ℕ) (w : Unde
   -- by whether there is no ring, and by the core that has it
   abbrev made : Bool → Option (List ℕ) → Reply × machine.Job
   made none found = settled (if none then Refused 5 else found_or_not found)
-      (machine.with_channel (record (job_of w job) { core = core_or job.core found }) number (Some (clean (channel_of w c))))
+      (machine.with_channel (record (job_of w job) { core = core_or job.core found }) number
+      (Some (clean (channel_of w c))))
       (λ reply. job_of w job)
 
   abbrev asked : Option (List ℕ)
@@ -54,7 +55,8 @@ module _ (job : Job) (number : ℕ) (c : Channel) (header count : ℕ) (w : Unde
         }),
       )
   ring_done some core found = ap (λ b. made b asked) some ∙ ap (made false) found
-      ∙ ap (λ j. (Done, j)) (channel_set w (record job { core = core }) number (Some (record c { status = cleared c.status })))
+      ∙ ap (λ j. (Done, j)) (channel_set w (record job { core = core }) number
+      (Some (record c { status = cleared c.status })))
 
 module _ (job : Job) (number count : ℕ) where
   pub inbuf_none : slot job.channels number ≡ None → IsRow job job (Inbuf number count) NoChannel

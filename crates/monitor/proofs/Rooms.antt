@@ -170,7 +170,8 @@ module _ (d : DiskState) (map : VolumeCore) (jobs : List (Option Job)) (s : Stat
       ≡ distinct_cost (current s) + total held_cost map.live
   held_booked whole =
       ap (λ vs. distinct_cost (current s ++ vs)) held_is
-      ∙ held_as_once map.live (current s) state.under.read (pins_of (readers jobs)) (shown_by state.under (readers jobs))
+      ∙ held_as_once map.live (current s) state.under.read (pins_of (readers jobs))
+      (shown_by state.under (readers jobs))
       (shown_as state.under (readers jobs)) state.reading.pinned
       (reads_booked d map s.files state.under.read whole state.serials state.read)
 

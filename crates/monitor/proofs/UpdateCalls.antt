@@ -1,5 +1,6 @@
 -- ENTER on a channel that reads is served as the machine serves it.
-use Rattle.std.proofs.Common.{◌≡◌, ◌<◌, ◌≤◌, ℕ, zero, suc, ◌+◌, Bool, true, false, List, [], ◌∷◌, length, Option, None, Some, refl}
+use Rattle.std.proofs.Common.{◌≡◌, ◌<◌, ◌≤◌, ℕ, zero, suc, ◌+◌, Bool, true, false, List, [], ◌∷◌, length, Option, None}
+use Rattle.std.proofs.Common.{Some, refl}
 use Rattle.std.proofs.Common.{sym, ap, subst, ◌∙◌, inl, inr, ⊎_elim, arith, slice_set}
 use Rattle.std.specs.Prelude.{if◌then◌else◌, IfSome, option_map, option_to_list}
 use Rattle.words36.specs.declared.names.FileName.{FileName}
@@ -44,7 +45,8 @@ use Rattle.monitor.specs.Rows.{Keeps, KeepsReading}
 use Rattle.monitor.specs.Serving.{pack_of, present, IsSide, AreKeyed, IsWriting, AreReading, IsState, Serves}
 use Rattle.monitor.specs.Sides.{Writing, UnderKeys, side_of, kind_of, input_of, output_of, channel_of, job_of}
 use Rattle.monitor.specs.Sides.{state_of, pins_of, readers}
-use Rattle.monitor.specs.Updating.{update_kind, updating_kind, first_block, updating_side, updating, IsUpdating, IsUpdateOf}
+use Rattle.monitor.specs.Updating.{update_kind, updating_kind, first_block, updating_side, updating, IsUpdating}
+use Rattle.monitor.specs.Updating.{IsUpdateOf}
 use Rattle.monitor.specs.declared.channel.Channel.{Channel}
 use Rattle.monitor.specs.declared.input.Input.{Input}
 use Rattle.monitor.specs.declared.output.Output.{Output}
@@ -144,7 +146,8 @@ module _ (d : DiskState) (map map' : VolumeCore) (jobs jobs' : List (Option Job)
   now = updating c is.renewed out
 
   pending_is : map'.pending ≡ is.between.pending
-  pending_is = renewed_pending is.between map' input is.renewed input.ppn input.file is.version.prime.protection is.renews
+  pending_is = renewed_pending is.between map' input is.renewed input.ppn input.file is.version.prime.protection
+      is.renews
 
   -- the version that is begun, and the others
   here : pending_at map'.pending key ≡ Some is.version
@@ -190,13 +193,15 @@ module _ (d : DiskState) (map map' : VolumeCore) (jobs jobs' : List (Option Job)
       (keeps_keyed map.pending map'.pending jobs n job job' keyed there keeps)
 
   pub update_reading : AreReading map'.live jobs'
-  update_reading = subst (AreReading map'.live) (sym set) (keeps_reading map.live map'.live jobs n job job' reading there
+  update_reading = subst (AreReading map'.live) (sym set) (keeps_reading map.live map'.live jobs n job job' reading
+      there
       (subst (KeepsReading map.live map'.live job) (sym is.job_is)
       (subst (λ vs. KeepsReading vs map'.live job (record job {
         core = with_attributes 1 job.core e (file_begun is.version.prime);
         channels = slice_set job.channels ch (Some now);
       })) is.begun.live
-      (renewed_reading is.between map' input is.renewed input.ppn input.file is.version.prime.protection is.renews job ch now c
+      (renewed_reading is.between map' input is.renewed input.ppn input.file is.version.prime.protection is.renews job
+      ch now c
       (with_attributes 1 job.core e (file_begun is.version.prime)) is.there is.side refl))))
 
   module _ (sound : IsSound d map false) (honest : d.honest) (timely : moment.date ≤ 4095)
@@ -206,7 +211,8 @@ module _ (d : DiskState) (map map' : VolumeCore) (jobs jobs' : List (Option Job)
       (updates : (files : Files File) → RestsAt d files
       → IsUpdateOf d.contents job input is.kind is.version is.renews.between is.renewed files) where
     module _ (s : State) (state : IsState d map jobs s) where
-      of_file : IsUpdateOf d.contents job input is.kind is.version is.renews.between is.renewed (without_serials s.files)
+      of_file : IsUpdateOf d.contents job input is.kind is.version is.renews.between is.renewed
+          (without_serials s.files)
       of_file = updates (without_serials s.files) state.files
 
       abbrev place : Place
@@ -247,7 +253,8 @@ module _ (d : DiskState) (map map' : VolumeCore) (jobs jobs' : List (Option Job)
       t_is : s ≡ t
       t_is = state_is s w jobs (state.jobs_are
           ∙ sym (jobs_same state.under key new_writing jobs (keyed.once key ∙ ap present is.begun.vacant))
-          ∙ sym (renewed_jobs is.between map' input is.renewed input.ppn input.file is.version.prime.protection is.renews d s.files
+          ∙ sym (renewed_jobs is.between map' input is.renewed input.ppn input.file is.version.prime.protection
+          is.renews d s.files
           state.under.read reads_begun whole version found.1 w0 jobs refl
           (subst (λ vs. ArePinned vs (pins_of (readers jobs))) (sym is.begun.live) reading.pinned)))
 
@@ -279,7 +286,8 @@ module _ (d : DiskState) (map map' : VolumeCore) (jobs jobs' : List (Option Job)
           all_kept is.kind is.prime is.begun.old is.version version_begun append ∙ waits.whole.counted
           ∙ ap blocks_of (of_file.begins.words ∙ ap (λ (f : File). length f.body) (sym found.2))
 
-      opens : output_updating (digit_at t (job_of w job) (place_at (job_of w job) e)) (place_at (job_of w job) e) version
+      opens : output_updating (digit_at t (job_of w job) (place_at (job_of w job) e))
+          (place_at (job_of w job) e) version
           ≡ output_of w out
       opens =
           side_updating (digit_at t (job_of w job) (place_at (job_of w job) e)) (place_at (job_of w job) e) version
@@ -311,7 +319,12 @@ module _ (d : DiskState) (map map' : VolumeCore) (jobs jobs' : List (Option Job)
       attributes_are = ap (with_attributes 1 job.core e) found.2
           ∙ (let p = sym of_file.begins.protection in let m = sym of_file.begins.mode in
           let a = sym of_file.begins.time in let b = sym of_file.begins.date in
-          λ i. with_attributes 1 job.core e (record of_file.file { protection = p i; mode = m i; time = a i; date = b i }))
+          λ i. with_attributes 1 job.core e (record of_file.file {
+            protection = p i;
+            mode = m i;
+            time = a i;
+            date = b i;
+          }))
 
       -- the row
       row_is : (serial : ℕ) → step (pack_of d) serial t (Calls n (Enter ch e) moment) ≡ (Done, state_of s.files w jobs')
@@ -404,7 +417,8 @@ module _ (d : DiskState) (map map' : VolumeCore) (jobs jobs' : List (Option Job)
                 (λ apart. ap (λ (x : Writing). file_at s.files x.place) (with_other state.under key new_writing k apart)
                 ∙ state.absent k p (sym (others k apart) ∙ at) is_new);
             keyed = update_keyed;
-            read = renewed_reads is.between map' input is.renewed input.ppn input.file is.version.prime.protection is.renews d s.files
+            read = renewed_reads is.between map' input is.renewed input.ppn input.file is.version.prime.protection
+                is.renews d s.files
                 state.under.read reads_begun whole version found.1 state.serials of_file.pinned;
             reading = update_reading;
             jobs_are = refl;

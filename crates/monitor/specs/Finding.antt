@@ -64,7 +64,8 @@ abbrev pub allowed : Found → ℕ → ℕ → Bool → Bool → Result VersionK
 allowed found.NoDirectory who owner is_zero is_claimed = Err NoDirectory
 allowed (found.Absent p) who owner is_zero is_claimed = begun_as kinds.Create
     (may_create (directory_digit p who owner)) is_zero is_claimed
-allowed (found.Present p q) who owner is_zero is_claimed = begun_as kinds.Supersede (may_look (directory_digit p who owner)
+allowed (found.Present p q) who owner is_zero is_claimed = begun_as kinds.Supersede
+    (may_look (directory_digit p who owner)
     && may_supersede (file_digit q who owner)) is_zero is_claimed
 
 -- how a version begins: in the place of the file that is there, or as a new one

@@ -102,7 +102,8 @@ FoundIsRead old events replies services =
     → ReadsWhatWasFound (last_of old one) (last_of looked two) left n ch e a
 
 -- An IN of a job on a channel among the events was done, by way of the service `left`.
-pub record Reads (events before behind : List Event) (replies first second : List Reply) (services one two : List Service)
+pub record Reads (events before behind : List Event) (replies first second : List Reply)
+    (services one two : List Service)
     (left : Service) (n ch a : ℕ) (moment : Moment) : Type 0 where
   pub events_are : events ≡ before ++ Calls n (In ch a) moment ∷ behind
   pub replies_are : replies ≡ first ++ Done ∷ second

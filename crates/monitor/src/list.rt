@@ -67,7 +67,8 @@ impl<D: Disk> Monitor<D> {
         }
     }
 
-    /// The owners of all directories, by their numbers. No job asks for them, and no protection keeps them from anybody.
+    /// The owners of all directories, by their numbers. No job asks for them, and no protection keeps them from
+    /// anybody.
     ///
     /// # Errors
     ///

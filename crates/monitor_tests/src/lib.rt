@@ -1,5 +1,5 @@
-//! Tests of lists of events, of a start after a crash, and of a device that fails at a read, by the calls of a monitor. What
-//! single calls come to is played by the program `rows`. There is no code here beside them.
+//! Tests of lists of events, of a start after a crash, and of a device that fails at a read, by the calls of a monitor.
+//! What single calls come to is played by the program `rows`. There is no code here beside them.
 #![tactic(auto)]
 
 #[cfg(test)]

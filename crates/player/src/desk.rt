@@ -102,7 +102,8 @@ impl Desk {
     }
 }
 
-/// Whether an event, a session or a start answers that the device failed: a session behind a part of what it is to print.
+/// Whether an event, a session or a start answers that the device failed: a session behind a part of what it is to
+/// print.
 fn meets_fault(wanted: &str, found: &str) -> bool {
     match found.split_once("?Device fault\n") {
         Some((printed, behind)) => wanted.starts_with(printed) && is_failed(behind),

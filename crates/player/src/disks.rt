@@ -270,8 +270,8 @@ fn play_kept(
     }
 }
 
-/// Plays a row with one of its alternatives over a disk of which so many blocks are kept in memory; gives the disk that is
-/// left.
+/// Plays a row with one of its alternatives over a disk of which so many blocks are kept in memory; gives the disk that
+/// is left.
 fn play_row(rt: &impl Print, desk: &mut Desk, row: &Row, kept: usize) -> Result<MemDisk> {
     let mut disk = disk_of(desk.alloc, row, desk.alternative)?;
     desk.moment = Moment::new(0, 0)?;
@@ -296,8 +296,8 @@ pub fn different_blocks(one: &mut MemDisk, other: &mut MemDisk) -> u32 {
     count
 }
 
-/// Plays a row with one of its alternatives, without a cache and with caches of one, two and 256 blocks; the same has to be
-/// left of the disk.
+/// Plays a row with one of its alternatives, without a cache and with caches of one, two and 256 blocks; the same has
+/// to be left of the disk.
 pub fn play_once(rt: &impl Print, alloc: Global, row: &Row, alternative: usize) -> Result<u64> {
     let mut desk = Desk::new(alloc, alternative)?;
     let mut plain = play_row(rt, &mut desk, row, 0)?;

@@ -1,6 +1,7 @@
-//! Plays texts of worked rows: each is played over a disk in memory, from a start to the next; lines of calls go through
-//! `script`, and lines of commands through `session`. What a line means stands at the top of the text that the program
-//! `rows` plays, beside its sources. There is nothing here to be promised: it tests and measures the crates below.
+//! Plays texts of worked rows: each is played over a disk in memory, from a start to the next; lines of calls go
+//! through `script`, and lines of commands through `session`. What a line means stands at the top of the text that the
+//! program `rows` plays, beside its sources. There is nothing here to be promised: it tests and measures the crates
+//! below.
 #![tactic(auto)]
 
 mod counting;

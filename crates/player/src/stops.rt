@@ -1,5 +1,5 @@
-//! Stops at each call of a disk, and again in recovery: what a crash leaves is started, and has the files from behind the
-//! events that were answered, or those from behind one more.
+//! Stops at each call of a disk, and again in recovery: what a crash leaves is started, and has the files from behind
+//! the events that were answered, or those from behind one more.
 use crate::desk::Desk;
 use crate::disks::{different_blocks, disk_of, forget_record, play_over, start_over};
 use crate::row::Row;
@@ -108,8 +108,8 @@ fn judge(
     Ok(())
 }
 
-/// Starts the service on a copy of a disk that fails once so many calls have passed, and crashes it. Gives the disk, and
-/// whether it was stopped.
+/// Starts the service on a copy of a disk that fails once so many calls have passed, and crashes it. Gives the disk,
+/// and whether it was stopped.
 fn recover(alloc: Global, disk: &mut MemDisk, passing: u64, pick: Pick) -> Result<(MemDisk, bool)> {
     let fused = FuseDisk::new(copy_of(alloc, disk)?, passing, Fail::All);
     let (mut left, was_stopped) = match start_over(alloc, fused) {
@@ -120,8 +120,8 @@ fn recover(alloc: Global, disk: &mut MemDisk, passing: u64, pick: Pick) -> Resul
     Ok((left, was_stopped))
 }
 
-/// Stops the recovery of a disk behind so many calls, and crashes it in each way that leaves something else. Gives whether
-/// it was stopped.
+/// Stops the recovery of a disk behind so many calls, and crashes it in each way that leaves something else. Gives
+/// whether it was stopped.
 fn stop_recovery(
     rt: &impl Print,
     alloc: Global,
@@ -203,8 +203,8 @@ fn crash_lines(
     judge(rt, alloc, disk, trial, answered, stops)
 }
 
-/// Stops the lines of a row behind so many calls of the disk: once it has failed it is asked for nothing more, whether it
-/// would serve or not. Gives whether they were stopped.
+/// Stops the lines of a row behind so many calls of the disk: once it has failed it is asked for nothing more, whether
+/// it would serve or not. Gives whether they were stopped.
 fn stop_lines(
     rt: &impl Print,
     alloc: Global,
@@ -229,8 +229,8 @@ fn stop_lines(
     Ok(failing.has_failed)
 }
 
-/// Plays a row of which the lines up to its RESTART are stopped at each call of the disk, and where they are stopped by a
-/// crash, each recovery behind that at each of its own, whatever the crashes leave of the open blocks.
+/// Plays a row of which the lines up to its RESTART are stopped at each call of the disk, and where they are stopped by
+/// a crash, each recovery behind that at each of its own, whatever the crashes leave of the open blocks.
 pub fn play_stops(rt: &impl Print, alloc: Global, row: &Row, manner: Manner) -> Result<Stops> {
     let mut sections = row.lines().split(|line| line.as_str() == "RESTART");
     let trial = Trial {

@@ -1,6 +1,7 @@
 -- Pointers that are put into a block one after the other.
 use Rattle.std.proofs.Common.{◌≡◌, ◌⊎◌, ⊎_elim, ℕ, min, add-zero, zero, suc, ◌+◌, ◌-◌, ◌^◌, ◌<◌, ◌≤◌, List, [], ◌∷◌}
-use Rattle.std.proofs.Common.{◌++◌, map, length, get_or, take, drop, replicate, slice_set, refl, sym, ◌∙◌, ap, subst, arith}
+use Rattle.std.proofs.Common.{◌++◌, map, length, get_or, take, drop, replicate, slice_set, refl, sym, ◌∙◌, ap, subst}
+use Rattle.std.proofs.Common.{arith}
 use Rattle.std.proofs.Common.{append_assoc, length-append}
 use Rattle.std.specs.List.{AllByRecursion}
 use Rattle.std.proofs.lemmas.List.{map_more, take_all, take-append-drop, map-append, length-map, length-take-le}
@@ -138,7 +139,8 @@ block_written p all part new count next is part_is new_is =
 
 -- What a prime block says is written anew, its length and what follows stay.
 pub front_rewritten : (p q : Prime) (runs : List Run) (next b d e f : ℕ) (old : List ℕ) → q.date < 4096 → b ≡ 0
-    → d ≡ join q.place.name.ext b → e ≡ attributes q → f ≡ q.place.ppn → q.words ≡ p.words → old ≡ prime_block p runs next
+    → d ≡ join q.place.name.ext b → e ≡ attributes q → f ≡ q.place.ppn → q.words ≡ p.words → old
+    ≡ prime_block p runs next
     → slice_set (slice_set (slice_set (slice_set old 1 q.place.name.name) 2 d) 3 e) 4 f ≡ prime_block q runs next
 front_rewritten p q runs next b d e f old fits none ext attr ppn length_is is =
     let ext_is : d ≡ extension_word q = ext ∙ ap (λ (n : ℕ). join q.place.name.ext n) none ∙ add-zero _

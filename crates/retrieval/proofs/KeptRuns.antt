@@ -5,7 +5,8 @@ use Rattle.std.proofs.Common.{◌∙◌, ap, subst, arith, append_assoc, length-
 use Rattle.std.specs.Prelude.{slice_get, IfSome}
 use Rattle.std.proofs.lemmas.Bool.{eq-eqb, ne_eqb}
 use Rattle.std.proofs.lemmas.List.{map_more, map_push, map-append, take-append-drop, take_more_set, set_split}
-use Rattle.std.proofs.lemmas.List.{drop_more, take_at, drop_at, length-take-le, set-append_right, get_or-drop, drop-drop}
+use Rattle.std.proofs.lemmas.List.{drop_more, take_at, drop_at, length-take-le, set-append_right, get_or-drop}
+use Rattle.std.proofs.lemmas.List.{drop-drop}
 use Rattle.std.proofs.lemmas.Option.{slice_get_read}
 use Rattle.std.proofs.lemmas.Grind.{flat_map-append}
 use Rattle.meaning.specs.Retrieval.{Run, run_blocks, count_up}
@@ -50,20 +51,23 @@ module _ (runs : List RunValue) (count : ℕ) (last run : RunValue) (some : 0 < 
 pub none_before : (runs : List RunValue) (count : ℕ) (run : RunValue) → count ≡ 0
     → pairs_of (take count runs) ++ pair_of run ∷ [] ≡ behind (pairs_of (take count runs)) (pair_of run)
 none_before runs count run is = subst
-    (λ (k : ℕ). pairs_of (take k runs) ++ pair_of run ∷ [] ≡ behind (pairs_of (take k runs)) (pair_of run)) (sym is) refl
+    (λ (k : ℕ). pairs_of (take k runs) ++ pair_of run ∷ [] ≡ behind (pairs_of (take k runs)) (pair_of run))
+    (sym is) refl
 
 -- Another run at the place before the first so many end, and behind them.
 
 pub set_before : (runs : List RunValue) (count : ℕ) (run : RunValue) → 0 < count → count ≤ length runs
     → pairs_of (take count (slice_set runs (count - 1) run)) ≡ pairs_of (take (count - 1) runs) ++ pair_of run ∷ []
 set_before runs count run some few =
-    ap (λ (k : ℕ). pairs_of (take k (slice_set runs (count - 1) run))) (let e : count ≡ count - 1 + 1 = omega arith in e)
+    ap (λ (k : ℕ). pairs_of (take k (slice_set runs (count - 1) run)))
+    (let e : count ≡ count - 1 + 1 = omega arith in e)
     ∙ ap pairs_of (take_more_set runs (count - 1) run (omega arith))
     ∙ map_push pair_of (take (count - 1) runs) run
 
 pub set_behind : (runs : List RunValue) (count : ℕ) (run : RunValue) → count < length runs
     → pairs_of (take (count + 1) (slice_set runs count run)) ≡ pairs_of (take count runs) ++ pair_of run ∷ []
-set_behind runs count run below = ap pairs_of (take_more_set runs count run below) ∙ map_push pair_of (take count runs) run
+set_behind runs count run below = ap pairs_of (take_more_set runs count run below)
+    ∙ map_push pair_of (take count runs) run
 
 -- One run more, by the first so many.
 

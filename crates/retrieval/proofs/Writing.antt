@@ -36,7 +36,8 @@ drop_min (n ∷ ns) (suc k) (suc count) is = drop_min ns k count (omega arith)
 
 -- Extensions, one more before the others.
 
-pub first_of_extensions : (ribs : List ℕ) (runs : List Run) → first_extension (extensions_of ribs runs) ≡ head_or_zero ribs
+pub first_of_extensions : (ribs : List ℕ) (runs : List Run) → first_extension (extensions_of ribs runs)
+    ≡ head_or_zero ribs
 first_of_extensions [] runs = refl
 first_of_extensions (rib ∷ ribs) runs = refl
 
@@ -63,7 +64,8 @@ extensions_same c d (rib ∷ ribs) runs same are = (
     later : (n : ℕ) → 0 < times n ribs → 0 < times n (rib ∷ ribs)
     later n there = omega arith
 
-pub one_more : (c d : Contents) (rib : ℕ) (ribs : List ℕ) (runs : List Run) (count next : ℕ) → count ≡ min (length runs) 126
+pub one_more : (c d : Contents) (rib : ℕ) (ribs : List ℕ) (runs : List Run) (count next : ℕ) → count
+    ≡ min (length runs) 126
     → suc (length ribs) ≡ (length runs + 125) / 126 → AllByRecursion IsRun runs
     → times rib ribs ≡ 0 → AreExtensions c (extensions_of ribs (drop count runs)) → next ≡ head_or_zero ribs
     → ((n : ℕ) → (n ≡ rib → ⊥) → d n ≡ c n)
@@ -75,7 +77,8 @@ one_more c d rib ribs runs count next is counted fit apart are named same here =
     let long : length (take 126 runs) ≡ count = sym (ap length taken) ∙ length-take-le count runs (omega arith) in
     let others = length-extensions_of ribs (drop 126 runs) in (
       here ∙ ap (λ (l : List Run). Some (extension_block l next)) taken
-          ∙ ap (λ (n : ℕ). Some (extension_block (take 126 runs) n)) (named ∙ sym (first_of_extensions ribs (drop 126 runs))),
+          ∙ ap (λ (n : ℕ). Some (extension_block (take 126 runs) n))
+          (named ∙ sym (first_of_extensions ribs (drop 126 runs))),
       omega arith,
       omega arith,
       (λ some. omega arith),

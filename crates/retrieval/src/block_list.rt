@@ -1,4 +1,5 @@
-ghost use Rattle.std.specs.Prelude.{◌≡◌, ◌+◌, ◌-◌, ◌<◌, ◌≤◌, ◌^◌, ◌++◌, ◌∷◌, [], ℕ, IfSome, IfNone, OnOk, OnErr, IfOk, IsOk};
+ghost use Rattle.std.specs.Prelude.{◌≡◌, ◌+◌, ◌-◌, ◌<◌, ◌≤◌, ◌^◌, ◌++◌, ◌∷◌, [], ℕ, IfSome, IfNone, OnOk, OnErr, IfOk};
+ghost use Rattle.std.specs.Prelude.{IsOk};
 ghost use Rattle.std.specs.Prelude.{length, take, drop, slice_get, slice_index, slice_set, vec_len, vec_capacity};
 ghost use Rattle.retrieval.specs.Runs.{BlocksState, IsIn, blocks_of_runs, pairs_of, pair_of, part_blocks};
 ghost use Rattle.retrieval.specs.Runs.{behind, longest};

@@ -71,8 +71,8 @@ pub(crate) fn read_kept<D: Disk>(
     requires fits { at * 128 + count ≤ 2097152 }
 
     ensures kept { (D.state disk.new).honest → (body : List ℕ) → length body ≡ total
-        → AreWhole (D.state disk.old).contents blocks.now.blocks → HasBody (D.state disk.old).contents blocks.now.blocks body
-        → IfOk result (λ kept. Stays body (min at (total / 128)) at count kept.place kept.words) }
+        → AreWhole (D.state disk.old).contents blocks.now.blocks
+        → HasBody (D.state disk.old).contents blocks.now.blocks body → IfOk result (λ kept. Stays body (min at (total / 128)) at count kept.place kept.words) }
     ensures damaged { (D.state disk.new).honest → (k : ℕ) → IsErrOf result (BadData k)
         → (0 < times k blocks.now.blocks) × ((D.state disk.old).contents k ≡ None) }
     ensures memory { IsErrOf result NoMemory → ⊥ }

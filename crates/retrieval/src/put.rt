@@ -81,8 +81,8 @@ fn take_more(blocks: &mut BlockList, table: &mut Table, more: usize)
     }
 }
 
-/// Puts words at block `block` of a body of `old` words, counted from 1, of which at least one: as `put_words` does, in the
-/// list of its blocks.
+/// Puts words at block `block` of a body of `old` words, counted from 1, of which at least one: as `put_words` does, in
+/// the list of its blocks.
 ///
 /// # Errors
 ///

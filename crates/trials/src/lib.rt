@@ -19,4 +19,6 @@ mod put_tests;
 #[cfg(test)]
 mod supersede_tests;
 #[cfg(test)]
+mod update_tests;
+#[cfg(test)]
 mod use_tests;

@@ -45,7 +45,7 @@ fn moment(rt: &impl Abort) -> Moment {
 }
 
 /// What the prime block of a version of a file of [10,20] says.
-fn prime_of(rt: &impl Abort, name: u64) -> Prime
+pub(crate) fn prime_of(rt: &impl Abort, name: u64) -> Prime
     ensures { 0 < result.file.name }
 {
     let file = file_name(name);

@@ -167,8 +167,9 @@ fn with_a_file(rt: &impl Abort, alloc: Global) -> Result<CountingDisk, NoMemory>
     Ok(counting(disk_of(volume)))
 }
 
-/// Each data block is written once, when its words are put. They are one run, so a publication writes the prime block and
-/// no rib, though ribs are booked; then two images, the header, the gate, two blocks in their places, and the gate. It syncs four times.
+/// Each data block is written once, when its words are put. They are one run, so a publication writes the prime block
+/// and no rib, though ribs are booked; then two images, the header, the gate, two blocks in their places, and the gate.
+/// It syncs four times.
 #[test]
 fn the_calls_of_a_publication(rt: HostRuntime) -> Result<(), Fail> {
     let alloc = rt.alloc();

@@ -90,7 +90,8 @@ deal_more core new areas i n first count words front back area lt is view e f b 
     (let next : suc i ≡ i + 1 = omega arith in
     let t = take_fewer count n words e in
     let s = drop_fewer count n words e in
-    rw (← next, ← t, ← s) (writes_append core (placed first (take n words)) (dealt (drop (suc i) areas) (drop n words))))
+    rw (← next, ← t, ← s) (writes_append core (placed first (take n words))
+    (dealt (drop (suc i) areas) (drop n words))))
 
 -- one area more that is counted
 pub count_on : (areas : List Area) (i first count : ℕ) (area : Area) → i < length areas → area ≡ get_or areas i area

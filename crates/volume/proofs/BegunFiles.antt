@@ -1,5 +1,6 @@
 -- A version that begins with the file of its place has that file's words, and costs what the file does.
-use Rattle.std.proofs.Common.{◌≡◌, ◌↔◌, inl, inr, ℕ, ◌+◌, ◌<◌, Bool, true, false, [], length, Option, Some, None, is_none}
+use Rattle.std.proofs.Common.{◌≡◌, ◌↔◌, inl, inr, ℕ, ◌+◌, ◌<◌, Bool, true, false, [], length, Option, Some, None}
+use Rattle.std.proofs.Common.{is_none}
 use Rattle.std.proofs.Common.{Result, Ok, Err, IsErrOf, refl, sym, ap, subst, ◌∙◌, arith}
 use Rattle.std.specs.Cmp.{nat_cmp_total}
 use Rattle.std.specs.Ordering.{nat_cmp}

@@ -1,6 +1,8 @@
 -- A copy of a volume stands for its files, though it has zeros where a block was damaged: what the files reach isn't.
-use Rattle.std.proofs.Common.{◌≡◌, ◌≢◌, ◌∙◌, ◌⊎◌, ◌+◌, ◌*◌, ◌/◌, ◌<◌, ◌≤◌, ◌++◌, ℕ, Bool, true, false, cond, List, [], ◌∷◌}
-use Rattle.std.proofs.Common.{Option, Some, None, IsSome, is_some, slice_index, refl, sym, ap, subst, arith, inl, inr, ⊎_elim, ltb}
+use Rattle.std.proofs.Common.{◌≡◌, ◌≢◌, ◌∙◌, ◌⊎◌, ◌+◌, ◌*◌, ◌/◌, ◌<◌, ◌≤◌, ◌++◌, ℕ, Bool, true, false, cond, List, []}
+use Rattle.std.proofs.Common.{◌∷◌}
+use Rattle.std.proofs.Common.{Option, Some, None, IsSome, is_some, slice_index, refl, sym, ap, subst, arith, inl, inr}
+use Rattle.std.proofs.Common.{⊎_elim, ltb}
 use Rattle.std.proofs.Common.{ltb-true, Result, Ok, Err, OnOk}
 use Rattle.std.proofs.lemmas.Bool.{cases_eq, cases_lt}
 use Rattle.std.proofs.lemmas.Bool.Decides.{nat_tests}
@@ -15,7 +17,8 @@ use Rattle.meaning.specs.Table.{bit_in, table_bit}
 use Rattle.meaning.specs.Directories.{Node, numbers, IsSpelled, master_words, IsMasterEntry, file_words, IsFileEntry}
 use Rattle.meaning.specs.Retrieval.{Extension, extension_numbers, AreExtensions}
 use Rattle.meaning.specs.Stands.{StoredFile, StoredDirectory, DiskMap, reaches, reaches_in_directory, reaches_in_file}
-use Rattle.meaning.specs.Stands.{blocks_of_file, IsVersion, IsWhole, IsMapped, IsMarked, HasMap, SettledStands, place_of}
+use Rattle.meaning.specs.Stands.{blocks_of_file, IsVersion, IsWhole, IsMapped, IsMarked, HasMap, SettledStands}
+use Rattle.meaning.specs.Stands.{place_of}
 use Rattle.meaning.proofs.Lists.{times_here}
 use Rattle.meaning.proofs.MapLaws.{some_same}
 use Rattle.meaning.proofs.Chains.{directory_kept}

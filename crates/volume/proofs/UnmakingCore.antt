@@ -120,13 +120,15 @@ module _ (size : ℕ) (k k' : Known) (ppn : ℕ) (puts : List Put) (whole : IsWh
   growths_same pending none =
       let out : growths pending k'.master.entries k'.directories
       ≡ growths pending (hole removed.place k.master.entries) (hole removed.place k.directories) = λ i.
-      growths pending (entries_out size k k' ppn puts whole removed i) (directories_out size k k' ppn puts whole removed i) in
+      growths pending (entries_out size k k' ppn puts whole removed i)
+      (directories_out size k k' ppn puts whole removed i) in
       let all = hole_growths pending k.master.entries k.directories removed.place (ppn, removed.word) d whole.aligned
       removed.there.is removed.directory_at in
       let one : share pending ppn d ≡ directory_cost (length d.chain.entries + 0)
       - directory_cost (length d.chain.entries) = ap (λ (n : ℕ). directory_cost (length d.chain.entries + n)
       - directory_cost (length d.chain.entries)) none in
-      let same : directory_cost (length d.chain.entries + 0) ≡ directory_cost (length d.chain.entries) = ap directory_cost
+      let same : directory_cost (length d.chain.entries + 0) ≡ directory_cost
+      (length d.chain.entries) = ap directory_cost
       (omega arith) in
       omega arith
 
@@ -176,7 +178,8 @@ module _ (size : ℕ) (c c' : VolumeCore) (ppn : ℕ) (puts : List Put) (core : 
     map = removed_whole size k k' ppn puts core.map removed;
     keyed =
         subst (λ l. AllZip (IsKeyed l) k'.directories c'.keys) (sym removes.live)
-        (subst (AllZip (IsKeyed c.live) k'.directories) (sym (removes.keys ∙ sym (hole_is c.keys removed.place keys_within)))
+        (subst (AllZip (IsKeyed c.live) k'.directories) (sym (removes.keys
+        ∙ sym (hole_is c.keys removed.place keys_within)))
         (subst (λ ds. AllZip (IsKeyed c.live) ds (hole removed.place c.keys))
         (sym (directories_out size k k' ppn puts core.map removed))
         (hole_zip (IsKeyed c.live) k.directories c.keys removed.place core.keyed

@@ -63,7 +63,8 @@ module _ (size : ℕ) (k k' : Known) (m : DiskMap) (ppn : ℕ) (puts : List Put)
   master_times n = ap (times n) held.known.chain ∙ chain_times size k k' ppn puts whole removed n
 
   chain_in_space : (n : ℕ) → 0 < times n k'.master.blocks → InSpace size n
-  chain_in_space n there = each_times (InSpace size) k'.master.blocks n (removed_inside size k k' ppn puts whole removed)
+  chain_in_space n there = each_times (InSpace size) k'.master.blocks n
+      (removed_inside size k k' ppn puts whole removed)
       there
 
   out_of_chain : (n : ℕ) → (n < space_start size) ⊎ (size ≤ n) → times n k'.master.blocks ≡ 0

@@ -64,7 +64,8 @@ module _ (size : ℕ) (k k' : Known) (ppn : ℕ) (puts : List Put) (whole : IsWh
       let first = first_place nat_cmp_total nat_cmp-IsAntisymmetric k'.master.entries q v
       (found_other q other ∙ there.found) in
       let here : slice_get k'.master.entries p.0 ≡ Some (q, v) = ap (λ l. slice_get l p.0) entries_out ∙ p.2 in
-      let place : first.0 ≡ p.0 = one_place k'.master.entries first.0 p.0 q v v removed.chain.each_once first.1.is here in (
+      let place : first.0 ≡ p.0 = one_place k'.master.entries first.0 p.0 q v v removed.chain.each_once first.1.is here
+      in (
         first.0,
         first.1,
         ap (slice_get k'.directories) (place ∙ sym same) ∙ ap (λ l. slice_get l r.0) directories_out ∙ r.2,
@@ -128,7 +129,8 @@ pub directory_stays : (size : ℕ) (c c' : VolumeCore) (ppn : ℕ) (puts : List 
     → IsDirectoryRemoved size c.known c'.known ppn puts → (owner : ℕ) (d : KnownDirectory) → IsDirectoryOf c owner d
     → (owner ≡ ppn → ⊥) → IsDirectoryOf c' owner d
 directory_stays size c c' ppn puts whole removed owner d there other =
-    let now = stands_on size c.known c'.known ppn puts whole.map removed owner there.0 there.1 d other there.2 there.3 in
+    let now = stands_on size c.known c'.known ppn puts whole.map removed owner there.0 there.1 d other there.2 there.3
+    in
     (now.0, there.1, now.1, now.2)
 
 pub primes_stay : (size : ℕ) (c c' : VolumeCore) (ppn : ℕ) (puts : List Put) → IsWholeCore size c

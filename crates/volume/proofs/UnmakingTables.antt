@@ -1,6 +1,7 @@
 -- An empty directory is deleted in core: what each step asks for, and the whole of it from what each step did.
 use Rattle.std.proofs.Common.{◌≡◌, ℕ, suc, ◌+◌, ◌-◌, ◌<◌, ◌≤◌, false, List, [], ◌∷◌, ◌++◌, map, length}
-use Rattle.std.proofs.Common.{replicate, take, drop, get_or, swap_remove, option_to_list, is_some, Option, Some, None, refl, sym, ap}
+use Rattle.std.proofs.Common.{replicate, take, drop, get_or, swap_remove, option_to_list, is_some, Option, Some, None}
+use Rattle.std.proofs.Common.{refl, sym, ap}
 use Rattle.std.proofs.Common.{subst, ◌∙◌, arith, length-append}
 use Rattle.std.proofs.lemmas.List.{length-map}
 use Rattle.std.proofs.lemmas.Option.{slice_get_within}
@@ -53,7 +54,8 @@ count_left None n is = is
 count_left (Some x) n is = is
 
 -- a chain gives back what it costs less with an entry less
-pub chain_less : (chain chain' : ChainState words.MasterEntry) (left : List ℕ) → IsChain nat_cmp (IsMasterEntryOf 1) chain
+pub chain_less : (chain chain' : ChainState words.MasterEntry) (left : List ℕ)
+    → IsChain nat_cmp (IsMasterEntryOf 1) chain
     → IsChain nat_cmp (IsMasterEntryOf 1) chain' → chain.blocks ≡ chain'.blocks ++ left
     → length chain'.entries + 1 ≡ length chain.entries
     → length left ≡ directory_cost (length chain.entries) - directory_cost (length chain.entries - 1)

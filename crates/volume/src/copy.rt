@@ -21,9 +21,9 @@ use words36::{BLOCK_WORDS, Block, Word};
 
 impl<D: Disk> Volume<D> {
     /// Copies the volume on a disk to another disk of as many blocks: recovers it and reads all that it reaches, as
-    /// `open` does, then writes every block, zeros for each that is damaged, and waits until all are on the disk. The home
-    /// copies come last, once all else is there: what the other disk holds until then is no copy, and where it began with
-    /// zeros, no volume (that isn't promised by a clause).
+    /// `open` does, then writes every block, zeros for each that is damaged, and waits until all are on the disk. The
+    /// home copies come last, once all else is there: what the other disk holds until then is no copy, and where it
+    /// began with zeros, no volume (that isn't promised by a clause).
     ///
     /// # Errors
     ///
@@ -86,8 +86,8 @@ impl<D: Disk> Volume<D> {
     }
 }
 
-/// Copies each block of a disk to another of as many blocks, the home copies last, which stand before the gate: the rest
-/// is on the disk before, so that what is left of a copy that is cut short looks like no volume.
+/// Copies each block of a disk to another of as many blocks, the home copies last, which stand before the gate: the
+/// rest is on the disk before, so that what is left of a copy that is cut short looks like no volume.
 fn copy_all<D: Disk, E: Disk>(from: &mut D, to: &mut E) -> Result<(), CopyError>
     requires { (D.state from.old).size ≡ (E.state to.old).size }
     ensures copied { (D.state from.new).honest → (E.state to.new).honest

@@ -16,7 +16,8 @@ loop-place-preserved c =
     let w = c.args.i * 128 + c.loop-place.place in
     let read : c.from_bits.result ≡ get_or all w 0 = c.from_bits.ensures ∙ c.bits.ensures.value
     ∙ get_or_read all w c.index-words-i.result (omega arith) c.index-words-i.is 0 in
-    let few : get_or all w 0 < 2 ^ 36 = subst (λ (n : ℕ). n < 2 ^ 36) (sym c.from_bits.ensures ∙ read) c.bits.ensures.fits in
+    let few : get_or all w 0 < 2 ^ 36 = subst (λ (n : ℕ). n < 2 ^ 36)
+    (sym c.from_bits.ensures ∙ read) c.bits.ensures.fits in
     let spelled = number_of_word all (4608 * c.args.i + 36 * c.loop-place.place) w 36 refl (omega arith) few in
     record {
       long = length-set c.loop-place.block c.loop-place.place c.from_bits.result ∙ c.loop-place.invariant.long;

@@ -3,7 +3,8 @@ use Rattle.alloctab.proofs.LaneLaws.{clear_word_fits, lanes_long, clear_lane}
 use Rattle.alloctab.proofs.lanes.clear_lanes.Goals as goal
 
 pub returns-clause-eight : goal.returns-clause-eight
-returns-clause-eight c = lanes_long 68719476735 c.lanes.result c.lanes-2.result c.lanes.ensures.eight c.lanes-2.ensures.eight
+returns-clause-eight c = lanes_long 68719476735 c.lanes.result c.lanes-2.result c.lanes.ensures.eight
+    c.lanes-2.ensures.eight
 
 pub returns-clause-each : goal.returns-clause-each
 returns-clause-each c k below = clear_lane c.lanes.result c.lanes-2.result k _ _ c.lanes.ensures.eight

@@ -6,5 +6,6 @@ use Rattle.alloctab.proofs.lanes.count_in_rest.Given as goal
 abbrev pub invariant-loop-place : goal.invariant-loop-place
 invariant-loop-place l = record {
   few : l.count ≤ 36 * l.place;
-  counted : sum_below (clear_bit l.set l.held) (36 * l.from) + l.count ≡ sum_below (clear_bit l.set l.held) (36 * l.place);
+  counted : sum_below (clear_bit l.set l.held) (36 * l.from) + l.count
+      ≡ sum_below (clear_bit l.set l.held) (36 * l.place);
 }

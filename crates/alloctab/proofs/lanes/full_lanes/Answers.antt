@@ -8,7 +8,8 @@ returns-then-marks-eq0-clause-full c k below =
     let xs = c.clear_lanes.result in
     let long = c.clear_lanes.ensures.eight in
     let marks = bitmask_splat w64 (λ a b. not (eqb a b)) xs 8 0 long (omega arith) in
-    sym (c.clear_lanes.ensures.each k below) ∙ none_before xs 8 long (all_before xs _ long marks c.if-marks-eq0.true) k below
+    sym (c.clear_lanes.ensures.each k below) ∙ none_before xs 8 long
+    (all_before xs _ long marks c.if-marks-eq0.true) k below
 
 pub returns-else-marks-eq0-clause-few : goal.returns-else-marks-eq0-clause-few
 returns-else-marks-eq0-clause-few c =
@@ -31,4 +32,5 @@ returns-else-marks-eq0-clause-stop c below none =
     let xs = c.clear_lanes.result in
     let long = c.clear_lanes.ensures.eight in
     let marks = bitmask_splat w64 (λ a b. not (eqb a b)) xs 8 0 long (omega arith) in
-    one_there xs _ long (some_before xs _ long marks c.if-marks-eq0.false) below (c.clear_lanes.ensures.each _ below ∙ none)
+    one_there xs _ long (some_before xs _ long marks c.if-marks-eq0.false) below
+    (c.clear_lanes.ensures.each _ below ∙ none)

@@ -22,7 +22,8 @@ returns-then-is_set-clause-others c p below apart =
 pub returns-else-is_set-clause-same : goal.returns-else-is_set-clause-same
 returns-else-is_set-clause-same c =
     ap (λ (n : ℕ). bit_at n (35 - c.args.place)) c.from_bits-else-is_set.ensures
-    ∙ bit_at_clear_same w64 c.bits-else-is_set.result (35 - c.args.place) (omega arith) ∙ sym (ap digit c.if-is_set.false)
+    ∙ bit_at_clear_same w64 c.bits-else-is_set.result (35 - c.args.place) (omega arith)
+    ∙ sym (ap digit c.if-is_set.false)
 
 pub returns-else-is_set-clause-others : goal.returns-else-is_set-clause-others
 returns-else-is_set-clause-others c p below apart =

@@ -2,7 +2,8 @@ use Rattle.std.proofs.Common.{ℕ, List, subst}
 use Rattle.std.specs.Prelude.{option_map}
 use Rattle.std.proofs.lemmas.Result.{err_from_is_err_and}
 use Rattle.meaning.specs.Errands.{keeps, AreWords}
-use Rattle.commands.proofs.ErrandLaws.{carried, errand_done, errand_cut, delivered, undelivered, unread_by, memory_unread}
+use Rattle.commands.proofs.ErrandLaws.{carried, errand_done, errand_cut, delivered, undelivered, unread_by}
+use Rattle.commands.proofs.ErrandLaws.{memory_unread}
 use Rattle.commands.proofs.errands.read_in.Goals as goal
 
 pub returns-in_err-bytes : goal.returns-in_err-bytes

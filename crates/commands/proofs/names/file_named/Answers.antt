@@ -29,4 +29,5 @@ pub returns-in-Some-TooLong-clause-none : goal.returns-in-Some-TooLong-clause-no
 returns-in-Some-TooLong-clause-none c =
     let whole = subst (λ (l : List ℕ). IsPartialLine c.loop-byte.line l)
     (take_all c.loop-byte.byte-index c.args.text.now (omega (arith, c.loop-byte-test.false))) c.loop-byte.invariant in
-    no_long_name c.args.text.now (sym (ap line_list (c.in-Some-TooLong.is ∙ ap Some c.in-Some-TooLong.field-0-is)) ∙ c.last.ensures c.args.text.now whole)
+    no_long_name c.args.text.now (sym (ap line_list (c.in-Some-TooLong.is ∙ ap Some c.in-Some-TooLong.field-0-is))
+    ∙ c.last.ensures c.args.text.now whole)

@@ -11,7 +11,8 @@ loop-rest-init g c = filled_none g.S.FileService.machine c.args.moment c.args.en
 pub loop-rest-preserved : goal.loop-rest-preserved
 loop-rest-preserved g c =
     let some : 0 < length c.loop-rest.rest.now = grind arith in
-    filled_more g.S.FileService.machine c.args.moment c.args.encoding c.args.words.now _ _ _ c.loop-rest.rest.now _ _ some
+    filled_more g.S.FileService.machine c.args.moment c.args.encoding c.args.words.now _ _ _ c.loop-rest.rest.now _ _
+    some
     (c.split_at.ensures.front ∙ take_part c.loop-rest.rest.now c.min.result c.min.ensures)
     (c.split_at.ensures.back ∙ drop_part c.loop-rest.rest.now c.min.result c.min.ensures)
     c.loop-rest.invariant c.in_ok-fill_part.ensures

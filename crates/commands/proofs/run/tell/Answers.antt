@@ -12,7 +12,8 @@ returns-in-Said-clause-told g c = told_said g.S.FileService.machine (λ bytes. b
     c.answer-text.ensures c.print.ensures
 
 pub returns-in-Ordered-clause-told : goal.returns-in-Ordered-clause-told
-returns-in-Ordered-clause-told g c = told_ordered g.S.FileService.machine (λ bytes. bytes.items) c.print-in-Ordered.result
+returns-in-Ordered-clause-told g c = told_ordered g.S.FileService.machine
+    (λ bytes. bytes.items) c.print-in-Ordered.result
     c.obey-text.result _ _ _ _ c.args.moment _ _ _ _ c.args.heard c.in-Ordered.order c.in-Ordered.is
     (c.obey-text.ensures c.args.moment c.args.talk.now.who) c.print-in-Ordered.ensures
 

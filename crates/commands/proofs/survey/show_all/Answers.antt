@@ -5,7 +5,8 @@ use Rattle.commands.proofs.survey.show_all.Goals as goal
 
 pub loop-owner-init : goal.loop-owner-init
 loop-owner-init g c =
-    subst (λ (l : List ℕ). Shows g.S.FileService.machine c.args.style c.args.owners.now c.args.tally.now c.args.service.now
+    subst (λ (l : List ℕ). Shows g.S.FileService.machine c.args.style c.args.owners.now c.args.tally.now
+    c.args.service.now
     c.args.service.now 0 l c.args.tally.now) (sym c.new-bytes.ensures.items)
     (shows_none g.S.FileService.machine c.args.style c.args.owners.now c.args.tally.now g.met.S.FileService.stands
     c.args.service.now)
@@ -14,12 +15,14 @@ pub loop-owner-preserved : goal.loop-owner-preserved
 loop-owner-preserved g c =
     shows_more g.S.FileService.machine c.args.style c.args.owners.now c.args.tally.now (λ bytes. bytes.items) _ _ _
     c.loop-owner.owner-index c.owner-item.result c.loop-owner.bytes.items c.loop-owner.tally _ c.loop-owner-test.true
-    c.owner-item.is c.loop-owner.invariant c.show.result c.show.ensures c.in_ok-list.list _ c.in_ok-list.was (search rules)
+    c.owner-item.is c.loop-owner.invariant c.show.result c.show.ensures c.in_ok-list.list _ c.in_ok-list.was
+    (search rules)
 
 pub returns-in_err-list-clause-err : goal.returns-in_err-list-clause-err
 returns-in_err-list-clause-err g c =
     let p = err_from_is_err_and c.from_residual.result c.from_residual.ensures.1 in
-    rw p.1 (shows_cut g.S.FileService.machine c.args.style c.args.owners.now c.args.tally.now (λ bytes. bytes.items) _ _ _
+    rw p.1 (shows_cut g.S.FileService.machine c.args.style c.args.owners.now c.args.tally.now
+    (λ bytes. bytes.items) _ _ _
     c.loop-owner.owner-index c.owner-item.result c.loop-owner.bytes.items c.loop-owner.tally _ c.loop-owner-test.true
     c.owner-item.is c.loop-owner.invariant c.show.result c.show.ensures)
 
@@ -27,7 +30,8 @@ pub returns-in_err-extend_from_slice-clause-err : goal.returns-in_err-extend_fro
 returns-in_err-extend_from_slice-clause-err g c =
     let p = err_from_is_err_and c.from_residual-in_err-extend_from_slice.result
     c.from_residual-in_err-extend_from_slice.ensures.1 in
-    rw p.1 (shows_cut g.S.FileService.machine c.args.style c.args.owners.now c.args.tally.now (λ bytes. bytes.items) _ _ _
+    rw p.1 (shows_cut g.S.FileService.machine c.args.style c.args.owners.now c.args.tally.now
+    (λ bytes. bytes.items) _ _ _
     c.loop-owner.owner-index c.owner-item.result c.loop-owner.bytes.items c.loop-owner.tally _ c.loop-owner-test.true
     c.owner-item.is c.loop-owner.invariant c.show.result c.show.ensures)
 

@@ -4,4 +4,5 @@ use Rattle.meaning.specs.Texts.{not_null}
 use Rattle.commands.proofs.typing.push_characters.Given as goal
 
 abbrev pub invariant-loop-character : goal.invariant-loop-character
-invariant-loop-character l = l.bytes.items ≡ l.fn.bytes.items ++ flat_map not_null (take l.character-index l.character-items)
+invariant-loop-character l = l.bytes.items ≡ l.fn.bytes.items ++ flat_map not_null
+    (take l.character-index l.character-items)

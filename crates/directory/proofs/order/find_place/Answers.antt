@@ -4,7 +4,8 @@ use Rattle.directory.proofs.order.find_place.Goals as goal
 
 pub returns-in-Ok-clause-found : goal.returns-in-Ok-clause-found
 returns-in-Ok-clause-found g c =
-    stands_found g.met.E.Entry.total g.met.E.Entry.exact (map g.E.Entry.view c.args.list.now) c.args.order.now c.requires
+    stands_found g.met.E.Entry.total g.met.E.Entry.exact (map g.E.Entry.view c.args.list.now) c.args.order.now
+    c.requires
     c.args.key.now c.in-Ok.at _ c.in-Ok.ensures.found
 
 pub returns-in-Err-clause-none : goal.returns-in-Err-clause-none

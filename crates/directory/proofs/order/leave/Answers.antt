@@ -29,7 +29,8 @@ unreachable-requires g c =
     gap_none g.met.E.Entry.total g.met.E.Entry.exact items c.key-key.result c.args.order.now.items c.in-Err.field-0
     (subst (λ ps. IsGap g.E.Entry.order items c.key-key.result ps c.in-Err.field-0) c.deref.ensures.value
     c.in-Err.ensures.gap) c.args.place c.requires.there
-    (key_at g.E.Entry.order g.E.Entry.view c.args.list.now c.args.place c.index-list-place.result c.key-key.result inside
+    (key_at g.E.Entry.order g.E.Entry.view c.args.list.now c.args.place c.index-list-place.result c.key-key.result
+    inside
     c.index-list-place.is c.key-key.ensures)
 
 pub returns-clause-left : goal.returns-clause-left
@@ -43,7 +44,8 @@ returns-clause-left g c =
     let here = found.2 in
     let own = key_at g.E.Entry.order g.E.Entry.view c.args.list.now c.args.place c.index-list-place.result
     c.key-key.result inside c.index-list-place.is c.key-key.ensures in
-    let same : found.0 ≡ c.args.place = same_place g.met.E.Entry.total items order c.requires.rising found.0 c.args.place
+    let same : found.0 ≡ c.args.place = same_place g.met.E.Entry.total items order c.requires.rising found.0
+    c.args.place
     (times_at order c.in-Ok.at found.0 was) c.requires.there (c.key-key.result, here.0) (c.key-key.result, own.0)
     here.1 own.1 refl in
     record {

@@ -3,7 +3,8 @@ use Rattle.filser.proofs.Matching.{no_date, no_minute}
 use Rattle.filser.proofs.reading.moment.Goals as goal
 
 pub returns-in_err-date : goal.returns-in_err-date
-returns-in_err-date c = rw c.from_residual.ensures (no_date (rows_of (found_of c.args.matches.now)) c.in_err-date.ensures)
+returns-in_err-date c = rw c.from_residual.ensures (no_date (rows_of (found_of c.args.matches.now))
+    c.in_err-date.ensures)
 
 pub returns-in_err-minute : goal.returns-in_err-minute
 returns-in_err-minute c =

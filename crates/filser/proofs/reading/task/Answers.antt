@@ -15,19 +15,23 @@ returns-in_err-moment-in-calls c =
 pub returns-in_err-named-in-put : goal.returns-in_err-named-in-put
 returns-in_err-named-in-put c =
     rw c.from_residual-in_err-named-in-put.ensures
-    (no_put c.args.name.now (rows_of (found_of c.args.matches.now)) c.in-put.is (λ f at named is. c.in_err-named-in-put.ensures f named))
+    (no_put c.args.name.now (rows_of (found_of c.args.matches.now)) c.in-put.is
+    (λ f at named is. c.in_err-named-in-put.ensures f named))
 
 pub returns-in_err-moment-in-put : goal.returns-in_err-moment-in-put
 returns-in_err-moment-in-put c =
     rw c.from_residual-in_err-moment-in-put.ensures
-    (no_put c.args.name.now (rows_of (found_of c.args.matches.now)) c.in-put.is (λ f at named is. c.in_err-moment-in-put.ensures at is))
+    (no_put c.args.name.now (rows_of (found_of c.args.matches.now)) c.in-put.is
+    (λ f at named is. c.in_err-moment-in-put.ensures at is))
 
 pub returns-in_err-named-in-get : goal.returns-in_err-named-in-get
 returns-in_err-named-in-get c =
     rw c.from_residual-in_err-named-in-get.ensures
-    (no_get c.args.name.now (rows_of (found_of c.args.matches.now)) c.in-get.is (λ f at named is. c.in_err-named-in-get.ensures f named))
+    (no_get c.args.name.now (rows_of (found_of c.args.matches.now)) c.in-get.is
+    (λ f at named is. c.in_err-named-in-get.ensures f named))
 
 pub returns-in_err-moment-in-get : goal.returns-in_err-moment-in-get
 returns-in_err-moment-in-get c =
     rw c.from_residual-in_err-moment-in-get.ensures
-    (no_get c.args.name.now (rows_of (found_of c.args.matches.now)) c.in-get.is (λ f at named is. c.in_err-moment-in-get.ensures at is))
+    (no_get c.args.name.now (rows_of (found_of c.args.matches.now)) c.in-get.is
+    (λ f at named is. c.in_err-moment-in-get.ensures at is))

@@ -4,7 +4,8 @@ use Rattle.monitor.proofs.RingsMade.{inbuf_none, inbuf_row}
 use Rattle.monitor.proofs.inbuf.inbuf.Goals as goal
 
 pub returns-in_default-clause-row : goal.returns-in_default-clause-row
-returns-in_default-clause-row c = inbuf_none c.args.job.now c.args.number c.args.count (sym c.channel.ensures ∙ c.in_default.is)
+returns-in_default-clause-row c = inbuf_none c.args.job.now c.args.number c.args.count
+    (sym c.channel.ensures ∙ c.in_default.is)
 
 pub returns-in_default-clause-keeps : goal.returns-in_default-clause-keeps
 returns-in_default-clause-keeps c pending = keeps_same pending c.args.job.now

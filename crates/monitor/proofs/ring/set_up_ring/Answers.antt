@@ -32,7 +32,8 @@ pub returns-clause-keeps : goal.returns-clause-keeps
 returns-clause-keeps c pending =
     subst (Keeps pending pending c.args.job.now) (sym c.set_channel.ensures)
     (keeps_core pending pending c.args.job.now _ c.ring_setup.new.self
-    (keeps_status c.args.job.now c.args.number 0 c.args.channel c.requires.there pending _ c.cleared-status.result refl))
+    (keeps_status c.args.job.now c.args.number 0 c.args.channel c.requires.there pending _ c.cleared-status.result
+    refl))
 
 pub returns-clause-reads : goal.returns-clause-reads
 returns-clause-reads c live =

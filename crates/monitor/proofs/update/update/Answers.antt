@@ -136,7 +136,8 @@ returns-in-Ok-clause-reads g c =
     subst (λ live. KeepsReading live new.live c.args.job.now c.set_channel.new.self) begins.4.live
     (subst (KeepsReading between.live new.live c.args.job.now) (sym c.set_channel.ensures)
     (renewed_reading between new c.args.input c.renew-renewed.result c.args.input.ppn c.args.input.file
-    c.prime_of-prime.result.protection c.renew-renewed.ensures.renews.0 c.args.job.now c.args.number _ c.args.channel _ c.requires.there
+    c.prime_of-prime.result.protection c.renew-renewed.ensures.renews.0 c.args.job.now c.args.number _ c.args.channel _
+    c.requires.there
     c.requires.side refl))
 
 pub returns-then-is_some-clause-row : goal.returns-then-is_some-clause-row

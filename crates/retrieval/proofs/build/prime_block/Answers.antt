@@ -1,4 +1,5 @@
-use Rattle.std.proofs.Common.{◌-◌, ◌<◌, ◌≤◌, ◌^◌, ℕ, List, ◌++◌, map, length, take, drop, replicate, min, sym, subst, ap, ◌∙◌}
+use Rattle.std.proofs.Common.{◌-◌, ◌<◌, ◌≤◌, ◌^◌, ℕ, List, ◌++◌, map, length, take, drop, replicate, min, sym, subst}
+use Rattle.std.proofs.Common.{ap, ◌∙◌}
 use Rattle.std.specs.List.{AllByRecursion}
 use Rattle.std.proofs.lemmas.List.{length-map, take-map}
 use Rattle.meaning.specs.Blocks.{head_or_zero}

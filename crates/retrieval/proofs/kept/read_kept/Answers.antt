@@ -18,13 +18,16 @@ returns-in_err-block-clause-damaged g c h k is =
     (passed_on c.from_residual.result c.read_data.result p.0 c.in_err-block.field-0.0
     (BadData k) is p.1 p.2 c.in_err-block.was) in
     damaged_at s.contents s.contents c.args.blocks.now.blocks c.args.blocks.now.blocks k c.in-Some.place refl
-    (edge_below c.args.total c.args.at c.args.count c.in-Some.place (length c.args.blocks.now.blocks) c.in-Some.ensures.some
+    (edge_below c.args.total c.args.at c.args.count c.in-Some.place
+    (length c.args.blocks.now.blocks) c.in-Some.ensures.some
     c.requires.counted) (e.0 ∙ c.at.ensures) (ap s.contents (sym c.at.ensures) ∙ e.1) (λ n. refl)
 
 pub returns-clause-kept : goal.returns-clause-kept
 returns-clause-kept g c h body is whole has =
     stays_some (g.D.Disk.state c.args.disk.now).contents c.args.blocks.now.blocks body whole has c.args.total
     c.args.at c.args.count c.in-Some.place c.in_ok-block.block c.front_of-words.result is
-    (edge_below c.args.total c.args.at c.args.count c.in-Some.place (length c.args.blocks.now.blocks) c.in-Some.ensures.some
+    (edge_below c.args.total c.args.at c.args.count c.in-Some.place
+    (length c.args.blocks.now.blocks) c.in-Some.ensures.some
     c.requires.counted)
-    (ap (g.D.Disk.state c.args.disk.now).contents (sym c.at.ensures) ∙ c.in_ok-block.ensures.words h) c.in-Some.ensures.some c.front_of-words.ensures.front c.front_of-words.ensures.zeros
+    (ap (g.D.Disk.state c.args.disk.now).contents (sym c.at.ensures) ∙ c.in_ok-block.ensures.words h)
+    c.in-Some.ensures.some c.front_of-words.ensures.front c.front_of-words.ensures.zeros

@@ -96,8 +96,10 @@ write_places-requires-clause-used g c =
     let ends = c.div_ceil.ensures in
     let more = c.saturating_sub-more.ensures in
     let had = c.len.ensures in
-    let longer = grown_length c.args.table.now c.take_more.new.table c.args.blocks.now.blocks c.prepare.new.blocks.blocks
-    c.take_more.new.blocks.blocks c.saturating_sub-more.result c.prepare.ensures.same_blocks c.take_more.ensures.grown in
+    let longer = grown_length c.args.table.now c.take_more.new.table c.args.blocks.now.blocks
+    c.prepare.new.blocks.blocks
+    c.take_more.new.blocks.blocks c.saturating_sub-more.result c.prepare.ensures.same_blocks c.take_more.ensures.grown
+    in
     let counted = c.requires.counted in
     let booked = c.requires.booked in
     let same = booked_same t t1 grown'.table in
@@ -133,8 +135,10 @@ returns-in-Ok-clause-body g c h body is has =
     let ends = c.div_ceil.ensures in
     let more = c.saturating_sub-more.ensures in
     let had = c.len.ensures in
-    let longer = grown_length c.args.table.now c.take_more.new.table c.args.blocks.now.blocks c.prepare.new.blocks.blocks
-    c.take_more.new.blocks.blocks c.saturating_sub-more.result c.prepare.ensures.same_blocks c.take_more.ensures.grown in
+    let longer = grown_length c.args.table.now c.take_more.new.table c.args.blocks.now.blocks
+    c.prepare.new.blocks.blocks
+    c.take_more.new.blocks.blocks c.saturating_sub-more.result c.prepare.ensures.same_blocks c.take_more.ensures.grown
+    in
     let counted = c.requires.counted in
     let is_first : c.min-first.result ≡ min (c.args.block - 1) (c.args.old / 128) = c.min-first.ensures in
     let placed = subst (λ (f : ℕ). IsPlaced (g.D.Disk.state c.prepare.new.disk).contents
@@ -187,8 +191,10 @@ returns-in-Ok-clause-used g c =
     let used = grown'.used in
     let same = c.write_places.ensures.used in
     let long = c.write_places.ensures.long in
-    let longer = grown_length c.args.table.now c.take_more.new.table c.args.blocks.now.blocks c.prepare.new.blocks.blocks
-    c.take_more.new.blocks.blocks c.saturating_sub-more.result c.prepare.ensures.same_blocks c.take_more.ensures.grown in
+    let longer = grown_length c.args.table.now c.take_more.new.table c.args.blocks.now.blocks
+    c.prepare.new.blocks.blocks
+    c.take_more.new.blocks.blocks c.saturating_sub-more.result c.prepare.ensures.same_blocks c.take_more.ensures.grown
+    in
     omega arith
 
 pub returns-in-Ok-clause-stays : goal.returns-in-Ok-clause-stays
@@ -258,8 +264,10 @@ returns-in-Err-clause-used g c =
     let used = grown'.used in
     let same = c.write_places.ensures.used in
     let long = c.write_places.ensures.long in
-    let longer = grown_length c.args.table.now c.take_more.new.table c.args.blocks.now.blocks c.prepare.new.blocks.blocks
-    c.take_more.new.blocks.blocks c.saturating_sub-more.result c.prepare.ensures.same_blocks c.take_more.ensures.grown in
+    let longer = grown_length c.args.table.now c.take_more.new.table c.args.blocks.now.blocks
+    c.prepare.new.blocks.blocks
+    c.take_more.new.blocks.blocks c.saturating_sub-more.result c.prepare.ensures.same_blocks c.take_more.ensures.grown
+    in
     omega arith
 
 pub returns-in-Err-clause-stays : goal.returns-in-Err-clause-stays
@@ -312,8 +320,10 @@ returns-in-Ok-clause-few g c =
     let ends = c.div_ceil.ensures in
     let more = c.saturating_sub-more.ensures in
     let had = c.len.ensures in
-    let longer = grown_length c.args.table.now c.take_more.new.table c.args.blocks.now.blocks c.prepare.new.blocks.blocks
-    c.take_more.new.blocks.blocks c.saturating_sub-more.result c.prepare.ensures.same_blocks c.take_more.ensures.grown in
+    let longer = grown_length c.args.table.now c.take_more.new.table c.args.blocks.now.blocks
+    c.prepare.new.blocks.blocks
+    c.take_more.new.blocks.blocks c.saturating_sub-more.result c.prepare.ensures.same_blocks c.take_more.ensures.grown
+    in
     let counted = c.requires.counted in
     let long = c.write_places.ensures.long in
     omega arith
@@ -339,8 +349,10 @@ returns-in-Err-clause-few g c =
     let ends = c.div_ceil.ensures in
     let more = c.saturating_sub-more.ensures in
     let had = c.len.ensures in
-    let longer = grown_length c.args.table.now c.take_more.new.table c.args.blocks.now.blocks c.prepare.new.blocks.blocks
-    c.take_more.new.blocks.blocks c.saturating_sub-more.result c.prepare.ensures.same_blocks c.take_more.ensures.grown in
+    let longer = grown_length c.args.table.now c.take_more.new.table c.args.blocks.now.blocks
+    c.prepare.new.blocks.blocks
+    c.take_more.new.blocks.blocks c.saturating_sub-more.result c.prepare.ensures.same_blocks c.take_more.ensures.grown
+    in
     let counted = c.requires.counted in
     let long = c.write_places.ensures.long in
     omega arith

@@ -12,28 +12,33 @@ use Rattle.volume.proofs.delete_dir.remove_directory.Goals as goal
 pub clear_left-requires-clause-set : goal.clear_left-requires-clause-set
 clear_left-requires-clause-set c =
     left_set c.args.core.now c.requires.whole c.args.ppn c.args.place c.requires.there c.remove-left.new.self
-    c.remove-left.result c.remove-left.ensures.blocks c.swap_remove-directory.result c.swap_remove-directory.ensures.value
+    c.remove-left.result c.remove-left.ensures.blocks c.swap_remove-directory.result
+    c.swap_remove-directory.ensures.value
 
 pub clear_all-requires-clause-inside : goal.clear_all-requires-clause-inside
 clear_all-requires-clause-inside c =
     own_inside c.args.core.now c.requires.whole c.args.ppn c.args.place c.requires.there c.remove-left.new.self
-    c.remove-left.result c.remove-left.ensures.blocks c.swap_remove-directory.result c.swap_remove-directory.ensures.value
+    c.remove-left.result c.remove-left.ensures.blocks c.swap_remove-directory.result
+    c.swap_remove-directory.ensures.value
     c.blocks-2.result.now c.blocks-2.ensures.value c.clear_left.new.table c.clear_left.ensures
     c.booked-booked.ensures.sound
 
 pub clear_all-requires-clause-set : goal.clear_all-requires-clause-set
 clear_all-requires-clause-set c =
     own_set c.args.core.now c.requires.whole c.args.ppn c.args.place c.requires.there c.remove-left.new.self
-    c.remove-left.result c.remove-left.ensures.blocks c.swap_remove-directory.result c.swap_remove-directory.ensures.value
+    c.remove-left.result c.remove-left.ensures.blocks c.swap_remove-directory.result
+    c.swap_remove-directory.ensures.value
     c.blocks-2.result.now c.blocks-2.ensures.value c.clear_left.new.table c.clear_left.ensures
 
 pub changes-requires : goal.changes-requires
 changes-requires c =
     changes_many c.args.core.now c.requires.whole c.args.ppn c.args.place c.requires.there c.remove-left.new.self
-    c.remove-left.result c.remove-left.ensures.blocks c.swap_remove-directory.result c.swap_remove-directory.ensures.value
+    c.remove-left.result c.remove-left.ensures.blocks c.swap_remove-directory.result
+    c.swap_remove-directory.ensures.value
     c.blocks-2.result.now c.blocks-2.ensures.value c.clear_left.new.table c.clear_left.ensures
     c.clear_all.new.table c.unbook.new.self c.clear_all.ensures c.from.result
-    (count_left c.remove-left.result c.from.result (c.from.ensures ∙ ap bool_byte c.is_some.ensures)) c.unbook.ensures c.remove-left.new.set
+    (count_left c.remove-left.result c.from.result (c.from.ensures ∙ ap bool_byte c.is_some.ensures)) c.unbook.ensures
+    c.remove-left.new.set
     (let few = c.remove-left.ensures.few in let none = ap (λ (l : List Put). length l) c.requires.empty in omega arith)
 
 pub returns : goal.returns
@@ -47,10 +52,12 @@ returns c =
       table = c.changes.new.self;
     } in
     removes_directory m c.requires.whole c.args.ppn c.args.place c.requires.there c.remove-left.new.self
-    c.remove-left.result c.remove-left.ensures.blocks c.swap_remove-directory.result c.swap_remove-directory.ensures.value
+    c.remove-left.result c.remove-left.ensures.blocks c.swap_remove-directory.result
+    c.swap_remove-directory.ensures.value
     c.blocks-2.result.now c.blocks-2.ensures.value c.clear_left.new.table c.clear_left.ensures
     c.clear_all.new.table c.unbook.new.self c.clear_all.ensures c.from.result
-    (count_left c.remove-left.result c.from.result (c.from.ensures ∙ ap bool_byte c.is_some.ensures)) c.unbook.ensures c.remove-left.new.set
+    (count_left c.remove-left.result c.from.result (c.from.ensures ∙ ap bool_byte c.is_some.ensures)) c.unbook.ensures
+    c.remove-left.new.set
     (let few = c.remove-left.ensures.few in let none = ap (λ (l : List Put). length l) c.requires.empty in omega arith)
     c.blocks-blocks.ensures.sound c.remove-left.ensures.items c.remove-left.ensures.map
     (subst (λ (l : List Put). PutsChain master_words (viewed master_view m.master)

@@ -28,7 +28,8 @@ loop-i-preserved c =
           block below c.block_at-block.ensures c.loop-i.invariant.marked
           (subst (λ (n : ℕ). block < n) (sym c.loop-i.invariant.long)
           (subst (λ (n : ℕ). n < length c.args.reached.now) (sym c.block_at-block.ensures)
-          (all_at (λ n. n < length c.args.reached.now) c.args.version.now.blocks c.loop-i.i c.requires below))) (c.if-not-mark.ensures.first.0 refl) n;
+          (all_at (λ n. n < length c.args.reached.now) c.args.version.now.blocks c.loop-i.i c.requires below)))
+          (c.if-not-mark.ensures.first.0 refl) n;
     }
 
 pub returns-then-not-mark-clause-among : goal.returns-then-not-mark-clause-among

@@ -18,7 +18,8 @@ returns-clause-bits c = with_bit_is _ _ _ _ _ _ c.self.invariant c.self.inside.b
 
 pub returns-clause-freed : goal.returns-clause-freed
 returns-clause-freed c used m =
-    ap (λ (t : TableState). bit t m + times m (c.args.n ∷ [])) (with_bit_is _ _ _ _ _ _ c.self.invariant c.self.inside.booked c.args.n false
+    ap (λ (t : TableState). bit t m + times m (c.args.n ∷ []))
+    (with_bit_is _ _ _ _ _ _ c.self.invariant c.self.inside.booked c.args.n false
     c.put_bit.new.words.items c.args.self.now (search rules) c.put_bit.ensures c.self.view_is)
     ∙ bit-freed c.args.self.now c.args.n
     (subst IsTable c.self.view_is (sound _ _ _ _ _ _ c.self.invariant c.self.inside.booked)) c.requires used m

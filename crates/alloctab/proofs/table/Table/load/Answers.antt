@@ -19,7 +19,8 @@ invariant_of-result g c =
     subst (λ (l : List ℕ). IsKept c.blocks-size.result l c.in_ok-held.held.items c.in_ok-counts.counts.items
     c.in_ok-changed.changed.items 0) (sym (with_items_is c.in_ok-set.set words whole))
     (kept_loaded c.blocks-size.result words c.in_ok-held.held.items c.in_ok-counts.counts.items
-    c.in_ok-changed.changed.items long (search rules) (search rules) (search rules) clear (search rules) (search rules) (search rules))
+    c.in_ok-changed.changed.items long (search rules) (search rules) (search rules) clear (search rules) (search rules)
+    (search rules))
 
 pub returns-clause-sound : goal.returns-clause-sound
 returns-clause-sound g c = sound _ _ _ _ _ _ (invariant_of-result g c) 0

@@ -21,7 +21,8 @@ overflow_add-n c =
     let set_is = rest_is c.deref.result.now c.self.inside.set.items first c.deref.ensures.value in
     let held_is = rest_is c.deref-2.result.now c.self.inside.held.items first c.deref-2.ensures.value in
     let found = lowest_of _ _ (Some c.in_ok-n.field-0) (sym c.in_ok-n.was ∙ c.first_clear.ensures) in
-    let inside = found_inside _ _ _ _ _ _ c.self.invariant c.self.inside.booked first _ _ refl set_is held_is c.in_ok-n.field-0 found in
+    let inside = found_inside _ _ _ _ _ _ c.self.invariant c.self.inside.booked first _ _ refl set_is held_is
+    c.in_ok-n.field-0 found in
     let long = c.self.invariant.set_long in
     let large = c.self.invariant.volume.large in
     omega arith

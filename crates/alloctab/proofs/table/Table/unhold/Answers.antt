@@ -11,4 +11,5 @@ invariant_of-self c =
     c.lowered-self-inside.result (search rules) c.put_bit.ensures (ltb-true 0 left)
     (λ is. let none = ltb-false 0 left is in omega arith) c.lowered-self-inside.ensures.lower
     (λ is clear. c.lowered-self-inside.ensures.free (let none = ltb-false 0 left is in omega arith)
-    (no_digit c.has_bit-is_set.result (c.has_bit-is_set.ensures ∙ ap (λ (l : List ℕ). word_bit l c.args.n) c.deref.ensures.value ∙ clear)))
+    (no_digit c.has_bit-is_set.result (c.has_bit-is_set.ensures
+    ∙ ap (λ (l : List ℕ). word_bit l c.args.n) c.deref.ensures.value ∙ clear)))

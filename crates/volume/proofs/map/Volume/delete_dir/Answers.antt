@@ -31,7 +31,8 @@ invariant_of-self g c =
     let removes : RemovesDirectory s.size core core' c.args.ppn puts =
     subst (λ (b : ℕ). RemovesDirectory b core core' c.args.ppn puts) c.self.invariant.whole.map.size_is
     c.remove_directory.ensures in
-    volume_sound s s' core core' c.self.inside.failed c.args.ppn puts c.self.invariant removes c.commit_puts.ensures.same.size
+    volume_sound s s' core core' c.self.inside.failed c.args.ppn puts c.self.invariant removes
+    c.commit_puts.ensures.same.size
     c.commit_puts.ensures.same.was_honest c.in-Ok-commit_puts.ensures.modified c.in-Ok-commit_puts.ensures.all
     c.in-Ok-commit_puts.ensures.settled c.in-Ok-commit_puts.ensures.shut
 
@@ -45,7 +46,8 @@ invariant_of-self-in-Err-commit_puts g c =
     let removes : RemovesDirectory s.size core core' c.args.ppn puts =
     subst (λ (b : ℕ). RemovesDirectory b core core' c.args.ppn puts) c.self.invariant.whole.map.size_is
     c.remove_directory.ensures in
-    volume_failed s s' core core' c.self.inside.failed c.args.ppn puts c.self.invariant removes c.commit_puts.ensures.same.size
+    volume_failed s s' core core' c.self.inside.failed c.args.ppn puts c.self.invariant removes
+    c.commit_puts.ensures.same.size
 
 pub returns-in-Ok-commit_puts-clause-crash : goal.returns-in-Ok-commit_puts-clause-crash
 returns-in-Ok-commit_puts-clause-crash g c = rw (← c.self.view_is) (λ h f rests.
