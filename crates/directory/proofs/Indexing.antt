@@ -5,14 +5,14 @@ use Rattle.std.proofs.Common.{drop, map, get_or, slice_set, slice_get, swap_remo
 use Rattle.std.proofs.Common.{subst}
 use Rattle.std.proofs.Common.{◌∙◌, Bool, true, false, cond, Ordering, Less, Equal, Greater, arith, length-append}
 use Rattle.std.proofs.lemmas.List.{length-map, map_push, get_or-map, take-map, map-set, length-set, length-take-le}
-use Rattle.std.proofs.lemmas.List.{get_or-take, get_or-drop, length-take, length-drop}
-use Rattle.std.proofs.lemmas.List.Elements.{All-from_recursion, recursion_from_All}
+use Rattle.std.proofs.lemmas.List.{get_or-take, get_or-drop, length-drop}
+use Rattle.std.proofs.lemmas.List.Elements.{recursion_from_All}
 use Rattle.std.proofs.lemmas.Option.{slice_get_within, slice_get-get_or, get_or_from_slice_get}
 use Rattle.std.specs.List.{AllByRecursion, HoldsAt}
 use Rattle.std.specs.List.Sorted.{IsNonDecreasingBy, IsPartitionPoint, IsSearchInRange, IsBinarySearchResult}
 use Rattle.std.proofs.Common.{Result, Ok, Err, IfOk, IfErr}
 use Rattle.std.specs.Ordering.{eq_by_cmp, is_eq, ordering_index, ordering_reverse}
-use Rattle.std.specs.Cmp.{IsTotalOrder, Equal-is, tied_back, tied_itself}
+use Rattle.std.specs.Cmp.{IsTotalOrder, Equal-is, tied_itself}
 use Rattle.std.specs.FinMap.{IsAntisymmetric}
 use Rattle.std.specs.FinMap.Entries.{find}
 use Rattle.meaning.specs.Maps.{times}

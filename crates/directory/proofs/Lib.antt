@@ -1,6 +1,7 @@
 mod Growing
 mod Orders
 mod Indexing
+mod Merging
 mod Parsing
 mod Images
 mod BlockReading

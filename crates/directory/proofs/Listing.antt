@@ -4,9 +4,9 @@ use Rattle.std.proofs.Common.{◌≡◌, ◌⊎◌, inl, inr, ℕ, zero, suc, �
 use Rattle.std.proofs.Common.{◌∷◌, map}
 use Rattle.std.proofs.Common.{◌++◌, length, take, get_or, slice_get, Option, Some, None, option_map, refl, sym, ap}
 use Rattle.std.proofs.Common.{subst}
-use Rattle.std.proofs.Common.{◌∙◌, Ordering, Less, arith}
+use Rattle.std.proofs.Common.{◌∙◌, Ordering, arith}
 use Rattle.std.proofs.lemmas.List.{take_all, take_more}
-use Rattle.std.proofs.lemmas.Option.{slice_get-map, slice_get-get_or, slice_get_within}
+use Rattle.std.proofs.lemmas.Option.{slice_get-map, slice_get-get_or}
 use Rattle.std.specs.List.{AllByRecursion, AllZip, Contains}
 use Rattle.std.specs.Ordering.{is_lt}
 use Rattle.std.specs.Cmp.{IsTotalOrder}
@@ -14,10 +14,10 @@ use Rattle.std.specs.FinMap.{IsAntisymmetric}
 use Rattle.std.specs.FinMap.Entries.{find, is_sorted, below_all}
 use Rattle.meaning.specs.Maps.{times, entries, from_entries}
 use Rattle.meaning.proofs.MapEdits.{from_entries_alike}
-use Rattle.meaning.proofs.MapLaws.{some_none, some_same}
+use Rattle.meaning.proofs.MapLaws.{some_same}
 use Rattle.meaning.proofs.MapLists.{EachOnce-sorted, entries-from_sorted, find-contains, contains-found}
-use Rattle.directory.specs.Indexes.{HasKeyAt, Precedes, AreRising, IsIndex}
-use Rattle.directory.proofs.Orders.{same_or_not, one, one_other, times_at}
+use Rattle.directory.specs.Indexes.{Precedes, AreRising, IsIndex}
+use Rattle.directory.proofs.Orders.{same_or_not, one_other, times_at}
 use Rattle.directory.proofs.Indexing.{nowhere_found, rising_inside, inside_seen}
 
 both_hold : (a b : Bool) → T a → T b → T (a && b)

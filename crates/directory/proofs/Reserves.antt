@@ -1,5 +1,5 @@
 -- Memory found before, for an entry more and the block that it takes.
-use Rattle.std.proofs.Common.{◌≡◌, ℕ, ◌*◌, List, map, length, Option, Some, None, IfSome, MatchOption, sym, subst, ◌∙◌}
+use Rattle.std.proofs.Common.{◌≡◌, ℕ, ◌*◌, map, length, Option, Some, None, IfSome, MatchOption, sym, subst, ◌∙◌}
 use Rattle.std.proofs.Common.{Ordering}
 use Rattle.std.proofs.lemmas.List.{length-map}
 use Rattle.std.specs.FinMap.Entries.{find}

@@ -1,6 +1,6 @@
 -- The steps of the code: chains as they are seen, and the puts of their blocks.
 -- `inside` is a chain as it is kept, and `old` the same one as clauses see it.
-use Rattle.std.proofs.Common.{◌≡◌, ◌⊎◌, inl, inr, ℕ, zero, suc, ◌-◌, ◌*◌, ◌/◌, ◌<◌, ◌≤◌, Bool, List, [], ◌∷◌, ◌++◌, map}
+use Rattle.std.proofs.Common.{◌≡◌, ◌⊎◌, inl, inr, ℕ, suc, ◌-◌, ◌*◌, ◌/◌, ◌<◌, ◌≤◌, Bool, List, [], ◌∷◌, ◌++◌, map}
 use Rattle.std.proofs.Common.{length, take, drop, get_or, swap_remove, slice_set, Option, Some, None, is_some}
 use Rattle.std.proofs.Common.{MatchOption, option_to_list, IsTrue, IsFalse, Result, Ok, Err, OnOk, append-nil, refl}
 use Rattle.std.proofs.Common.{sym, ap, subst, ◌∙◌, Ordering, arith, length-append}

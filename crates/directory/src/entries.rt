@@ -1,16 +1,20 @@
-ghost use Rattle.std.specs.Prelude.{◌≡◌, ◌<◌, ◌++◌, ◌∷◌, [], IfOk, OnOk, OnErr, IfSome, IfNone, None, Some, suc};
+ghost use Rattle.std.specs.Prelude.{◌≡◌, ◌<◌, ◌++◌, ◌∷◌, [], IfOk, OnOk, OnErr, IsErrOf, IfSome, IfNone, None, Some, suc};
 ghost use Rattle.std.specs.Prelude.{length, map, swap_remove, slice_get, slice_set, take, drop};
 ghost use Rattle.std.specs.FinMap.Entries.{find};
+ghost use Rattle.meaning.specs.Maps.{EachOnce};
 ghost use Rattle.directory.specs.Edits.{StandsAt};
 ghost use Rattle.directory.specs.Indexes.{IsIndex};
 ghost use Rattle.directory.specs.Spares.{IsSpareFor};
+ghost use Rattle.directory.specs.declared.merge.MergeError.TheVariants.{Again};
 
 use crate::Entry;
+use crate::merge::{MergeError, merge};
 use crate::order::{enter, find_place, rename_place, take_place};
-use crate::spare::{Spare, find_spare, make_place, push_into};
+use crate::spare::{Spare, find_spare, make_place, make_places, push_into};
 use blockdisk::NoMemory;
 use std::alloc::Global;
 use std::marker::Model;
+use std::mem;
 
 /// The entries of a directory in core, in the order of the disk, and beside them their places by rising keys, so that
 /// no search goes through the list. No key comes twice.
@@ -125,6 +129,33 @@ impl<E: Entry> Entries<E> {
         let spare = self.find_spare(alloc)?;
         let places = self.find_place_spare(alloc)?;
         self.push_into(spare, places, entry);
+        Ok(())
+    }
+
+    /// Adds other entries behind these. The list of places is of use to the next call; what it has is forgotten.
+    ///
+    /// # Errors
+    ///
+    /// `Again` where one of their keys is there already, `NoMemory` where there is none; nothing changes then.
+    pub fn append(&mut self, others: &Entries<E>, places: &mut Vec<usize>) -> Result<(), MergeError>
+        ensures more { OnOk result (self.new ≡ self.old ++ others.now) }
+        ensures same { OnErr result (self.new ≡ self.old) }
+        ensures again { IsErrOf result Again → EachOnce E.order (map E.view self.old ++ map E.view others.now) → ⊥ }
+        ensures once { OnOk result (EachOnce E.order (map E.view self.old ++ map E.view others.now)) }
+    {
+        let count = others.list.len();
+        places.clear();
+        if make_places(&mut self.list, count).is_err() {
+            return Err(MergeError::NoMemory);
+        }
+        if make_places(places, self.list.len() + count).is_err() {
+            return Err(MergeError::NoMemory);
+        }
+        merge(&self.order, &self.list, &others.order, &others.list, places)?;
+        if self.list.extend_from_slice(&others.list).is_err() {
+            return Err(MergeError::NoMemory);
+        }
+        mem::swap(&mut self.order, places);
         Ok(())
     }
 

@@ -41,6 +41,7 @@ mod laws;
 mod list;
 mod load;
 mod master;
+mod merge;
 mod order;
 mod parse;
 mod reserve;

@@ -12,7 +12,7 @@ use crate::Entry;
 use std::cmp::Ordering;
 
 /// Where the place of the entry with this key stands in an order of places by rising keys, or where it would.
-fn search<E: Entry>(order: &[usize], list: &[E], key: &E::Key) -> Result<usize, usize>
+pub(crate) fn search<E: Entry>(order: &[usize], list: &[E], key: &E::Key) -> Result<usize, usize>
     requires { AreRising E.order (map E.view list.now) order.now }
     ensures found { IfOk result (λ at. (p : ℕ) × (slice_get order.now at ≡ Some p)
         × HasKeyAt E.order (map E.view list.now) key.now p) }

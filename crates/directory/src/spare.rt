@@ -1,4 +1,4 @@
-ghost use Rattle.std.specs.Prelude.{◌≡◌, ◌+◌, ◌*◌, ◌<◌, ◌^◌, ◌++◌, ◌∷◌, [], ℕ, suc, IsTrue, IsFalse, IfOk, OnOk, OnErr};
+ghost use Rattle.std.specs.Prelude.{◌≡◌, ◌+◌, ◌*◌, ◌<◌, ◌≤◌, ◌^◌, ◌++◌, ◌∷◌, [], ℕ, suc, IsTrue, IsFalse, IfOk, OnOk, OnErr};
 ghost use Rattle.std.specs.Vec.{vec_len, vec_capacity};
 ghost use Rattle.directory.specs.Spares.{IsFull, HasPlaces, IsSpareFor};
 
@@ -75,6 +75,25 @@ pub(crate) fn make_place<T: Copy>(list: &mut Vec<T>, spare: Spare<T>)
         Err(_) => unreachable!(), // it has twice the places
     }
     *list = places;
+}
+
+/// Sees to it that a list has places for so many elements more.
+///
+/// # Errors
+///
+/// `NoMemory` where there are none.
+pub(crate) fn make_places<T: Copy>(list: &mut Vec<T>, more: usize) -> Result<(), NoMemory>
+    requires { vec_len list.old + more < 2 ^ 64 }
+    ensures items { list.new.items ≡ list.old.items }
+    ensures len { vec_len list.new ≡ vec_len list.old }
+    ensures capacity { vec_capacity list.old ≤ vec_capacity list.new }
+    ensures places { OnOk result (HasPlaces (vec_len list.old + more) (vec_capacity list.new)) }
+{
+    let Some(wanted) = (list.len() + more).checked_next_power_of_two() else {
+        return Err(NoMemory);
+    };
+    list.reserve(wanted - list.len())?;
+    Ok(())
 }
 
 /// Adds an element in memory found before.

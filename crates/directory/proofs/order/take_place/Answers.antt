@@ -1,4 +1,4 @@
-use Rattle.std.proofs.Common.{map, length, get_or, sym, subst, ap, ◌-◌, ◌<◌, ◌≡◌, ◌∙◌, arith}
+use Rattle.std.proofs.Common.{map, length, get_or, sym, subst, ap, ◌-◌, ◌≡◌, ◌∙◌, arith}
 use Rattle.std.proofs.lemmas.List.{length-map, get_or_default}
 use Rattle.directory.specs.Indexes.{IsIndex, IsLeft, IsEntered}
 use Rattle.directory.proofs.Indexing.{left_rising, left_others, left_twice, left_both, index_shorter, index_moved}
