@@ -18,15 +18,7 @@ help:
 # processors; left to itself it waits for more memory than proofs take (docs/PROVING.md).
 test:
 	RT_JOBS=$${RT_JOBS:-$$(nproc)} tools/timed rt ci
-	sh examples/run crates/filser/out/filser
-	sh examples/starts crates/filser/out/filser
-	sh examples/emulate crates/filser/out/filser
-	python3 examples/files crates/filser/out/filser
-	python3 examples/hostile crates/filser/out/filser 2000
-	python3 examples/jobs crates/filser/out/filser
-	python3 examples/forms crates/filser/out/filser
-	python3 examples/program crates/filser/out/filser
-	tools/check-docs crates/filser/out/filser
+	$(MAKE) examples
 	tools/test-wrong-bodies
 
 # Many by one check, over what earlier checks kept: the first time every crate is proved too.

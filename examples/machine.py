@@ -511,23 +511,23 @@ class Machine:
             self.put(channel, [job.core[address] for address in self.command_list(job, a)])
         channel.status &= ~ERRORS
 
-    def useti(self, job, number, block):
-        channel = self.channel(job, number)
-        if not channel.input:
+    def may_go_to(self, channel, side, block):
+        """What USETI and USETO ask of a side and of the number of its next block."""
+        if not side:
             refused(5)
         if block == 0:
             self.stop(channel, FULL)
-        channel.input = (*channel.input[:2], block)
         channel.status &= ~ERRORS
+
+    def useti(self, job, number, block):
+        channel = self.channel(job, number)
+        self.may_go_to(channel, channel.input, block)
+        channel.input = (*channel.input[:2], block)
 
     def useto(self, job, number, block):
         channel = self.channel(job, number)
-        if not channel.output:
-            refused(5)
-        if block == 0:
-            self.stop(channel, FULL)
+        self.may_go_to(channel, channel.output, block)
         channel.output.next = block
-        channel.status &= ~ERRORS
 
     def getsts(self, job, number):
         return f"VALUE {self.channel(job, number).status:012o}"

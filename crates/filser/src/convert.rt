@@ -1,9 +1,8 @@
-ghost use Rattle.std.specs.Prelude.{◌≡◌, ◌≢◌, ◌⊎◌, ℕ, OnOk, IfErr};
+ghost use Rattle.std.specs.Prelude.{◌≡◌, ◌≢◌, ◌⊎◌, ℕ, OnOk};
 ghost use Rattle.blockdisk.specs.Disk.{NoneOpen};
 ghost use Rattle.meaning.specs.Files.{File as StoredFile, Files};
 ghost use Rattle.meaning.specs.Stands.{Stands};
 ghost use Rattle.volume.specs.Rest.{RestsAt};
-ghost use Rattle.filser.specs.Refusals.{IsFileRefusal};
 ghost use Rattle.filser.specs.Runs.{IsExcused, IsTold};
 ghost use Rattle.filser.specs.declared.refusal.Refusal.TheVariants.{Exists};
 ghost use Rattle.filser.specs.declared.status.Status.TheVariants.{BadArguments};
@@ -46,7 +45,7 @@ pub(crate) fn convert_image<F: Files<File = File>, W: Write, E: Write>(
         };
         return refuse_image(fault, new, writer, errors);
     }
-    match source_of(files, path, form, errors) {
+    match source_of(files, alloc, path, form, errors) {
         Ok(source) => write_new(
             files,
             alloc,
@@ -62,21 +61,28 @@ pub(crate) fn convert_image<F: Files<File = File>, W: Write, E: Write>(
     }
 }
 
-/// The disk of the image that is there.
+/// The disk of the image that is there, which was recovered and read as a start does it: for one that is refused no new
+/// file is made.
 ///
 /// # Errors
 ///
 /// As of an image that is served.
 fn source_of<F: Files<File = File>, E: Write>(
     files: &F,
+    alloc: Global,
     path: &str,
     form: Form,
     errors: &mut E,
-) -> Result<ImageDisk<HostFile>, ImageFault>
-    ensures { IfErr result (λ fault. IsFileRefusal fault.refusal) }
-{
+) -> Result<ImageDisk<HostFile>, ImageFault> {
     let file = open_file(files, path, errors)?;
-    disk_in(file, form, Supposition::any())
+    let disk = disk_in(file, form, Supposition::any())?;
+    match Volume::open(alloc, disk) {
+        Ok(volume) => Ok(volume.into_disk()),
+        Err((error, disk)) => Err(ImageFault {
+            refusal: Refusal::Start(error),
+            host: failure_of(&disk.finish()),
+        }),
+    }
 }
 
 /// Writes what is on a disk to a new image of this form.

@@ -88,32 +88,45 @@ impl Desk {
         println!(rt; "? {line}: {found} in place of {wanted} (alternative {alternative})")
     }
 
-    /// Whether an event comes out as is wanted, or as it has to where the disk fails.
+    /// Whether an event or a session comes out as is wanted, or as it has to where the disk fails.
     fn comes_out(&mut self, wanted: &str, found: &str) -> bool {
+        let asked = self.asked.lines().count();
         if self.has_failed {
-            return is_failed(found);
+            return is_failed(found, asked);
         }
         if wanted == found {
             self.answered = self.answered.saturating_add(1);
             return true;
         }
-        self.has_failed = self.may_fail && meets_fault(wanted, found);
+        self.has_failed = self.may_fail && meets_fault(wanted, found, asked);
         self.has_failed
     }
 }
 
-/// Whether an event, a session or a start answers that the device failed: a session behind a part of what it is to
-/// print.
-fn meets_fault(wanted: &str, found: &str) -> bool {
+/// Whether an event, a session of so many lines or a start answers that the device failed. A session does so behind a
+/// part of what it is to print, in which each line before printed one or more, and each line behind it stops.
+fn meets_fault(wanted: &str, found: &str, asked: usize) -> bool {
     match found.split_once("?Device fault\n") {
-        Some((printed, behind)) => wanted.starts_with(printed) && is_failed(behind),
+        Some((printed, behind)) => {
+            let before = printed.lines().count();
+            let after = behind.lines().count();
+            wanted.starts_with(printed)
+                && behind.lines().all(|line| line == "?Service stopped")
+                && after < asked
+                && asked.saturating_sub(after) <= before.saturating_add(1)
+        }
         None => found == "DEVICE" || found == "REFUSED device fault",
     }
 }
 
-/// Whether an event or a session is answered by a service that has failed, in which nobody logs in any more.
-fn is_failed(found: &str) -> bool {
-    found == "FAILED" || found.lines().all(is_line_of_failed)
+/// Whether an event is answered by a service that has failed, or a session of so many lines: nobody logs in any more.
+fn is_failed(found: &str, asked: usize) -> bool {
+    if asked == 0 {
+        return found == "FAILED";
+    }
+    found.starts_with("?Service stopped\n")
+        && found.lines().all(is_line_of_failed)
+        && found.lines().count() == asked
 }
 
 /// Whether a line is what a session prints then.

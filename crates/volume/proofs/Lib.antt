@@ -14,6 +14,7 @@ pub mod FoundMaps
 pub mod Opening
 pub mod Starting
 pub mod CopiedImages
+pub mod CopyOrder
 pub mod Costing
 pub mod CostLaws
 pub mod LiveTotals

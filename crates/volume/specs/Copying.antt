@@ -1,6 +1,6 @@
 -- An image that is copied block by block, with zeros in the place of a block that is damaged.
 use Rattle.std.specs.Prelude.{◌≡◌, ◌⊎◌, ◌<◌, ◌≤◌, ℕ, List, Option, Some, None, Result, IfErr, IsErrOf, replicate}
-use Rattle.blockdisk.specs.Disk.{Contents, DiskState, SameDisk, one_more}
+use Rattle.blockdisk.specs.Disk.{Contents, DiskState, MayLeave, SameDisk, one_more}
 use Rattle.changeset.specs.Reads.{OnlyReads}
 use Rattle.volume.specs.declared.error.CopyError.{CopyError}
 use Rattle.volume.specs.declared.error.CopyError.TheVariants.{Source, Target}
@@ -18,6 +18,12 @@ AreCopied end from to = (n : ℕ) → n < end → to n ≡ Some (copied (from n)
 -- So it is of each block from `first` on and below `end`.
 abbrev pub ArePartlyCopied : ℕ → ℕ → Contents → Contents → Type 0
 ArePartlyCopied first end from to = (n : ℕ) → first ≤ n → n < end → to n ≡ Some (copied (from n))
+
+-- What a crash may leave of a copy that isn't done, on a disk that was t: the blocks below the gate, the home copies
+-- among them, as they were, or all other blocks as the copy has them.
+abbrev pub HomesComeLast : ℕ → Contents → DiskState → Contents → Type 0
+HomesComeLast size from t c = ((d : Contents) × MayLeave t d × ((n : ℕ) → n < 3 → c n ≡ d n))
+    ⊎ ArePartlyCopied 3 size from c
 
 -- The one disk, which was s, was only read; the other, which was t, may hold anything; and which device failed where
 -- that is refused.

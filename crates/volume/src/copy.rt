@@ -1,10 +1,10 @@
 ghost use Rattle.std.specs.Prelude.{◌≡◌, ◌⊎◌, ◌<◌, ◌≤◌, ℕ, Some, OnOk, IfOk, IfErr, IsErrOf};
-ghost use Rattle.blockdisk.specs.Disk.{LeavesOnly, NoneOpen, SameDisk, SameOutside, Still, one_more};
+ghost use Rattle.blockdisk.specs.Disk.{LeavesOnly, Modifies, Near, NoneOpen, SameDisk, SameOutside, Still, one_more};
 ghost use Rattle.changeset.specs.Crashes.{IsRecovered, SyncsFirst};
 ghost use Rattle.changeset.specs.Reads.{OnlyReads};
 ghost use Rattle.meaning.specs.Files.{File, Files};
 ghost use Rattle.meaning.specs.Stands.{Stands};
-ghost use Rattle.volume.specs.Copying.{copied, AreCopied, ArePartlyCopied, IsCopyStep};
+ghost use Rattle.volume.specs.Copying.{copied, AreCopied, ArePartlyCopied, HomesComeLast, IsCopyStep};
 ghost use Rattle.volume.specs.FaultsFound.{NamesInSpace, Refuses};
 ghost use Rattle.volume.specs.Rest.{RestsAt, StandsLike, StandsLikeBefore};
 ghost use Rattle.volume.specs.declared.error.CopyError.TheVariants.{Source, Target};
@@ -22,8 +22,8 @@ use words36::{BLOCK_WORDS, Block, Word};
 impl<D: Disk> Volume<D> {
     /// Copies the volume on a disk to another disk of as many blocks: recovers it and reads all that it reaches, as
     /// `open` does, then writes every block, zeros for each that is damaged, and waits until all are on the disk. The
-    /// home copies come last, once all else is there: what the other disk holds until then is no copy, and where it
-    /// began with zeros, no volume (that isn't promised by a clause).
+    /// home copies come last, once all else is there: so a copy that is cut short of a disk that began with zeros is no
+    /// volume, or the whole one.
     ///
     /// # Errors
     ///
@@ -43,6 +43,11 @@ impl<D: Disk> Volume<D> {
         ensures settled { (E.state to.new).honest → OnOk result (NoneOpen (E.state to.new)) }
         ensures copied { (D.state from.new).honest → (E.state to.new).honest
             → OnOk result (AreCopied (D.state from.old).size (D.state from.new).contents (E.state to.new).contents) }
+
+        // Stopped at any moment, it leaves the home copies as they were, or all else as the copy has it.
+        ensures last { (D.state from.new).honest → (E.state to.new).honest
+            → LeavesOnly (E.state to.old) (E.state to.new)
+            (HomesComeLast (D.state from.old).size (D.state from.new).contents (E.state to.old)) }
 
         // What is copied was recovered at most: all that `open` says of its disk.
         ensures rests { (D.state from.new).honest → (files : Files File)
@@ -93,6 +98,9 @@ fn copy_all<D: Disk, E: Disk>(from: &mut D, to: &mut E) -> Result<(), CopyError>
     ensures copied { (D.state from.new).honest → (E.state to.new).honest
         → OnOk result (AreCopied (D.state from.old).size (D.state from.old).contents (E.state to.new).contents) }
     ensures settled { (E.state to.new).honest → OnOk result (NoneOpen (E.state to.new)) }
+    ensures last { (D.state from.new).honest → (E.state to.new).honest
+        → LeavesOnly (E.state to.old) (E.state to.new)
+        (HomesComeLast (D.state from.old).size (D.state from.old).contents (E.state to.old)) }
     ensures step { IsCopyStep (D.state from.old) (D.state from.new) (E.state to.old) (E.state to.new) result }
 {
     let blocks = from.blocks();
@@ -116,6 +124,8 @@ fn copy_part<D: Disk, E: Disk>(
         → OnOk result (SameOutside (λ n. first ≤ n) (E.state to.old).contents (E.state to.new).contents
         × SameOutside (λ n. n < end) (E.state to.old).contents (E.state to.new).contents) }
     ensures settled { (E.state to.new).honest → OnOk result (NoneOpen (E.state to.new)) }
+    ensures near { (E.state to.new).honest
+        → LeavesOnly (E.state to.old) (E.state to.new) (Near (λ n. (first ≤ n) × (n < end)) (E.state to.old)) }
     ensures step { IsCopyStep (D.state from.old) (D.state from.new) (E.state to.old) (E.state to.new) result }
 {
     copy_blocks(from, to, first, end)?;
@@ -139,6 +149,8 @@ fn copy_blocks<D: Disk, E: Disk>(
     ensures others { (E.state to.new).honest
         → SameOutside (λ n. first ≤ n) (E.state to.old).contents (E.state to.new).contents
         × SameOutside (λ n. n < end) (E.state to.old).contents (E.state to.new).contents }
+    ensures modified { (E.state to.new).honest
+        → Modifies (λ n. (first ≤ n) × (n < end)) (E.state to.old) (E.state to.new) }
     ensures step { IsCopyStep (D.state from.old) (D.state from.new) (E.state to.old) (E.state to.new) result }
 {
     for n in first..end {
@@ -155,6 +167,7 @@ fn copy_block<D: Disk, E: Disk>(from: &mut D, to: &mut E, n: u32) -> Result<(), 
         → OnOk result ((E.state to.new).contents n ≡ Some (copied ((D.state from.old).contents n))) }
     ensures others { (E.state to.new).honest
         → SameOutside (λ m. m ≡ n) (E.state to.old).contents (E.state to.new).contents }
+    ensures modified { (E.state to.new).honest → Modifies (λ m. m ≡ n) (E.state to.old) (E.state to.new) }
     ensures step { IsCopyStep (D.state from.old) (D.state from.new) (E.state to.old) (E.state to.new) result }
 {
     let Ok(block) = words_or_zeros(from, n) else {

@@ -1,5 +1,5 @@
 use Rattle.std.proofs.Common.{◌≡◌, ◌<◌, ◌≤◌}
-use Rattle.blockdisk.specs.Disk.{SameDisk, SameOutside}
+use Rattle.blockdisk.specs.Disk.{Modifies, SameDisk, SameOutside}
 use Rattle.changeset.specs.Reads.{OnlyReads}
 use Rattle.volume.specs.Copying.{ArePartlyCopied}
 use Rattle.volume.proofs.copy.copy_blocks.Given as goal
@@ -17,4 +17,6 @@ invariant-loop-n g l = record {
       → SameOutside (λ n. l.first ≤ n) (g.E.Disk.state l.initial.to).contents (g.E.Disk.state l.to).contents;
   behind : (g.E.Disk.state l.to).honest
       → SameOutside (λ n. n < l.end) (g.E.Disk.state l.initial.to).contents (g.E.Disk.state l.to).contents;
+  modified : (g.E.Disk.state l.to).honest
+      → Modifies (λ n. (l.first ≤ n) × (n < l.end)) (g.E.Disk.state l.initial.to) (g.E.Disk.state l.to);
 }

@@ -1,10 +1,10 @@
-use Rattle.std.proofs.Common.{◌≡◌, ◌∙◌, inr, Err, IsErrOf, subst, sym}
-use Rattle.blockdisk.specs.Disk.{NoneOpen}
-use Rattle.blockdisk.specs.Laws.{same_contents}
+use Rattle.std.proofs.Common.{◌≡◌, ◌∙◌, inl, inr, Err, IsErrOf, refl, subst, sym}
+use Rattle.blockdisk.specs.Disk.{LeavesOnly, NoneOpen}
+use Rattle.blockdisk.specs.Laws.{leaves_start, same_contents}
 use Rattle.changeset.specs.Crashes.{IsRecovered}
 use Rattle.meaning.specs.Files.{File, Files}
 use Rattle.meaning.specs.Stands.{Stands}
-use Rattle.volume.specs.Copying.{AreCopied}
+use Rattle.volume.specs.Copying.{AreCopied, HomesComeLast}
 use Rattle.volume.specs.Rest.{RestsAt, StandsLike, StandsLikeBefore}
 use Rattle.volume.specs.declared.error.CopyError.TheVariants.{Source}
 use Rattle.volume.specs.declared.error.VolumeError.TheVariants.{Device}
@@ -81,3 +81,22 @@ returns-in-Ok-clause-kept g c h other =
 pub returns-in-Err-clause-kept : goal.returns-in-Err-clause-kept
 returns-in-Err-clause-kept g c h other =
     c.read_volume.ensures.kept h (λ (is : c.read_volume.result ≡ Err Device). other (let bad = c.in-Err.is in cc))
+
+pub returns-in-Ok-clause-last : goal.returns-in-Ok-clause-last
+returns-in-Ok-clause-last g c h k =
+    let s1 = g.D.Disk.state c.read_volume.new.disk in
+    let s2 = g.D.Disk.state c.copy_all.new.from in
+    let t = g.E.Disk.state c.args.to.now in
+    let t' = g.E.Disk.state c.copy_all.new.to in
+    let same : s1.contents ≡ s2.contents = sym (same_contents s1.contents s2.contents
+    (c.copy_all.ensures.step.reads h).still.contents) in
+    subst (λ size. LeavesOnly t t' (HomesComeLast size s2.contents t)) c.read_volume.ensures.same.size
+    (subst (λ contents. LeavesOnly t t' (HomesComeLast s1.size contents t)) same (c.copy_all.ensures.last h k))
+
+pub returns-in-Err-clause-last : goal.returns-in-Err-clause-last
+returns-in-Err-clause-last g c h k =
+    let s = g.D.Disk.state c.args.from.now in
+    let s1 = g.D.Disk.state c.read_volume.new.disk in
+    let t = g.E.Disk.state c.args.to.now in
+    leaves_start t (HomesComeLast s.size s1.contents t) (λ d left. g.met.E.Disk.only_now c.args.to.now d k left)
+    (λ d left. inl (d, left, λ n below. refl))
