@@ -35,6 +35,7 @@ examples:
 	python3 examples/hostile crates/filser/out/filser 2000
 	python3 examples/jobs crates/filser/out/filser
 	python3 examples/forms crates/filser/out/filser
+	python3 examples/memory crates/filser/out/filser
 	python3 examples/program crates/filser/out/filser
 	tools/check-docs crates/filser/out/filser
 
