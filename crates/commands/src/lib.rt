@@ -30,8 +30,8 @@
 //!    themselves, finds the files after some of its acts, or after these and the one that was running.
 //! (`start_after_acts`)
 //! 11. `put` reads and tests all of its input before its first call, and `get` and `list` write nothing before their
-//! last    one. Each does a plan by calls of job 1, which logs in for it, and writes what that says; what a crash
-//! leaves is said    as of a session. (`Delivery`, `Errand`, `Survey`) `check` writes what a volume has. (`Checked`)
+//!    last one. Each does a plan by calls of job 1, which logs in for it, and writes what that says; what a crash
+//!    leaves is said as of a session. (`Delivery`, `Errand`, `Survey`) `check` writes what a volume has. (`Checked`)
 #![tactic(auto)]
 
 mod answer;

@@ -13,7 +13,7 @@
 //! 6. No file with the number of a standard stream is taken for an image. (`open_file`)
 //!
 //! 7. Whatever is done on an image is done by one function, `serve`: it starts a service on the image's disk, or says
-//! why    there is none, and hands the disk back. (`served`)
+//!    why there is none, and hands the disk back. (`served`)
 //!
 //! What an image stands for, and what a line does, is not known here.
 #![tactic(auto)]

@@ -22,8 +22,8 @@ use words36::{BLOCK_WORDS, Block, Word};
 impl<D: Disk> Volume<D> {
     /// Copies the volume on a disk to another disk of as many blocks: recovers it and reads all that it reaches, as
     /// `open` does, then writes every block, zeros for each that is damaged, and waits until all are on the disk. The
-    /// home copies come last, once all else is there: so a copy that is cut short of a disk that began with zeros is no
-    /// volume, or the whole one.
+    /// home copies come last, once all else is there: so what is left of a copy that is cut short, on a disk that began
+    /// with zeros, is no volume, or has every block but these as it should be.
     ///
     /// # Errors
     ///
