@@ -52,6 +52,21 @@ fn what_was_written_is_read(rt: HostRuntime) -> Result<(), Fail> {
     Ok(())
 }
 
+/// Blocks 9 and 11 are damaged.
+#[test]
+fn the_first_damaged_block_is_named(rt: HostRuntime) -> Result<(), Fail> {
+    let mut disk = MemDisk::new(rt.alloc(), 12, 4)?;
+    assert_eq!(rt; disk.blocks(), 12);
+    disk.damage(9);
+    disk.damage(11);
+    assert_eq!(rt; disk.verify(0, 12), Ok(Some(9)));
+    assert_eq!(rt; disk.verify(0, 9), Ok(None));
+    assert_eq!(rt; disk.verify(9, 9), Ok(None));
+    assert_eq!(rt; disk.verify(10, 11), Ok(None));
+    assert_eq!(rt; disk.verify(10, 12), Ok(Some(11)));
+    Ok(())
+}
+
 #[test]
 fn a_full_record_answers_device(rt: HostRuntime) -> Result<(), Fail> {
     let mut disk = MemDisk::new(rt.alloc(), 2, 2)?;

@@ -1,8 +1,8 @@
-ghost use Rattle.std.specs.Prelude.{◌≡◌, ◌<◌, Some, None, Ok, IfOk, IfErr, OnOk, OnErr, IfSome, [], nat_eq};
+ghost use Rattle.std.specs.Prelude.{◌≡◌, ◌<◌, ◌≤◌, Some, None, Ok, IfOk, IfErr, OnOk, OnErr, IfSome, [], nat_eq};
 ghost use Rattle.std.specs.NonZero.{non_zero_usize_get};
 ghost use Rattle.std.specs.Map.{lookup};
 ghost use Rattle.lru.specs.LruCache.{lru_cache};
-ghost use Rattle.blockdisk.specs.Calls.{IsRead, IsWrite, IsSync};
+ghost use Rattle.blockdisk.specs.Calls.{IsRead, IsVerify, IsWrite, IsSync};
 ghost use Rattle.blockcache.specs.Cache.{AreHeld, IsKept, used, without, emptied};
 
 use blockdisk::{Disk, Fault, NoMemory};
@@ -112,6 +112,15 @@ impl<D: Disk> Disk for Cached<D> {
         let block = self.inner.read(n)?;
         self.keep(n, &block);
         Ok(block)
+    }
+
+    /// The disk is asked, also of blocks that are kept, which are as it holds them; and nothing is kept of the others.
+    fn verify(&mut self, first: u32, end: u32) -> Result<Option<u32>, Fault>
+        requires { end ≤ (D.state self.old.inner).size }
+        ensures verifies { IsVerify first end (D.state self.old.inner) (D.state self.new.inner) result }
+        ensures keeps_all { self.new.cache ≡ self.old.cache }
+    {
+        self.inner.verify(first, end)
     }
 
     fn write(&mut self, n: u32, block: &Block) -> Result<(), Fault>

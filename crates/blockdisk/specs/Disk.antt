@@ -1,11 +1,30 @@
 -- What a disk is: its blocks now, the blocks that are open, a clock, and what a crash may leave or
 -- have left. A block is open from the beginning of a write to it until a sync succeeds. A crash leaves
 -- the closed blocks as they are, and anything in the open ones; a sync that fails may do the same.
-use Rattle.std.specs.Prelude.{◌≡◌, ◌⊎◌, ◌+◌, ◌-◌, ◌^◌, ◌≤◌, ℕ, Bool, true, false, List, Option, min}
+use Rattle.std.specs.Prelude.{◌≡◌, ◌⊎◌, ◌+◌, ◌-◌, ◌^◌, ◌<◌, ◌≤◌, ℕ, Bool, true, false, List, Option, None, Some}
+use Rattle.std.specs.Prelude.{length, min}
 
 -- what each block holds: its words, or none where it is damaged
 abbrev pub Contents : Type 0
 Contents = ℕ → Option (List ℕ)
+
+-- The block isn't damaged, and holds 128 words.
+pub record IsWholeBlock (contents : Contents) (n : ℕ) : Type 0 where
+  pub words : List ℕ
+  pub holds : contents n ≡ Some words
+  pub all : length words ≡ 128
+
+-- The first damaged block of those from `first` on before `end` is this one, and those before it are whole; or there is
+-- none.
+abbrev pub AreVerified : Contents → ℕ → ℕ → Option ℕ → Type 0
+AreVerified contents first end None = (n : ℕ) → first ≤ n → n < end → IsWholeBlock contents n
+AreVerified contents first end (Some bad) = (contents bad ≡ None)
+    × ((n : ℕ) → first ≤ n → n < bad → IsWholeBlock contents n)
+
+-- it is one of them
+abbrev pub IsWithin : ℕ → ℕ → Option ℕ → Type 0
+IsWithin first end None = Unit {0}
+IsWithin first end (Some bad) = (first ≤ bad) × (bad < end)
 
 -- a disk as contracts see it
 pub record DiskState : Type 1 where

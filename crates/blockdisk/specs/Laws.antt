@@ -53,6 +53,18 @@ passes_weaker s s' P Q passes weaker = record {
   keeps = passes.keeps;
 }
 
+-- A read behind another
+
+pub keeps_on : (s s' s'' : DiskState) → Keeps s s' → Keeps s' s'' → Keeps s s''
+keeps_on s s' s'' first second = record {
+  contents = λ n. second.contents n ∙ first.contents n;
+  is_open = λ n. second.is_open n ∙ first.is_open n;
+  time = passes_on s s' s'' (MayLeave s'') (MayLeave s'')
+      (passes_weaker s s' (MayLeave s') (MayLeave s'') first.time (λ c left n closed. left n (sym (second.is_open n)
+      ∙ closed) ∙ sym (second.contents n)))
+      second.time (λ c left. left);
+}
+
 -- Nothing written
 
 pub still_start : (s : DiskState) → Still s s

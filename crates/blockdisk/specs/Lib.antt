@@ -7,3 +7,4 @@ pub mod Fused
 pub mod Laws
 pub mod Memory
 pub mod MemoryLaws
+pub mod VerifyLaws

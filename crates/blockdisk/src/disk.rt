@@ -1,6 +1,7 @@
-ghost use Rattle.std.specs.Prelude.{◌≡◌, ◌<◌, ◌≤◌, ℕ, Some, None, IfOk, OnOk, OnErr, IsErrOf};
+ghost use Rattle.std.specs.Prelude.{◌≡◌, ◌<◌, ◌≤◌, ℕ, Some, None, IsOk, IfOk, OnOk, OnErr, IsErrOf};
 ghost use Rattle.blockdisk.specs.declared.fault.Fault.TheVariants.{Device, Damaged};
 ghost use Rattle.blockdisk.specs.Disk.{Contents, DiskState, MayLeave, SameDisk, Keeps, Writes, Syncs, Fails, one_more};
+ghost use Rattle.blockdisk.specs.Disk.{AreVerified, IsWithin};
 
 use crate::Fault;
 use words36::Block;
@@ -32,6 +33,31 @@ pub trait Disk {
         ensures same { SameDisk (state self.old) (state self.new) }
         ensures failed { IsErrOf result Device → (state self.new).failures ≡ one_more (state self.old).failures }
         ensures served { (IsErrOf result Device → ⊥) → (state self.new).failures ≡ (state self.old).failures };
+
+    /// The first damaged block of those from one on before another, if any: for one who needs none of their words.
+    ///
+    /// # Errors
+    ///
+    /// `Device` where the device failed.
+    fn verify(&mut self, first: u32, end: u32) -> Result<Option<u32>, Fault>
+        requires { end ≤ (state self.old).size }
+        ensures within { IfOk result (IsWithin first end) }
+        ensures verified { (state self.new).honest → IfOk result (AreVerified (state self.old).contents first end) }
+        ensures keeps { (state self.new).honest → Keeps (state self.old) (state self.new) }
+        ensures same { SameDisk (state self.old) (state self.new) }
+        ensures device { IsErrOf result Damaged → ⊥ }
+        ensures failed { IsErrOf result Device → (state self.new).failures ≡ one_more (state self.old).failures }
+        ensures served { IsOk result → (state self.new).failures ≡ (state self.old).failures }
+    {
+        for n in first..end {
+            match self.read(n) {
+                Ok(_) => (),
+                Err(Fault::Damaged) => return Ok(Some(n)),
+                Err(Fault::Device) => return Err(Fault::Device),
+            }
+        }
+        Ok(None)
+    }
 
     /// Writes a block. It is open from then on, whatever the answer, until a sync succeeds.
     ///

@@ -9,9 +9,12 @@ pub(crate) enum Asked {
     Read(u32),
     Write(u32, u64),
     Sync,
+    /// A look at the blocks from the first on before the second.
+    Verify(u32, u32),
 }
 
-/// What it answers: the number that fills the block that was read, and 0 for a write or a sync.
+/// What it answers: the number that fills the block that was read; the first damaged block that was met, and 0 where
+/// there is none; and 0 for a write or a sync.
 pub(crate) type Answer = Result<u64, Fault>;
 
 /// A block whose words are all this number.
@@ -53,6 +56,16 @@ fn expect_done(rt: &impl Abort, answered: Result<(), Fault>, wanted: Answer) {
     }
 }
 
+/// A look at blocks is answered so.
+fn expect_verified<D: Disk>(rt: &impl Abort, disk: &mut D, first: u32, end: u32, wanted: Answer) {
+    assert!(rt; end <= disk.blocks());
+    match (disk.verify(first, end), wanted) {
+        (Ok(found), Ok(number)) => assert_eq!(rt; u64::from(found.unwrap_or(0)), number),
+        (Err(fault), Err(other)) => assert_eq!(rt; fault, other),
+        _ => panic!(rt; "another answer"),
+    }
+}
+
 /// These calls of a disk, one after the other, are answered so.
 pub(crate) fn expect_calls<D: Disk>(rt: &impl Abort, disk: &mut D, calls: &[(Asked, Answer)]) {
     for &(asked, wanted) in calls {
@@ -63,6 +76,7 @@ pub(crate) fn expect_calls<D: Disk>(rt: &impl Abort, disk: &mut D, calls: &[(Ask
                 expect_done(rt, disk.write(n, &filled(number)), wanted);
             }
             Asked::Sync => expect_done(rt, disk.sync(), wanted),
+            Asked::Verify(first, end) => expect_verified(rt, disk, first, end, wanted),
         }
     }
 }

@@ -75,6 +75,23 @@ fn a_damaged_block_is_never_kept(rt: HostRuntime) -> Result<(), Fail> {
     Ok(())
 }
 
+/// A look at blocks asks for each of them, also for one that is kept, and keeps none.
+#[test]
+fn blocks_that_are_looked_at_are_not_kept(rt: HostRuntime) -> Result<(), Fail> {
+    let calls = [
+        (Asked::Read(20), Ok(20)),
+        (Asked::Verify(20, 22), Ok(0)),
+        (Asked::Verify(18, 22), Ok(19)),
+        (Asked::Read(20), Ok(20)),
+        (Asked::Read(21), DEVICE),
+        (Asked::Verify(20, 22), DEVICE),
+        (Asked::Verify(20, 20), Ok(0)),
+    ];
+    let one = NonZeroUsize::MIN;
+    expect_cached(&rt, rt.alloc(), one, (5, Failing::All), &calls, &[])?;
+    Ok(())
+}
+
 /// A block that was written is kept, and stands on the disk.
 #[test]
 fn a_block_that_was_written_is_kept(rt: HostRuntime) -> Result<(), Fail> {

@@ -201,13 +201,14 @@ module _ {V E S : Type 0} (machine : S → Machine) (stands : AlwaysStands machi
       → words ≡ refusal reply → broken ≡ is_broken reply → counted.refused ≡ true
       → counted.broke ≡ tally.broke || broken → IfOk result (λ v. bytes v ≡ line words)
       → HasShown bytes result machine old new style owner tally counted
-  shown_refused counted old new style owner reply words broken listed same_words same_broken refused broke text = record {
-    answer = Err reply;
-    led = led_shown old new owner (Err reply) listed;
-    refused = refused ∙ or-true tally.refused;
-    broke = broke ∙ ap (λ b. tally.broke || b) same_broken;
-    text = subst (λ (l : List ℕ). IfOk result (λ v. bytes v ≡ line l)) same_words text;
-  }
+  shown_refused counted old new style owner reply words broken listed same_words same_broken refused broke
+      text = record {
+        answer = Err reply;
+        led = led_shown old new owner (Err reply) listed;
+        refused = refused ∙ or-true tally.refused;
+        broke = broke ∙ ap (λ b. tally.broke || b) same_broken;
+        text = subst (λ (l : List ℕ). IfOk result (λ v. bytes v ≡ line l)) same_words text;
+      }
 
 -- DIRECTORY.
 module _ {V E S : Type 0} (machine : S → Machine) (bytes : V → List ℕ) (result : Result V E) (moment : Moment)

@@ -44,7 +44,8 @@ module _ {S : Type 0} (machine : S → Machine) where
       → ActsBy machine pack old first acts mid then → ActsBy machine pack mid then more new last
       → ActsBy machine pack old first (acts ++ more) new last
   acts_on pack old mid new Broken then last acts more p q =
-      let rest = subst (λ (s : Service). ActsBy machine pack mid s more new last) (went_broken pack acts then p.1) q in (
+      let rest = subst (λ (s : Service). ActsBy machine pack mid s more new last) (went_broken pack acts then p.1) q
+      in (
         still_on (machine old).disk (machine mid).disk (machine new).disk p.0 rest.0,
         went-append pack Broken acts more Broken last
             (subst (λ (s : Service). Went pack Broken acts s) (went_broken pack acts then p.1) p.1) rest.1,

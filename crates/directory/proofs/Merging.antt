@@ -169,7 +169,8 @@ module _ {K V : Type 0} {R : K → K → Ordering} (o : IsTotalOrder R) (items :
   low_across [] ys low behind = tt
   low_across (x ∷ xs) ys low behind = (on_before x low.0 ys behind, low_across xs ys low.1 behind)
 
-  -- Behind `merged` stand both the rest of one list, `lo` and `hi`, and the rest of another, which begins with the place.
+  -- Behind `merged` stand both the rest of one list, `lo` and `hi`, and the rest of another, which begins with the
+  -- place.
   module _ (merged lo hi others : List ℕ) (inside : p < length items)
       (to_rest : AreRising R items (merged ++ (lo ++ hi)))
       (to_others : AreRising R items (merged ++ p ∷ others))
@@ -233,7 +234,8 @@ module _ {K V : Type 0} {R : K → K → Ordering} (o : IsTotalOrder R) (items o
           → AllByRecursion (Precedes R all (length items + p)) (shifted (length items) qs)
       each [] a = tt
       each (q ∷ qs) a = (
-        λ x y at at'. a.0 x y (sym (get-append_right items others p) ∙ at) (sym (get-append_right items others q) ∙ at'),
+        λ x y at at'. a.0 x y (sym (get-append_right items others p) ∙ at)
+            (sym (get-append_right items others q) ∙ at'),
         each qs a.1,
       )
 
@@ -253,7 +255,8 @@ module _ {K V : Type 0} {R : K → K → Ordering} (o : IsTotalOrder R) (items o
     many = let e = ap length none in omega arith;
   }
 
-  module _ (index : IsIndex R items order) (i from : ℕ) (merged : List ℕ) (m : IsMerging R items others order other_order i from merged) where
+  module _ (index : IsIndex R items order) (i from : ℕ) (merged : List ℕ)
+      (m : IsMerging R items others order other_order i from merged) where
     -- a place more of the second, with those of the first that come before it
     pub merging_on : (p d at : ℕ) (k : K) (new : List ℕ) → i < length other_order → p ≡ get_or other_order i d
         → HasKeyAt R others k p → IsGap R items k (drop from order) at
@@ -386,7 +389,8 @@ once_back R (x ∷ xs) ys once = once_back R xs ys once.1
 
 module _ {K V : Type 0} {R : K → K → Ordering} (o : IsTotalOrder R) (exact : IsAntisymmetric R) where
   -- entries of which no two have one key
-  alone_once : (items : List (K × V)) → ((p q : ℕ) (x y : K × V) → slice_get items p ≡ Some x → slice_get items q ≡ Some y
+  alone_once : (items : List (K × V))
+      → ((p q : ℕ) (x y : K × V) → slice_get items p ≡ Some x → slice_get items q ≡ Some y
       → x.0 ≡ y.0 → p ≡ q) → EachOnce R items
   alone_once [] alone = tt
   alone_once (e ∷ items) alone = (

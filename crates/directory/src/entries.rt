@@ -1,4 +1,5 @@
-ghost use Rattle.std.specs.Prelude.{◌≡◌, ◌<◌, ◌++◌, ◌∷◌, [], IfOk, OnOk, OnErr, IsErrOf, IfSome, IfNone, None, Some, suc};
+ghost use Rattle.std.specs.Prelude.{◌≡◌, ◌<◌, ◌++◌, ◌∷◌, [], IfOk, OnOk, OnErr, IsErrOf, IfSome, IfNone, None, Some};
+ghost use Rattle.std.specs.Prelude.{suc};
 ghost use Rattle.std.specs.Prelude.{length, map, swap_remove, slice_get, slice_set, take, drop};
 ghost use Rattle.std.specs.FinMap.Entries.{find};
 ghost use Rattle.meaning.specs.Maps.{EachOnce};

@@ -212,6 +212,44 @@ fn bytes_of_words(rt: HostRuntime) -> Result<(), Fail> {
     Ok(())
 }
 
+/// Blocks from one on before another are looked at, and the first damaged one is this, or there is none.
+pub(crate) fn expect_verified<D: Disk>(
+    rt: &impl Abort,
+    disk: &mut D,
+    looks: &[(u32, u32, Option<u32>)],
+) {
+    for &(first, end, wanted) in looks {
+        assert!(rt; end <= disk.blocks());
+        assert_eq!(rt;
+            disk.verify(first, end),
+            Ok(wanted),
+            "from {first} before {end}"
+        );
+    }
+}
+
+/// Twenty blocks of zeros, of which two have a word with top bits: block 10 its last one, and block 17 its first.
+#[test]
+fn damaged_blocks_of_an_image(rt: HostRuntime) -> Result<(), Fail> {
+    let mut bytes = vec![in rt.alloc(); 0; 20480]?;
+    bytes[10 * 1024 + 1019] = 0x10;
+    bytes[17 * 1024] = 0x01;
+    let file = MemFile::new(rt.alloc(), bytes.as_slice(), 1);
+    drop(bytes);
+    let mut disk = disk_over(&rt, file?);
+    let looks = [
+        (0, 20, Some(10)),
+        (0, 10, None),
+        (10, 11, Some(10)),
+        (11, 17, None),
+        (11, 20, Some(17)),
+        (18, 20, None),
+        (20, 20, None),
+    ];
+    expect_verified(&rt, &mut disk, &looks);
+    Ok(())
+}
+
 #[test]
 fn a_file_that_is_no_image(rt: HostRuntime) -> Result<(), Fail> {
     let file = MemFile::new(rt.alloc(), &[1; 1025], 1)?;

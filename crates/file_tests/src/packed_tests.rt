@@ -1,4 +1,4 @@
-use crate::image_tests::{expect_block, expect_write, filled};
+use crate::image_tests::{expect_block, expect_verified, expect_write, filled};
 use blockdisk::Disk;
 use imagefile::{Durable, Form, ImageDisk, ImageError, MemFile, PackedDisk, block_count};
 use std::alloc::Global;
@@ -64,6 +64,7 @@ fn formed_over<F: Durable + Drop>(rt: &impl Abort, file: F) -> ImageDisk<F> {
 fn expect_ones<D: Disk>(rt: &impl Abort, disk: &mut D) {
     assert_eq!(rt; disk.blocks(), 3);
     expect_block(rt, disk, 1, Ok(filled(0o777777777777)));
+    expect_verified(rt, disk, &[(0, 3, None), (1, 2, None)]);
     expect_write(rt, disk, 1, 0o123456701234, Ok(()));
     assert_eq!(rt; disk.sync(), Ok(()));
     expect_block(rt, disk, 0, Ok(filled(0o777777777777)));

@@ -27,7 +27,7 @@ zero_top w h = eq-eqb _ _ (omega (arith, h))
 top_set : (w : ℕ) → (w / 2 ^ 36 == 0) ≡ false → 2 ^ 36 ≤ w
 top_set w h = ⊎_elim (λ low. absurd (eqb-false _ _ h (omega (arith, low)))) (λ high. high) (cases_lt w (2 ^ 36))
 
-words_below : (bytes : List ℕ) (n : ℕ) → are_words bytes n ≡ true → (k : ℕ) → k < n → IsWord (number_at bytes k)
+pub words_below : (bytes : List ℕ) (n : ℕ) → are_words bytes n ≡ true → (k : ℕ) → k < n → IsWord (number_at bytes k)
 unfolding are_words
 words_below bytes zero are k less = absurd (none_below k less)
   where
@@ -39,7 +39,7 @@ words_below bytes (suc n) are k less =
     let here : k ≡ n = omega arith in
     rw here (top_zero (number_at bytes n) parts.1)) (cases_lt k n)
 
-words_are : (bytes : List ℕ) (n : ℕ) → ((k : ℕ) → k < n → IsWord (number_at bytes k)) → are_words bytes n ≡ true
+pub words_are : (bytes : List ℕ) (n : ℕ) → ((k : ℕ) → k < n → IsWord (number_at bytes k)) → are_words bytes n ≡ true
 unfolding are_words
 words_are bytes zero each = refl
 words_are bytes (suc n) each =
@@ -47,10 +47,11 @@ words_are bytes (suc n) each =
     (zero_top (number_at bytes n) (each n (omega arith)))
 
 -- the first place whose word is none, where there is one
-first_bad : (bytes : List ℕ) (n : ℕ) → n ≤ 128 → (are_words bytes n ≡ true) ⊎ ((place : ℕ) × IsFirstBadWord bytes place)
+pub first_bad : (bytes : List ℕ) (count n : ℕ) → n ≤ count
+    → (are_words bytes n ≡ true) ⊎ ((place : ℕ) × IsFirstBadWord count bytes place)
 unfolding are_words
-first_bad bytes zero few = inl refl
-first_bad bytes (suc n) few =
+first_bad bytes count zero few = inl refl
+first_bad bytes count (suc n) few =
     ⊎_elim
     (λ good. ⊎_elim (λ zero_bits. inl (and_from (are_words bytes n) (number_at bytes n / 2 ^ 36 == 0) good zero_bits))
     (λ bits. inr (
@@ -61,11 +62,11 @@ first_bad bytes (suc n) few =
         first = words_below bytes n good;
       },
     )) (cases_Bool (number_at bytes n / 2 ^ 36 == 0)))
-    (λ bad. inr bad) (first_bad bytes n (omega arith))
+    (λ bad. inr bad) (first_bad bytes count n (omega arith))
 
 -- Words
 
-length-first_words : (bytes : List ℕ) (n : ℕ) → length (first_words bytes n) ≡ n
+pub length-first_words : (bytes : List ℕ) (n : ℕ) → length (first_words bytes n) ≡ n
 unfolding first_words
 length-first_words bytes zero = refl
 length-first_words bytes (suc n) = omega (
@@ -92,7 +93,7 @@ first_words-at bytes (suc n) k d less =
 
 -- Contents
 
-content_good : (bytes : List ℕ) → are_words bytes 128 ≡ true → wide_content bytes ≡ Some (first_words bytes 128)
+pub content_good : (bytes : List ℕ) → are_words bytes 128 ≡ true → wide_content bytes ≡ Some (first_words bytes 128)
 content_good bytes good = cond-true (are_words bytes 128) (Some (first_words bytes 128)) None good
 
 content_bad : (bytes : List ℕ) → are_words bytes 128 ≡ false → wide_content bytes ≡ None
@@ -120,14 +121,17 @@ pub content_read : (words bytes : List ℕ) → IsBlock words → block_bytes wo
 content_read words bytes block same = rw (← same) (content_block words block)
 
 -- a block that is damaged
-pub content_refused : (bytes : List ℕ) (place : ℕ) → IsFirstBadWord bytes place → wide_content bytes ≡ None
-content_refused bytes place bad =
-    content_bad bytes (⊎_elim (λ good.
-    absurd (no_word (number_at bytes place) bad.bad (words_below bytes 128 good place bad.inside))) (λ wrong. wrong)
-    (cases_Bool (are_words bytes 128)))
+pub content_spoiled : (bytes : List ℕ) (place : ℕ) → place < 128 → 2 ^ 36 ≤ number_at bytes place
+    → wide_content bytes ≡ None
+content_spoiled bytes place inside bad =
+    content_bad bytes (⊎_elim (λ good. absurd (no_word (number_at bytes place) bad
+    (words_below bytes 128 good place inside))) (λ wrong. wrong) (cases_Bool (are_words bytes 128)))
   where
     no_word : (w : ℕ) → 2 ^ 36 ≤ w → IsWord w → ⊥
     no_word w high low = omega arith
+
+pub content_refused : (bytes : List ℕ) (place : ℕ) → IsFirstBadWord 128 bytes place → wide_content bytes ≡ None
+content_refused bytes place bad = content_spoiled bytes place bad.inside bad.bad
 
 -- what bytes hold is the block that has them
 pub content_is : (words bytes : List ℕ) → ((j : ℕ) → get_or bytes j 0 < 256) → length bytes ≡ 1024
@@ -173,7 +177,7 @@ module _ (b : Bytes) (n at len : ℕ) (bytes : List ℕ) (place : at ≡ 1024 * 
   image_read words is block same = spelled is ∙ content_read words bytes block same
 
   pub image_refused : (error : WordError) → bytes ≡ window b at len → ((place : ℕ) × (error ≡ BadWord place))
-      → ((place : ℕ) → (error ≡ BadWord place) → IsFirstBadWord bytes place) → image_contents Wide b n ≡ None
+      → ((place : ℕ) → (error ≡ BadWord place) → IsFirstBadWord 128 bytes place) → image_contents Wide b n ≡ None
   image_refused error is which bad = spelled is ∙ content_refused bytes which.0 (bad which.0 which.1)
 
   pub image_put : (words : List ℕ) → window b at len ≡ bytes → bytes ≡ block_bytes words → IsBlock words

@@ -1,8 +1,8 @@
 -- The calls of a disk over an image, from what a file promises of its own.
 use Rattle.std.proofs.Common.{◌≡◌, ◌*◌, ◌<◌, ℕ, List, Result, Ok, Err, Some, None, OnOk}
-use Rattle.std.proofs.Common.{OnErr, IsErrOf, refl}
-use Rattle.blockdisk.specs.Disk.{SameDisk, Syncs, Fails, one_more}
-use Rattle.blockdisk.specs.Calls.{IsRead, IsWrite}
+use Rattle.std.proofs.Common.{OnErr, IsErrOf, refl, Option}
+use Rattle.blockdisk.specs.Disk.{SameDisk, Syncs, Fails, AreVerified, IsWithin, one_more}
+use Rattle.blockdisk.specs.Calls.{IsRead, IsVerify, IsWrite}
 use Rattle.blockdisk.specs.declared.fault.Fault.{Fault}
 use Rattle.blockdisk.specs.declared.fault.Fault.TheVariants.{Device, Damaged}
 use Rattle.imagefile.specs.File.{FileState, SameFile, FileKeeps, FileWrites, FileSyncs, FileFails}
@@ -44,6 +44,23 @@ module _ (form : Form) (blocks n : ℕ) (s s' : FileState) (same : SameFile s s'
     failed = λ is. absurd (other_fault is);
     served = λ other. served;
   }
+
+no_device : (found : Option ℕ) (fault : Fault) → IsErrOf (Ok found) fault → ⊥
+no_device found fault is = cc
+
+pub group_verified : (form : Form) (blocks first end : ℕ) (s s' : FileState) (found : Option ℕ) → SameFile s s'
+    → IsWithin first end found → (s'.honest → AreVerified (image_contents form s.bytes) first end found)
+    → (s'.honest → FileKeeps s s') → s'.failures ≡ s.failures
+    → IsVerify first end (image_state form blocks s) (image_state form blocks s') (Ok found)
+group_verified form blocks first end s s' found same within verified keeps served = record {
+  within = within;
+  verified = verified;
+  keeps = λ h. image_keeps form blocks s s' (keeps h);
+  same = same_disk form blocks s s' same;
+  device = no_device found Damaged;
+  failed = λ is. absurd (no_device found Device is);
+  served = λ ok. served;
+}
 
 pub block_written : (form : Form) (blocks n at len : ℕ) (s s' : FileState) (words : List ℕ)
     (answer : Result (Unit {0}) Fault) → at ≡ block_length form * n → len ≡ block_length form

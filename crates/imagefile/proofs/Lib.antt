@@ -1,5 +1,6 @@
 pub mod Contents
 pub mod Record
 pub mod FileLaws
+pub mod Groups
 pub mod CallLaws
 pub mod ImageCalls

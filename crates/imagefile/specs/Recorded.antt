@@ -1,7 +1,7 @@
 -- A file as the record of its calls shows it, and when that record is one that a file gives which keeps
 -- to the model.
 use Rattle.std.specs.Prelude.{◌≡◌, ◌⊎◌, ◌+◌, ◌-◌, ◌≤◌, ℕ, suc, nat_le, Bool, true, false, ◌&&◌, ◌||◌, if◌then◌else◌}
-use Rattle.std.specs.Prelude.{unwrap_or, List, [], ◌∷◌, length, get_or, Option, Some, None, IfSome, IsSome, IsSomeAnd}
+use Rattle.std.specs.Prelude.{unwrap_or, List, [], ◌∷◌, length, get_or, Option, Some, None, IfSome, IsSomeAnd}
 use Rattle.imagefile.specs.File.{Bytes, Remains, FileState, window}
 use Rattle.imagefile.specs.Calls.{Call, SeekStart, SeekEnd, Read, Write, Sync}
 use Rattle.imagefile.specs.Unseen.{Unseen, size_of, first_bytes, first_open, left_by}

@@ -1,5 +1,5 @@
 ghost use Rattle.std.specs.Prelude.{◌≡◌, ◌+◌, ◌*◌, ◌<◌, ◌≤◌, ◌^◌, ℕ};
-ghost use Rattle.blockdisk.specs.Calls.{IsRead, IsWrite};
+ghost use Rattle.blockdisk.specs.Calls.{IsRead, IsVerify, IsWrite};
 ghost use Rattle.imagefile.specs.File.{SameFile};
 ghost use Rattle.imagefile.specs.Image.{block_length, image_state};
 ghost use Rattle.imagefile.specs.declared.form.Form.TheVariants.{Wide, Packed};
@@ -7,9 +7,12 @@ ghost use Rattle.imagefile.specs.declared.form.Form.TheVariants.{Wide, Packed};
 use crate::{Durable, Form};
 use blockdisk::Fault;
 use words36::{
-    BLOCK_BYTES, Block, PACKED_BYTES, block_from_bytes, block_from_nine, block_to_bytes,
-    block_to_nine,
+    BLOCK_BYTES, BLOCK_WORDS, Block, PACKED_BYTES, block_from_bytes, block_from_nine,
+    block_to_bytes, block_to_nine, first_bad_word,
 };
+
+/// How many neighbouring blocks are looked at by one call of the file.
+const GROUP_BLOCKS: u32 = 8;
 
 /// The words of block n of the image that this file is.
 ///
@@ -26,6 +29,34 @@ pub(crate) fn read_block<F: Durable>(form: Form, file: &mut F, n: u32) -> Result
         Form::Wide => read_wide(file, n),
         Form::Packed => read_packed(file, n),
     }
+}
+
+/// The first damaged block of those from one on before another, if any, of the image that this file is.
+///
+/// # Errors
+///
+/// As of a disk: `Device` where the file fails.
+pub(crate) fn verify_blocks<F: Durable>(
+    form: Form,
+    file: &mut F,
+    first: u32,
+    end: u32,
+) -> Result<Option<u32>, Fault>
+    requires { (F.state file.old).honest → block_length form * end ≤ (F.state file.old).size }
+    ensures same { SameFile (F.state file.old) (F.state file.new) }
+    ensures verifies { (blocks : ℕ) → IsVerify first end (image_state form blocks (F.state file.old))
+        (image_state form blocks (F.state file.new)) result }
+{
+    let mut next = first;
+    while next < end {
+        let stop = group_end(next, end);
+        match verify_group(form, file, next, stop) {
+            Ok(None) => next = stop,
+            Ok(Some(bad)) => return Ok(Some(bad)),
+            Err(fault) => return Err(fault),
+        }
+    }
+    Ok(None)
 }
 
 /// Writes the words of block n of the image that this file is.
@@ -83,4 +114,71 @@ fn read_packed<F: Durable>(file: &mut F, n: u32) -> Result<Block, Fault>
     let mut bytes = [0; PACKED_BYTES];
     file.read_at(place_of(Form::Packed, n), &mut bytes)?;
     Ok(block_from_nine(&bytes))
+}
+
+/// Where the group of blocks ends that begins at one, before another.
+fn group_end(first: u32, end: u32) -> u32
+    requires { first < end }
+    ensures some { first < result }
+    ensures few { result ≤ first + 8 }
+    ensures within { result ≤ end }
+{
+    if end - first > GROUP_BLOCKS {
+        first + GROUP_BLOCKS
+    } else {
+        end
+    }
+}
+
+/// The first damaged one of neighbouring blocks, if any, which are read by one call.
+fn verify_group<F: Durable>(
+    form: Form,
+    file: &mut F,
+    first: u32,
+    end: u32,
+) -> Result<Option<u32>, Fault>
+    requires some { first < end }
+    requires few { end ≤ first + 8 }
+    requires inside { (F.state file.old).honest → block_length form * end ≤ (F.state file.old).size }
+    ensures same { SameFile (F.state file.old) (F.state file.new) }
+    ensures verifies { (blocks : ℕ) → IsVerify first end (image_state form blocks (F.state file.old))
+        (image_state form blocks (F.state file.new)) result }
+{
+    match form {
+        Form::Wide => verify_wide(file, first, end),
+        Form::Packed => verify_packed(file, first, end),
+    }
+}
+
+/// A group of eight bytes to a word: its top bits are looked at, and no word is made.
+fn verify_wide<F: Durable>(file: &mut F, first: u32, end: u32) -> Result<Option<u32>, Fault>
+    requires some { first < end }
+    requires few { end ≤ first + 8 }
+    requires inside { (F.state file.old).honest → 1024 * end ≤ (F.state file.old).size }
+    ensures same { SameFile (F.state file.old) (F.state file.new) }
+    ensures verifies { (blocks : ℕ) → IsVerify first end (image_state Wide blocks (F.state file.old))
+        (image_state Wide blocks (F.state file.new)) result }
+{
+    let mut bytes = [0; GROUP_BLOCKS as usize * BLOCK_BYTES];
+    let group = &mut bytes[..(end - first) as usize * BLOCK_BYTES];
+    file.read_at(place_of(Form::Wide, first), group)?;
+    match first_bad_word(group) {
+        None => Ok(None),
+        Some(place) => Ok(Some(first + (place / BLOCK_WORDS) as u32)),
+    }
+}
+
+/// A group of nine bytes to two words: any bytes are words, where they can be read.
+fn verify_packed<F: Durable>(file: &mut F, first: u32, end: u32) -> Result<Option<u32>, Fault>
+    requires some { first < end }
+    requires few { end ≤ first + 8 }
+    requires inside { (F.state file.old).honest → 576 * end ≤ (F.state file.old).size }
+    ensures same { SameFile (F.state file.old) (F.state file.new) }
+    ensures verifies { (blocks : ℕ) → IsVerify first end (image_state Packed blocks (F.state file.old))
+        (image_state Packed blocks (F.state file.new)) result }
+{
+    let mut bytes = [0; GROUP_BLOCKS as usize * PACKED_BYTES];
+    let group = &mut bytes[..(end - first) as usize * PACKED_BYTES];
+    file.read_at(place_of(Form::Packed, first), group)?;
+    Ok(None)
 }

@@ -13,8 +13,12 @@ ghost use Rattle.meaning.specs.Vector.{v1_files};
 /// at that time. Each other change is a fault. The last clause says of two of them that they stand for
 /// no files, as no contents with a fault do.
 pub fn spoiled_images()
+    // What stands for files still.
     ensures untouched_copy { Stands 64 v1_untouched_copy v1_files }
     ensures latest_minute { Stands 64 v1_latest_minute latest_files }
+    ensures closed_gate { Stands 64 v1_closed_gate v1_files }
+
+    // What is refused, and by which fault.
     ensures not_volume { HasFault 64 v1_not_volume NotVolume }
     ensures bad_home { HasFault 64 v1_bad_home BadHome }
     ensures bad_log { HasFault 64 v1_bad_log BadLog }
@@ -26,7 +30,6 @@ pub fn spoiled_images()
     ensures looping_directory { HasFault 64 v1_looping_directory (BadDirectory 16) }
     ensures extra_bit { HasFault 64 v1_extra_bit (TableWrong 14) }
     ensures shared_block { HasFault 64 v1_shared_block (BlockTwice 16) }
-    ensures closed_gate { Stands 64 v1_closed_gate v1_files }
     ensures no_files { (files : Files File) → (Stands 64 v1_shared_block files → ⊥)
         × (Stands 64 v1_damaged_data files → ⊥) }
 {}

@@ -30,20 +30,6 @@ pub reset_back : (old taken new : List (Option Job)) (n : ℕ) (there : Job) (co
 reset_back old taken new n there core out back is = put_back old taken new n _ out back
     ∙ ap (λ words. slice_set old n (Some (record there { core = words; channels = replicate 16 None }))) is
 
--- the same, with other words
-pub core_back : (old taken new : List (Option Job)) (n : ℕ) (there : Job) (core words : List ℕ)
-    → taken ≡ slice_set old n None → new ≡ slice_set taken n (Some (record there { core = core })) → core ≡ words
-    → new ≡ slice_set old n (Some (record there { core = words }))
-core_back old taken new n there core words out back is = put_back old taken new n _ out back
-    ∙ ap (λ ws. slice_set old n (Some (record there { core = ws }))) is
-
--- put back as it was
-pub same_back : (old taken new : List (Option Job)) (n : ℕ) (there : Job) (core : List ℕ) → slot old n ≡ Some there
-    → taken ≡ slice_set old n None → new ≡ slice_set taken n (Some (record there { core = core })) → core ≡ there.core
-    → new ≡ old
-same_back old taken new n there core at out back is = core_back old taken new n there core there.core out back is
-    ∙ set-slot old n there at
-
 -- a job that comes back as it was leaves all as they were
 pub unchanged : (old new : List (Option Job)) (n : ℕ) (job job' : Job) → slot old n ≡ Some job
     → new ≡ slice_set old n (Some job') → job' ≡ job → new ≡ old

@@ -1,14 +1,17 @@
 ghost use Rattle.std.specs.Prelude.{◌≡◌, replicate, None, IfOk, Some, IfSome, IsTrue, IsFalse, slice_set};
 ghost use Rattle.meaning.specs.Jobs.{slot};
+ghost use Rattle.meaning.specs.declared.call.Reply.TheVariants.{Done};
+ghost use Rattle.monitor.specs.Replies.{deposit_of};
 ghost use Rattle.monitor.specs.Sides.{no_jobs, reset_job};
 ghost use Rattle.monitor.specs.declared.job.Job.{Job as JobRecord};
 
 use crate::channel::Channel;
 use blockdisk::NoMemory;
+use meaning::Reply;
 use std::alloc::{AllocError, Global};
 use std::marker::Model;
 use usercore::Core;
-use words36::Ppn;
+use words36::{Ppn, Word};
 
 /// The largest number of a job.
 pub const LARGEST_JOB: u32 = 64;
@@ -147,5 +150,28 @@ impl Jobs {
         job.reset();
         self.put(number, job);
         true
+    }
+
+    /// Puts a word into the core of a job, where the job lies.
+    ///
+    /// The answer is `Done`; `NoJob` where no job of that number is logged in; or `AddressCheck` where its core has
+    /// no such address. Where it isn't `Done` nothing is changed.
+    pub fn deposit(&mut self, number: u32, address: u32, word: Word) -> Reply
+        ensures answered { result ≡ deposit_of address (slot self.old number) }
+        ensures done { result ≡ Done → (there : JobRecord) × (slot self.old number ≡ Some there)
+            × (self.new
+            ≡ slice_set self.old number (Some (record there { core = slice_set there.core address word }))) }
+        ensures refused { (result ≡ Done → ⊥) → self.new ≡ self.old }
+    {
+        if number as usize >= self.slots.len() {
+            return Reply::NoJob;
+        }
+        match &mut self.slots[number as usize] {
+            Some(job) => match job.core.set_word(address, word) {
+                Ok(()) => Reply::Done,
+                Err(_) => Reply::AddressCheck,
+            },
+            None => Reply::NoJob,
+        }
     }
 }

@@ -13,24 +13,6 @@ use blockdisk::Disk;
 use meaning::Reply;
 use words36::Word;
 
-/// Puts a word into the core of a job.
-fn deposit(jobs: &mut Jobs, number: u32, address: u32, word: Word) -> Reply
-    ensures answered { result ≡ deposit_of address (slot jobs.old number) }
-    ensures done { result ≡ Done → (there : JobRecord) × (slot jobs.old number ≡ Some there)
-        × (jobs.new ≡ slice_set jobs.old number (Some (record there { core = slice_set there.core address word }))) }
-    ensures refused { (result ≡ Done → ⊥) → jobs.new ≡ jobs.old }
-{
-    let Some(mut job) = jobs.take(number) else {
-        return Reply::NoJob;
-    };
-    let reply = match job.core.set_word(address, word) {
-        Ok(()) => Reply::Done,
-        Err(_) => Reply::AddressCheck,
-    };
-    jobs.put(number, job);
-    reply
-}
-
 /// A word of the core of a job.
 fn examine(jobs: &Jobs, number: u32, address: u32) -> Reply
     ensures { result ≡ examine_of address (slot jobs.now number) }
@@ -66,7 +48,7 @@ impl<D: Disk> Monitor<D> {
         if self.volume.has_failed() {
             return Reply::Failed;
         }
-        deposit(&mut self.jobs, job, address, word)
+        self.jobs.deposit(job, address, word)
     }
 
     /// The word of a job's core at an address: `Value`.

@@ -29,16 +29,6 @@ use Rattle.alloctab.proofs.SpaceLaws.{in_space_some}
 pub keeps_start : (s : DiskState) → Keeps s s
 keeps_start s = record { contents = λ n. refl; is_open = λ n. refl; time = passes_start s (MayLeave s) }
 
-pub keeps_on : (s s' s'' : DiskState) → Keeps s s' → Keeps s' s'' → Keeps s s''
-keeps_on s s' s'' first second = record {
-  contents = λ n. second.contents n ∙ first.contents n;
-  is_open = λ n. second.is_open n ∙ first.is_open n;
-  time = passes_on s s' s'' (MayLeave s'') (MayLeave s'')
-      (passes_weaker s s' (MayLeave s') (MayLeave s'') first.time (λ c left n closed. left n (sym (second.is_open n)
-      ∙ closed) ∙ sym (second.contents n)))
-      second.time (λ c left. left);
-}
-
 -- Walks.
 
 follows_more : (size : ℕ) (c : Contents) (first : ℕ) (es : List Extension) (n : ℕ) (words : List ℕ) (runs : List Run)

@@ -72,7 +72,8 @@ pub(crate) fn read_kept<D: Disk>(
 
     ensures kept { (D.state disk.new).honest → (body : List ℕ) → length body ≡ total
         → AreWhole (D.state disk.old).contents blocks.now.blocks
-        → HasBody (D.state disk.old).contents blocks.now.blocks body → IfOk result (λ kept. Stays body (min at (total / 128)) at count kept.place kept.words) }
+        → HasBody (D.state disk.old).contents blocks.now.blocks body
+        → IfOk result (λ kept. Stays body (min at (total / 128)) at count kept.place kept.words) }
     ensures damaged { (D.state disk.new).honest → (k : ℕ) → IsErrOf result (BadData k)
         → (0 < times k blocks.now.blocks) × ((D.state disk.old).contents k ≡ None) }
     ensures memory { IsErrOf result NoMemory → ⊥ }

@@ -58,5 +58,6 @@ pub use mode::Mode;
 pub use prime::Prime;
 pub use put::put_words;
 pub use read::read_version;
+pub use run::Run;
 pub use version::Version;
 pub use write::{rib_count, take_retrieval_blocks, write_retrieval_blocks, write_version};

@@ -59,8 +59,8 @@ impl Version {
         self.blocks.len()
     }
 
-    /// The longest runs of the data blocks.
-    pub(crate) fn runs(&self) -> &[Run]
+    /// The longest runs of the data blocks, in order.
+    pub fn runs(&self) -> &[Run]
         ensures blocks { blocks_of_runs result.now ≡ self.now.blocks }
         ensures are_longest { pairs_of result.now ≡ longest self.now.blocks }
     {

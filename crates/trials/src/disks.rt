@@ -49,11 +49,6 @@ pub(crate) fn put(rt: &impl Abort, disk: &mut MemDisk, n: u32, words: &[u64]) {
     load(rt, disk, n, &beginning(words));
 }
 
-/// Empties a disk's record of its writes and syncs, which has room then.
-pub(crate) fn forget(rt: &impl Abort, disk: &mut MemDisk) {
-    put(rt, disk, 0, &[]);
-}
-
 /// V1, with room to record so many writes and syncs: [10,20] has FOO.TXT, of two words.
 pub(crate) fn v1(rt: &impl Abort, alloc: Global, calls: usize) -> Result<MemDisk, NoMemory> {
     let mut disk = MemDisk::new(alloc, SIZE, calls)?;

@@ -7,8 +7,6 @@
 #[cfg(test)]
 mod begin_tests;
 #[cfg(test)]
-mod chain_tests;
-#[cfg(test)]
 mod disks;
 #[cfg(test)]
 mod pin_tests;
@@ -17,8 +15,4 @@ mod publish_tests;
 #[cfg(test)]
 mod put_tests;
 #[cfg(test)]
-mod supersede_tests;
-#[cfg(test)]
 mod update_tests;
-#[cfg(test)]
-mod use_tests;

@@ -1,18 +1,14 @@
 ghost use Rattle.std.specs.Prelude.{◌<◌, IsSome, IfSome};
 ghost use Rattle.volume.specs.Live.{pending_at};
 
-use crate::disks::{disk_of, expect_failure, expect_room, forget, open, opened, spoiled, v1, word};
-use blockdisk::{Disk, MemDisk, NoMemory};
-use meaning::ErrorCode;
+use crate::disks::{expect_failure, expect_room, open, spoiled, v1, word};
+use blockdisk::{Disk, NoMemory};
 use retrieval::{Mode, Prime};
 use std::alloc::Global;
 use std::process::Abort;
 use std::test::Fail;
 use volume::{CallError, Kind, Pending, VersionHandle, Volume};
-use words36::{BLOCK_WORDS, FileName, Half, Moment, Ppn, Word};
-
-/// Two words that are put.
-const WORDS: [u64; 2] = [0o123456765432, 0o765432123456];
+use words36::{FileName, Half, Moment, Ppn, Word};
 
 /// What the prime block of a new version of FOO.TXT of [10,20] says.
 fn foo(rt: &impl Abort) -> Prime {
@@ -102,132 +98,6 @@ pub(crate) fn read<D: Disk>(
     ensures live { IsSome (pending_at volume.new.core.pending pending.key) }
 {
     volume.get_words(alloc, VersionHandle::Pending(pending), block, 1000)
-}
-
-/// Puts words at the beginning, past the end, over what stands there, and none at the last block that has a number.
-fn put_some<D: Disk>(rt: &impl Abort, volume: &mut Volume<D>, pending: Pending)
-    requires live { IsSome (pending_at volume.old.core.pending pending.key) }
-    ensures live { IsSome (pending_at volume.new.core.pending pending.key) }
-{
-    expect_room(rt, volume, 44);
-    let first = [word(WORDS[0]), word(WORDS[1])];
-    expect_answer(rt, volume, pending, 1, &first, Ok(()));
-    expect_room(rt, volume, 43);
-    expect_put(rt, volume, pending, 3, Ok(()), 41);
-    expect_answer(rt, volume, pending, 1, &[word(9)], Ok(()));
-    expect_answer(rt, volume, pending, u32::MAX, &[], Ok(()));
-    expect_room(rt, volume, 41);
-}
-
-/// The words of two blocks and one word more: those that `put_some` puts, and zeros between.
-fn expect_some(rt: &impl Abort, words: &[Word]) {
-    assert_eq!(rt; words.len(), 2 * BLOCK_WORDS + 1);
-    for (place, &found) in words.iter().enumerate() {
-        let wanted = match place {
-            0 => 9,
-            1 => WORDS[1],
-            256 => 7,
-            _ => 0,
-        };
-        assert_eq!(rt; found.bits(), wanted);
-    }
-}
-
-/// Puts words into a version, and reads them.
-fn put_and_read<D: Disk>(rt: &impl Abort, alloc: Global, volume: &mut Volume<D>, pending: Pending)
-    requires live { IsSome (pending_at volume.old.core.pending pending.key) }
-{
-    put_some(rt, volume, pending);
-    match read(alloc, volume, pending, 1) {
-        Ok(words) => expect_some(rt, words.as_slice()),
-        Err(_refused) => panic!(rt; "the version isn't read"),
-    }
-}
-
-/// Words are put at the beginning, past the end, and over what stands there: zeros stand between.
-#[test]
-fn words_are_put_and_read(rt: HostRuntime) -> Result<(), Fail> {
-    let disk = v1(&rt, rt.alloc(), 100)?;
-    let Some((mut volume, pending)) = open_and_begin(&rt, rt.alloc(), disk) else {
-        panic!(rt; "no version is begun");
-    };
-    put_and_read(&rt, rt.alloc(), &mut volume, pending);
-    Ok(())
-}
-
-/// Words far behind the room are refused.
-fn expect_full<D: Disk>(rt: &impl Abort, volume: &mut Volume<D>, pending: Pending)
-    requires live { IsSome (pending_at volume.old.core.pending pending.key) }
-    ensures live { IsSome (pending_at volume.new.core.pending pending.key) }
-{
-    let full = Err(CallError::Refused(ErrorCode::NoRoom));
-    expect_put(rt, volume, pending, 45, full, 44);
-    expect_put(rt, volume, pending, 16384, full, 44);
-    expect_put(rt, volume, pending, 16385, full, 44);
-    expect_put(rt, volume, pending, u32::MAX, full, 44);
-}
-
-/// Words take all room; more are refused then, and others over those that stand there are not.
-fn take_all<D: Disk>(rt: &impl Abort, volume: &mut Volume<D>, pending: Pending)
-    requires live { IsSome (pending_at volume.old.core.pending pending.key) }
-    ensures live { IsSome (pending_at volume.new.core.pending pending.key) }
-{
-    let full = Err(CallError::Refused(ErrorCode::NoRoom));
-    expect_put(rt, volume, pending, 44, Ok(()), 0);
-    expect_put(rt, volume, pending, 45, full, 0);
-    expect_put(rt, volume, pending, 44, Ok(()), 0);
-    expect_put(rt, volume, pending, 1, Ok(()), 0);
-}
-
-/// 45 blocks are free. A version with its prime block has room for 44 more, and no file for more than 16384.
-#[test]
-fn a_version_takes_all_room(rt: HostRuntime) -> Result<(), Fail> {
-    let disk = v1(&rt, rt.alloc(), 100)?;
-    let Some((mut volume, pending)) = open_and_begin(&rt, rt.alloc(), disk) else {
-        panic!(rt; "no version is begun");
-    };
-    expect_full(&rt, &mut volume, pending);
-    take_all(&rt, &mut volume, pending);
-    Ok(())
-}
-
-/// A put is done, or the device fails in it, and the volume with it. No words are put then.
-fn put_or_fail<D: Disk>(rt: &impl Abort, volume: &mut Volume<D>, pending: Pending, is_done: bool)
-    requires live { IsSome (pending_at volume.old.core.pending pending.key) }
-{
-    let (first, next) = if is_done {
-        (Ok(()), Ok(()))
-    } else {
-        (Err(CallError::Device), Err(CallError::Failed))
-    };
-    expect_answer(rt, volume, pending, 3, &[word(7)], first);
-    expect_failure(rt, volume, !is_done);
-    expect_answer(rt, volume, pending, 3, &[], next);
-}
-
-/// The volume on a disk has four blocks in use, so that 45 are left.
-fn expect_four(rt: &impl Abort, alloc: Global, disk: MemDisk) {
-    let volume = opened(rt, alloc, disk);
-    let room = volume.room();
-    drop(volume);
-    assert_eq!(rt; room, 45);
-}
-
-/// The disk has room to record so many writes of a call that makes three, and the next one fails: the volume
-/// has failed then, and the disk has the files from before.
-#[test]
-fn each_write_of_words_may_fail(rt: HostRuntime) -> Result<(), Fail> {
-    for writes in 0..=3 {
-        let disk = v1(&rt, rt.alloc(), 1 + writes)?;
-        let Some((mut volume, pending)) = open_and_begin(&rt, rt.alloc(), disk) else {
-            panic!(rt; "no version is begun");
-        };
-        put_or_fail(&rt, &mut volume, pending, writes == 3);
-        let mut disk = disk_of(volume);
-        forget(&rt, &mut disk);
-        expect_four(&rt, rt.alloc(), disk);
-    }
-    Ok(())
 }
 
 /// Puts a word; after `NoMemory` all is as before, and the next call puts it.

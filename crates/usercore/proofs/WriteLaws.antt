@@ -1,18 +1,22 @@
 -- Writes into a core.
 use Rattle.std.proofs.Common.{◌≡◌, ◌*◌, ◌||◌, Some, None, ℕ, suc, ◌+◌, ◌<◌, ◌≤◌, ◌==◌, if◌then◌else◌, List, [], ◌∷◌}
 use Rattle.std.proofs.Common.{◌++◌, length, take, drop, refl, ap, sym, ◌∙◌, arith, get_or, drop-cons, min, slice_index}
-use Rattle.std.proofs.Common.{slice_range, slice_set}
+use Rattle.std.proofs.Common.{slice_range, slice_set, ◌-◌, inl, inr, ⊎_elim, All, slice_index_or}
 use Rattle.std.proofs.lemmas.Grind.{common_steps, elements}
+use Rattle.std.proofs.lemmas.List.Elements.{All-set}
 use Rattle.std.proofs.lemmas.Bool.Decides.{nat_tests}
 use Rattle.std.proofs.Math.ListN.{length-set}
-use Rattle.std.proofs.lemmas.List.{take_more, length-take-le, drop_all, take_min as std_take_min}
-use Rattle.words36.specs.Words.{left, join}
+use Rattle.std.proofs.lemmas.Bool.{cases_lt}
+use Rattle.std.proofs.lemmas.List.{take_more, length-take-le, drop_all, ext_get_or, take_at, get_or_default, take_min as std_take_min}
+use borrow.Rule.Slice.PartMut.{put_mid, Post-is}
+use Rattle.words36.specs.Words.{IsWord, left, join}
 use Rattle.meaning.specs.declared.area.Area.{Area}
 use Rattle.meaning.specs.CommandLists.{word_count}
 use Rattle.meaning.specs.Cores.{after_writes, placed, dealt, joined, lies_outside, first_free}
 use Rattle.meaning.specs.Rings.{base, buffer_at, buffer_words, unused_header, setup, ring_writes, buffer_writes}
 use Rattle.meaning.specs.Rings.{left_behind, filled, marked, in_writes, put_behind, target, out_writes}
-use Rattle.meaning.proofs.CoreWrites.{writes_append, writes_length}
+use Rattle.meaning.proofs.CoreWrites.{writes_append, writes_length, spared, found}
+use Rattle.usercore.specs.CoreWords.{IsCore}
 use Rattle.usercore.specs.Steps.{filled_by, emptied_by, zeroed}
 
 placed_append : (a : ℕ) (xs ys : List ℕ) → placed a (xs ++ ys) ≡ placed a xs ++ placed (a + length xs) ys
@@ -31,6 +35,73 @@ placed_more core a i w ws lt e =
       length-take-le i ws small,
       e,
     ) refl
+
+-- Words that all lie in the core, put at once.
+
+module _ (core : List ℕ) (a : ℕ) (ws : List ℕ) (fits : a + length ws ≤ length core) where
+  abbrev once : List ℕ
+  once = take a core ++ (ws ++ drop (a + length ws) core)
+
+  length-once : length once ≡ length core
+  length-once = grind (arith, common_steps)
+
+  before : (k : ℕ) → k < a → get_or once k 0 ≡ get_or core k 0
+  before k less = grind (arith, common_steps)
+
+  past : (k : ℕ) → a + length ws ≤ k → get_or once k 0 ≡ get_or core k 0
+  past k behind = grind (arith, common_steps)
+
+  within : (k : ℕ) → a ≤ k → k < a + length ws → get_or once k 0 ≡ get_or ws (k - a) 0
+  within k from less = grind (arith, common_steps)
+
+  there : (k : ℕ) → a ≤ k → k < a + length ws → get_or once k 0 ≡ get_or (after_writes core (placed a ws)) k 0
+  there k from less =
+      let back : a + (k - a) ≡ k = omega arith in
+      within k from less ∙ sym (found core a ws (k - a) (omega arith) (omega arith))
+      ∙ ap (λ m. get_or (after_writes core (placed a ws)) m 0) back
+
+  each : (k : ℕ) → get_or once k 0 ≡ get_or (after_writes core (placed a ws)) k 0
+  each k = ⊎_elim (λ less. before k less ∙ sym (spared core a ws k (inl less)))
+      (λ from. ⊎_elim (λ less. there k from less) (λ behind. past k behind ∙ sym (spared core a ws k (inr behind)))
+      (cases_lt k (a + length ws))) (cases_lt k a)
+
+  placed_at_once : once ≡ after_writes core (placed a ws)
+  placed_at_once = ext_get_or 0 once (after_writes core (placed a ws))
+      (length-once ∙ sym (writes_length core (placed a ws))) (λ k inside. each k)
+
+-- as a slice of the core shows it
+pub overwritten : (core ws all part : List ℕ) (a n : ℕ) → a + length ws ≤ length core → all ≡ core → part ≡ ws
+    → n ≡ length core
+    → take n (put_mid a (a + length ws - a) all part ++ drop (length (put_mid a (a + length ws - a) all part)) core)
+    ≡ after_writes core (placed a ws)
+overwritten core ws all part a n fits is put long =
+    let mid : put_mid a (a + length ws - a) all part ≡ once core a ws fits = ap (λ l. put_mid a (a + length ws - a) l part) is
+    ∙ ap (λ l. put_mid a (a + length ws - a) core l) put
+    ∙ ap (λ l. take a core ++ (ws ++ l)) (Post-is a (a + length ws) core (omega arith)) in
+    take_at (put_mid a (a + length ws - a) all part) (drop (length (put_mid a (a + length ws - a) all part)) core) n
+    (ap length mid ∙ length-once core a ws fits ∙ sym long)
+    ∙ mid ∙ placed_at_once core a ws fits
+
+-- one more of some words is known to be one
+pub one_seen : (ws : List ℕ) (i w : ℕ) → i < length ws → w ≡ slice_index_or ws i w → IsWord w
+    → ((k d : ℕ) → k < i → IsWord (slice_index_or ws k d)) → (k d : ℕ) → k < i + 1 → IsWord (slice_index_or ws k d)
+one_seen ws i w inside is fits before k d less = ⊎_elim (λ earlier. before k d earlier)
+    (λ from.
+    let here : k ≡ i = omega arith in
+    let same : w ≡ slice_index_or ws k d = is ∙ get_or_default ws i w d inside ∙ ap (λ n. slice_index_or ws n d) (sym here)
+    in word_of w (slice_index_or ws k d) same fits) (cases_lt k i)
+  where
+    word_of : (v w : ℕ) → v ≡ w → IsWord v → IsWord w
+    word_of v w same fits = omega (arith, same, fits)
+
+-- a core that words are put into is one still
+pub core_placed : (core ws : List ℕ) (a : ℕ) → IsCore core → All IsWord ws → IsCore (after_writes core (placed a ws))
+core_placed core [] a is all = is
+core_placed core (w ∷ ws) a is all = core_placed (slice_set core a w) ws (a + 1) (record {
+  least = omega (arith, length-set core a w, is.least);
+  most = omega (arith, length-set core a w, is.most);
+  words = All-set IsWord core a w (all 0 w (omega arith)) is.words;
+}) (λ k d inside. all (suc k) d (omega arith))
 
 -- one buffer more of a ring
 pub ring_more : (core : List ℕ) (b n k : ℕ) → after_writes (after_writes core (ring_writes b n k)) (buffer_writes b n k)

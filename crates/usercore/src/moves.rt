@@ -93,6 +93,10 @@ impl Core {
         ensures placed { self.new ≡ after_writes self.old (placed first words.now) }
         ensures length { length self.new ≡ length self.old }
     {
+        if first + words.len() <= self.length() {
+            self.overwrite(first, words);
+            return;
+        }
         for (i, word) in words.iter().enumerate() {
             self.write(first + i, *word);
         }

@@ -1,7 +1,7 @@
 ghost use Rattle.std.specs.Prelude.{◌≡◌, ◌<◌, ◌≤◌, ◌+◌, ◌↔◌, ◌⊎◌, IsOk, IfOk, IfErr, OnErr, IsErrOf, length, replicate};
-ghost use Rattle.std.specs.Prelude.{slice_index, slice_range, slice_set};
+ghost use Rattle.std.specs.Prelude.{All, slice_index, slice_range, slice_set};
 ghost use Rattle.words36.specs.Words.{IsWord};
-ghost use Rattle.meaning.specs.Cores.{first_free, rings_begin, with_right};
+ghost use Rattle.meaning.specs.Cores.{after_writes, placed, first_free, rings_begin, with_right};
 ghost use Rattle.usercore.specs.declared.error.CoreError.TheVariants.{AddressCheck};
 
 use crate::CoreError;
@@ -36,6 +36,15 @@ impl Model for Core {
     ghost view = { λ c. c.words.items };
 
     ghost invariant = { λ c. IsCore c.words.items };
+}
+
+/// Says of words what each of them ensures. Nothing is done.
+fn see_words(words: &[Word])
+    ensures { All IsWord words.now }
+{
+    for word in words {
+        let _fits = word.bits();
+    }
 }
 
 impl Core {
@@ -131,6 +140,16 @@ impl Core {
         if let Some(slot) = self.words.get_mut(address) {
             *slot = word;
         }
+    }
+
+    /// Puts words from an address on, of which all lie in the core: they are copied at once.
+    pub(crate) fn overwrite(&mut self, first: usize, words: &[Word])
+        requires { first + length words.now ≤ length self.old }
+        ensures placed { self.new ≡ after_writes self.old (placed first words.now) }
+        ensures length { length self.new ≡ length self.old }
+    {
+        see_words(words);
+        self.words[first..first + words.len()].copy_from_slice(words);
     }
 
     /// Words in a row that lie in the core.

@@ -4,7 +4,7 @@ use Rattle.std.proofs.Common.{flat_map, Some, None, refl, sym, ap, subst, arith}
 use Rattle.std.specs.List.{AllByRecursion, AllZip}
 use Rattle.std.proofs.lemmas.List.{length-take-le, length-append}
 use Rattle.words36.specs.declared.names.FileName.{FileName}
-use Rattle.blockdisk.specs.Disk.{Contents}
+use Rattle.blockdisk.specs.Disk.{Contents, IsWholeBlock}
 use Rattle.meaning.specs.Maps.{times}
 use Rattle.meaning.specs.Files.{File}
 use Rattle.meaning.specs.Costs.{blocks_of}
@@ -16,7 +16,7 @@ use Rattle.retrieval.specs.Primes.{with_length}
 use Rattle.retrieval.specs.Versions.{VersionState}
 use Rattle.retrieval.specs.Reading.{IsVersionAt}
 use Rattle.retrieval.specs.declared.prime.Prime.{Prime as PrimeValue}
-use Rattle.volume.specs.FileReading.{IsWholeBlock, IsFileFound, IsReachedTwice, IsDamagedData, IsVersionRefusal}
+use Rattle.volume.specs.FileReading.{IsFileFound, IsReachedTwice, IsDamagedData, IsVersionRefusal}
 use Rattle.volume.specs.FileReading.{IsDataRefusal, IsFileRefusal}
 use Rattle.volume.specs.declared.error.VolumeError.{VolumeError}
 use Rattle.volume.specs.declared.error.VolumeError.TheVariants.{NotVolume, BadHome, BadLog, BadDirectory, BadRetrieval}

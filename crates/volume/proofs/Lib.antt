@@ -98,3 +98,4 @@ pub mod Leaving
 pub mod MovingAcross
 pub mod MovingLaw
 pub mod MovingTransactions
+pub mod RunsRead

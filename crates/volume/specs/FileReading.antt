@@ -37,12 +37,6 @@ IsFileRefusal error = ⊥
 
 -- What is found, and what is wrong.
 
--- The block isn't damaged, and holds 128 words.
-pub record IsWholeBlock (contents : Contents) (n : ℕ) : Type 0 where
-  pub words : List ℕ
-  pub holds : contents n ≡ Some words
-  pub all : length words ≡ 128
-
 -- A file of this place stands at the prime block, and this is what is known of it: what the prime block
 -- says, and where the version lies.
 pub record IsFileFound (contents : Contents) (place : Place) (at : ℕ) (prime : PrimeValue)

@@ -1,7 +1,7 @@
 ghost use Rattle.std.specs.Prelude.{◌≡◌, ◌+◌, ◌*◌, ◌<◌, ◌≤◌, ◌⊎◌, ◌∷◌, ◌++◌, ℕ, None, IfOk, IfErr, OnOk, IsErrOf};
 ghost use Rattle.std.specs.Prelude.{length};
 ghost use Rattle.std.specs.List.{AllByRecursion};
-ghost use Rattle.blockdisk.specs.Disk.{Keeps, SameDisk, one_more};
+ghost use Rattle.blockdisk.specs.Disk.{Keeps, SameDisk, IsWholeBlock, one_more};
 ghost use Rattle.meaning.specs.Maps.{times};
 ghost use Rattle.meaning.specs.Costs.{blocks_of};
 ghost use Rattle.meaning.specs.Regions.{IsVolumeSize};
@@ -11,7 +11,7 @@ ghost use Rattle.meaning.specs.Faults.{InSpace, IsBadVersion};
 ghost use Rattle.alloctab.specs.Lists.{digit_at};
 ghost use Rattle.retrieval.specs.Reading.{IsVersionAt};
 ghost use Rattle.retrieval.specs.Writing.{rib_count};
-ghost use Rattle.volume.specs.FileReading.{IsWholeBlock, IsFileFound, IsOtherPlace, IsReachedTwice, IsDamagedData};
+ghost use Rattle.volume.specs.FileReading.{IsFileFound, IsOtherPlace, IsReachedTwice, IsDamagedData};
 ghost use Rattle.volume.specs.FileReading.{IsVersionRefusal, IsDataRefusal, IsFileRefusal};
 ghost use Rattle.volume.specs.FaultsFound.{NamesInSpace};
 ghost use Rattle.volume.specs.declared.error.VolumeError.TheVariants.{BadRetrieval, BlockTwice, Device, NoMemory};
@@ -20,8 +20,8 @@ ghost use Rattle.volume.specs.declared.error.VolumeError.TheVariants.{BadData};
 use crate::VolumeError;
 use crate::marks::mark_version;
 use alloctab::Reached;
-use blockdisk::{Disk, Fault};
-use retrieval::{Prime, RetrievalError, Version, read_version};
+use blockdisk::Disk;
+use retrieval::{Prime, RetrievalError, Run, Version, read_version};
 use std::alloc::Global;
 use words36::{FileName, Ppn};
 
@@ -83,9 +83,32 @@ fn read_named<D: Disk>(
     })
 }
 
-/// Reads each of a version's data blocks once.
+/// Looks at neighbouring blocks that are data.
+fn read_run<D: Disk>(disk: &mut D, run: Run) -> Result<(), VolumeError>
+    requires volume { IsVolumeSize (D.state disk.old).size }
+    requires inside { run.last < (D.state disk.old).size }
+    ensures ok { (D.state disk.new).honest
+        → OnOk result ((n : ℕ) → run.first ≤ n → n ≤ run.last → IsWholeBlock (D.state disk.old).contents n) }
+    ensures damaged { (D.state disk.new).honest → (k : ℕ) → IsErrOf result (BadData k)
+        → (D.state disk.old).contents k ≡ None }
+    ensures only { IfErr result IsDataRefusal }
+    ensures named { (k : ℕ) → IsErrOf result (BadData k) → (run.first ≤ k) × (k ≤ run.last) }
+    ensures keeps { (D.state disk.new).honest → Keeps (D.state disk.old) (D.state disk.new) }
+    ensures same { SameDisk (D.state disk.old) (D.state disk.new) }
+    ensures failed { IsErrOf result Device → (D.state disk.new).failures ≡ one_more (D.state disk.old).failures }
+    ensures served { (IsErrOf result Device → ⊥) → (D.state disk.new).failures ≡ (D.state disk.old).failures }
+{
+    match disk.verify(run.first, run.last + 1) {
+        Ok(None) => Ok(()),
+        Ok(Some(bad)) => Err(VolumeError::BadData(bad)),
+        Err(_) => Err(VolumeError::Device),
+    }
+}
+
+/// Looks at each of a version's data blocks once.
 fn read_data<D: Disk>(disk: &mut D, version: &Version) -> Result<(), VolumeError>
-    requires { AllByRecursion (InSpace (D.state disk.old).size) version.now.blocks }
+    requires volume { IsVolumeSize (D.state disk.old).size }
+    requires inside { AllByRecursion (InSpace (D.state disk.old).size) version.now.blocks }
     ensures ok { (D.state disk.new).honest
         → OnOk result (AllByRecursion (IsWholeBlock (D.state disk.old).contents) version.now.blocks) }
     ensures damaged { (D.state disk.new).honest → (k : ℕ) → IsErrOf result (BadData k)
@@ -97,13 +120,8 @@ fn read_data<D: Disk>(disk: &mut D, version: &Version) -> Result<(), VolumeError
     ensures failed { IsErrOf result Device → (D.state disk.new).failures ≡ one_more (D.state disk.old).failures }
     ensures served { (IsErrOf result Device → ⊥) → (D.state disk.new).failures ≡ (D.state disk.old).failures }
 {
-    for i in 0..version.count() {
-        let block = version.block_at(i);
-        match disk.read(block) {
-            Ok(_) => (),
-            Err(Fault::Damaged) => return Err(VolumeError::BadData(block)),
-            Err(Fault::Device) => return Err(VolumeError::Device),
-        }
+    for run in version.runs() {
+        read_run(disk, *run)?;
     }
     Ok(())
 }

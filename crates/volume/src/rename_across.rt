@@ -280,16 +280,20 @@ impl<D: Disk> Volume<D> {
         to: &FileName,
         protection: u16,
     ) -> Result<(), CallError>
+        // What the caller sees to.
         requires apart { to_ppn ≡ ppn → ⊥ }
         requires named { 0 < to.now.name }
         requires protection { protection < 512 }
         requires unclaimed { claims self.old.core.pending (place_of ppn name.now) ≡ false }
 
+        // What it does to the files.
         ensures crash { (D.state self.new.disk).honest → (f : Files File) → RestsAt (D.state self.old.disk) f
             → LeavesOnly (D.state self.old.disk) (D.state self.new.disk)
             (StandsForEither (D.state self.old.disk).size f (files_moved f ppn name.now to_ppn to.now protection)) }
         ensures done { (D.state self.new.disk).honest → (f : Files File) → RestsAt (D.state self.old.disk) f
             → OnOk result (RestsAt (D.state self.new.disk) (files_moved f ppn name.now to_ppn to.now protection)) }
+
+        // What it does to core, and to versions that are read and written.
         ensures moved { OnOk result ((key : ℕ) × (v : LiveVersion) × (words : List ℕ) × (puts : List Put)
             × MovesAcross (D.state self.old.disk).size self.old.core self.new.core ppn name.now to_ppn to.now protection
             key v words puts × ((D.state self.new.disk).honest → (D.state self.old.disk).contents v.at ≡ Some words)) }
@@ -300,11 +304,14 @@ impl<D: Disk> Volume<D> {
             → KeepsRead (D.state self.old.disk).contents (D.state self.new.disk).contents self.old.core }
         ensures writers { (D.state self.new.disk).honest → (IsErrOf result Device → ⊥)
             → KeepsEachWritten (D.state self.old.disk).contents (D.state self.new.disk).contents self.old.core }
+
+        // The new place has the prime block that the old one had, which has none then; each other place keeps its own.
         ensures here { OnOk result (prime_at self.new.core to_ppn to.now ≡ prime_at self.old.core ppn name.now) }
         ensures gone { OnOk result (prime_at self.new.core ppn name.now ≡ None) }
         ensures primes { OnOk result ((q : ℕ) (n : FileName) → ((q ≡ ppn) × (n ≡ name.now) → ⊥)
             → ((q ≡ to_ppn) × (n ≡ to.now) → ⊥) → prime_at self.new.core q n ≡ prime_at self.old.core q n) }
 
+        // Which error comes when, and what it leaves.
         ensures failed { self.old.failed ≡ true → IsErrOf result Failed }
         ensures broken { self.old.failed ≡ true → (self.new.disk ≡ self.old.disk) × (self.new.core ≡ self.old.core) }
         ensures given_up { IsErrOf result Failed → (self.old.failed ≡ true) ⊎ ((D.state self.new.disk).honest → ⊥) }
@@ -329,6 +336,8 @@ impl<D: Disk> Volume<D> {
         ensures device { IsErrOf result Device → self.new.failed ≡ true }
         ensures ended { IsErrOf result Failed → self.new.failed ≡ true }
         ensures still { (IsErrOf result Device → ⊥) → (IsErrOf result Failed → ⊥) → self.new.failed ≡ self.old.failed }
+
+        // The device: what failed, and how often.
         ensures counted { IsErrOf result Device → (D.state self.new.disk).failures
             ≡ one_more (D.state self.old.disk).failures }
         ensures served { (IsErrOf result Device → ⊥) → (D.state self.new.disk).failures

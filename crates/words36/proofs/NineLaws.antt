@@ -198,5 +198,8 @@ pairs_are_words (suc n) bytes small =
     All-cons IsWord (number / 2 ^ 36) ((number % 2 ^ 36) ∷ others) high_word
     (All-cons IsWord (number % 2 ^ 36) others low_word (pairs_are_words n (drop 9 bytes) (small_after bytes 9 small)))
 
+pub length-nine_words : (bytes : List ℕ) → length (nine_words bytes) ≡ 128
+length-nine_words bytes = length-pairs_in 64 bytes
+
 pub block_read : (bytes : List ℕ) → AreBytes bytes → IsBlock (nine_words bytes)
-block_read bytes small = record { long = length-pairs_in 64 bytes; each = pairs_are_words 64 bytes small }
+block_read bytes small = record { long = length-nine_words bytes; each = pairs_are_words 64 bytes small }

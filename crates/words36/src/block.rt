@@ -1,5 +1,5 @@
-ghost use Rattle.std.specs.Prelude.{◌≡◌, ◌+◌, ◌<◌, ◌≤◌, ◌^◌, ◌↔◌, ◌++◌, ℕ, List, Ok, IfOk, IfErr, IfSome, IsSome};
-ghost use Rattle.std.specs.Prelude.{IsErrOf, length, take, drop};
+ghost use Rattle.std.specs.Prelude.{◌≡◌, ◌+◌, ◌*◌, ◌/◌, ◌<◌, ◌≤◌, ◌^◌, ◌↔◌, ◌++◌, ℕ, List, Ok, IfOk, IfErr, IfSome};
+ghost use Rattle.std.specs.Prelude.{Some, IsSome, IsErrOf, length, take, drop};
 ghost use Rattle.words36.specs.Words.{IsWord};
 ghost use Rattle.words36.specs.Blocks.{IsBlock, IsFirstBadWord, block_bytes, word_bytes, number_at};
 
@@ -30,7 +30,7 @@ pub fn block_from_bytes(bytes: &[u8; BLOCK_BYTES]) -> Result<Block, WordError>
     ensures read { IfOk result (λ words. block_bytes words ≡ bytes.now) }
     ensures words { IfOk result IsBlock }
     ensures of_block { (words : List ℕ) → IsBlock words → block_bytes words ≡ bytes.now → result ≡ Ok words }
-    ensures bad { (place : ℕ) → (IsErrOf result (WordError.BadWord place) ↔ IsFirstBadWord bytes.now place) }
+    ensures bad { (place : ℕ) → (IsErrOf result (WordError.BadWord place) ↔ IsFirstBadWord 128 bytes.now place) }
     ensures refused { IfErr result (λ error. (place : ℕ) × (error ≡ WordError.BadWord place)) }
 {
     let mut block = [Word::ZERO; BLOCK_WORDS];
@@ -38,6 +38,19 @@ pub fn block_from_bytes(bytes: &[u8; BLOCK_BYTES]) -> Result<Block, WordError>
         block[place] = word_at(bytes, place).ok_or(WordError::BadWord(place))?;
     }
     Ok(block)
+}
+
+/// The place, counted from 0, of the first word in an image's bytes whose top 28 bits aren't zero; none where the bytes
+/// are those of blocks. A last word of fewer than eight bytes isn't looked at.
+pub fn first_bad_word(bytes: &[u8]) -> Option<usize>
+    ensures { (place : ℕ) → (result ≡ Some place ↔ IsFirstBadWord (length bytes.now / 8) bytes.now place) }
+{
+    for place in 0..bytes.len() / 8 {
+        if word_at(bytes, place).is_none() {
+            return Some(place);
+        }
+    }
+    None
 }
 
 /// Puts the eight bytes of a word at a place of an image's bytes.
@@ -50,8 +63,8 @@ fn put_word(bytes: &mut [u8], at: usize, word: Word)
 }
 
 /// The word at a place, counted from 0 in words.
-fn word_at(bytes: &[u8; BLOCK_BYTES], place: usize) -> Option<Word>
-    requires { place < 128 }
+fn word_at(bytes: &[u8], place: usize) -> Option<Word>
+    requires { 8 * place + 8 ≤ length bytes.now }
     ensures value { IfSome result (λ word. word ≡ number_at bytes.now place) }
     ensures fits { IsSome result ↔ (number_at bytes.now place < 2 ^ 36) }
 {

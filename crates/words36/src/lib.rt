@@ -12,7 +12,7 @@ mod sixbit;
 mod word;
 
 pub use ascii::{pack_ascii, unpack_ascii};
-pub use block::{BLOCK_BYTES, block_from_bytes, block_to_bytes};
+pub use block::{BLOCK_BYTES, block_from_bytes, block_to_bytes, first_bad_word};
 pub use date::{Day, date_of, day_of};
 pub use error::WordError;
 pub use moment::Moment;

@@ -27,7 +27,8 @@ offset_bounds-others-place g c = let b = bounds-others-place g c in omega arith
 
 pub overflow_add-list : goal.overflow_add-list
 overflow_add-list g c =
-    let b = place_inside g.E.Entry.order g.E.Entry.view c.args.others.now c.args.other_order.now c.loop-place.place-index 0
+    let b = place_inside g.E.Entry.order g.E.Entry.view c.args.others.now c.args.other_order.now
+    c.loop-place.place-index 0
     c.requires.others c.loop-place-test.true in
     let fits = c.requires.fits in
     omega arith
@@ -67,9 +68,11 @@ loop-place-preserved g c =
     c.index-others-place.is c.key-key.ensures in
     record {
       merging = merging_on g.met.E.Entry.total items (map g.E.Entry.view others) order c.args.other_order.now
-          c.requires.index c.loop-place.place-index from c.loop-place.merged.items c.loop-place.invariant.merging place 0
+          c.requires.index c.loop-place.place-index from c.loop-place.merged.items
+          c.loop-place.invariant.merging place 0
           at c.key-key.result c.merge_place.new.merged.items c.loop-place-test.true refl has
-          (subst (λ l. IsGap g.E.Entry.order items c.key-key.result l at) (take_rest order from) c.in_ok-from.ensures.gap)
+          (subst (λ l. IsGap g.E.Entry.order items c.key-key.result l at) (take_rest order from)
+          c.in_ok-from.ensures.gap)
           (c.in_ok-from.ensures.items
           ∙ (λ j. c.loop-place.merged.items ++ (take at (take_rest order from j)
           ++ (sym (length-map c.args.list.now g.E.Entry.view) j + place) ∷ [])));

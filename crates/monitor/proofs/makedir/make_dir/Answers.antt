@@ -1,15 +1,39 @@
 use Rattle.std.proofs.Common.{refl, ap, ◌∙◌}
 use Rattle.meaning.specs.Entering.{protection_or}
+use Rattle.volume.specs.Making.{files_made}
+use Rattle.volume.proofs.Publications.{unchanged_leaves}
+use Rattle.monitor.specs.DirectoryRows.{asked_owner, asked_protection}
 use Rattle.monitor.proofs.MakeDirs.{crash_asked, done_asked, keeps_core}
 use Rattle.monitor.proofs.makedir.make_dir.Goals as goal
+
+pub returns-then-lies_outside-clause-crash : goal.returns-then-lies_outside-clause-crash
+returns-then-lies_outside-clause-crash g c h f rests =
+    unchanged_leaves (g.D.Disk.state c.args.volume.now.disk) f
+    (files_made f (asked_owner c.args.job.now.core c.args.address) (asked_protection c.args.job.now.core c.args.address))
+    rests
+    (λ d left. g.met.D.Disk.only_now c.args.volume.now.disk d h left)
 
 pub returns-then-lies_outside-clause-keeps : goal.returns-then-lies_outside-clause-keeps
 returns-then-lies_outside-clause-keeps g c = keeps_core c.args.volume.now.core.pending c.args.volume.now.core.pending
     c.args.job.now c.args.job.now.core refl
 
+pub returns-in_default-clause-crash : goal.returns-in_default-clause-crash
+returns-in_default-clause-crash g c h f rests =
+    unchanged_leaves (g.D.Disk.state c.args.volume.now.disk) f
+    (files_made f (asked_owner c.args.job.now.core c.args.address) (asked_protection c.args.job.now.core c.args.address))
+    rests
+    (λ d left. g.met.D.Disk.only_now c.args.volume.now.disk d h left)
+
 pub returns-in_default-clause-keeps : goal.returns-in_default-clause-keeps
 returns-in_default-clause-keeps g c = keeps_core c.args.volume.now.core.pending c.args.volume.now.core.pending
     c.args.job.now c.refuse.new.core refl
+
+pub returns-then-ne-clause-crash : goal.returns-then-ne-clause-crash
+returns-then-ne-clause-crash g c h f rests =
+    unchanged_leaves (g.D.Disk.state c.args.volume.now.disk) f
+    (files_made f (asked_owner c.args.job.now.core c.args.address) (asked_protection c.args.job.now.core c.args.address))
+    rests
+    (λ d left. g.met.D.Disk.only_now c.args.volume.now.disk d h left)
 
 pub returns-then-ne-clause-keeps : goal.returns-then-ne-clause-keeps
 returns-then-ne-clause-keeps g c = keeps_core c.args.volume.now.core.pending c.args.volume.now.core.pending

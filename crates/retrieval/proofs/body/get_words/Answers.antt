@@ -8,7 +8,7 @@ use Rattle.blockdisk.specs.Laws.{same_disk_on}
 use Rattle.meaning.specs.Splices.{block_start}
 use Rattle.retrieval.specs.declared.error.BodyError.TheVariants.{BadData}
 use Rattle.meaning.proofs.MapLaws.{some_none}
-use Rattle.retrieval.proofs.Readings.{keeps_on}
+use Rattle.blockdisk.specs.Laws.{keeps_on}
 use Rattle.retrieval.proofs.Parts.{whole_from, damaged_at, read_more, read_all}
 use Rattle.changeset.proofs.Reading.{passed_on}
 use Rattle.retrieval.proofs.body.get_words.Goals as goal

@@ -7,7 +7,8 @@ use Rattle.meaning.specs.Costs.{blocks_of}
 use Rattle.retrieval.specs.Versions.{VersionState}
 use Rattle.retrieval.specs.Reading.{IsReadTo, IsVersionAt}
 use Rattle.retrieval.specs.declared.error.RetrievalError.TheVariants.{BadRetrieval}
-use Rattle.retrieval.proofs.Readings.{keeps_on, read_started, read_more, damaged_extension, bad_extension}
+use Rattle.blockdisk.specs.Laws.{keeps_on}
+use Rattle.retrieval.proofs.Readings.{read_started, read_more, damaged_extension, bad_extension}
 use Rattle.retrieval.proofs.Readings.{bad_overfilled, read_whole, bad_count, damaged_prime, bad_prime, extended_longer}
 use Rattle.retrieval.proofs.Readings.{none_wrong, extended_blocks, extended_ribs, falls, bad_of}
 use Rattle.retrieval.proofs.RibCounts.{started_filled, extended_filled, filled_few}

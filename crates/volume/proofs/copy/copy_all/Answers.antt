@@ -11,4 +11,5 @@ returns-in_err-copy_part-clause-last g c h k =
     let t' = g.E.Disk.state c.copy_part.new.to in
     subst (λ size. LeavesOnly t t' (HomesComeLast size s.contents t)) c.blocks-blocks.ensures
     (behind_first c.blocks-blocks.result c.min-behind_home.result s.contents t t'
-    (gate_or_end c.blocks-blocks.result c.min-behind_home.result c.min-behind_home.ensures) (c.copy_part.ensures.near k))
+    (gate_or_end c.blocks-blocks.result c.min-behind_home.result c.min-behind_home.ensures)
+    (c.copy_part.ensures.near k))

@@ -1,60 +1,66 @@
-use Rattle.std.proofs.Common.{◌≡◌, ◌<◌, ℕ, None, subst, sym, ◌∙◌, length, arith}
-use Rattle.blockdisk.specs.Laws.{same_disk_on}
+use Rattle.std.proofs.Common.{◌≡◌, ◌<◌, ◌≤◌, ◌∙◌, ℕ, None, length, get_or, subst, sym, arith}
+use Rattle.std.proofs.lemmas.Result.{err_from_is_err_and}
+use Rattle.std.specs.List.{AllByRecursion}
+use Rattle.blockdisk.specs.Disk.{IsWholeBlock}
+use Rattle.blockdisk.specs.Laws.{same_disk_on, keeps_on}
 use Rattle.meaning.specs.Maps.{times}
 use Rattle.meaning.specs.Faults.{InSpace}
-use Rattle.retrieval.proofs.Readings.{keeps_on}
-use Rattle.volume.specs.FileReading.{IsWholeBlock}
-use Rattle.volume.proofs.Marking.{all_at, all_more}
-use Rattle.directory.proofs.ChainPuts.{times_get}
+use Rattle.changeset.proofs.Reading.{passed_on}
+use Rattle.volume.proofs.RunsRead.{in_run, runs_more, each_stands, whole_before}
+use Rattle.volume.specs.declared.error.VolumeError.TheVariants.{BadData}
 use Rattle.volume.proofs.files.read_data.Goals as goal
 
-pub returns-in-Err-Damaged-clause-damaged : goal.returns-in-Err-Damaged-clause-damaged
-returns-in-Err-Damaged-clause-damaged g c h k is =
-    let below : c.loop-i.i < length c.args.version.now.blocks = let a = c.loop-i-test.true in
-    let b = c.count-i-end.ensures in omega arith in
+pub read_run-requires-clause-inside : goal.read_run-requires-clause-inside
+read_run-requires-clause-inside g c =
     let s = g.D.Disk.state c.args.disk.now in
-    let blocks = c.args.version.now.blocks in
-    let i = c.loop-i.i in
-    let block = c.block_at-block.result in
-    let same : block ≡ k = cc in
-    let none : s.contents block ≡ None = sym
-    ((c.loop-i.invariant.keeps (c.in-Err-Damaged.ensures.same.was_honest h)).contents block)
-    ∙ c.in-Err-Damaged.ensures.damaged h (cc) in
-    subst (λ (n : ℕ). (0 < times n blocks) × (s.contents n ≡ None)) same
-    (subst (λ (n : ℕ). 0 < times n blocks) (sym c.block_at-block.ensures) (times_get blocks i below), none)
+    let runs = c.runs-run-items.result.now in
+    let run = c.run-item.result in
+    let inside : InSpace s.size run.last = in_run (InSpace s.size) runs c.loop-run.run-index run c.loop-run-test.true
+    c.run-item.is (subst (AllByRecursion (InSpace s.size)) (sym c.runs-run-items.ensures.blocks) c.requires.inside)
+    run.last run.ordered (omega arith) in
+    omega (arith, inside.below, c.loop-run.invariant.same.size)
 
-pub loop-i-preserved : goal.loop-i-preserved
-loop-i-preserved g c =
-    let below : c.loop-i.i < length c.args.version.now.blocks = let a = c.loop-i-test.true in
-    let b = c.count-i-end.ensures in omega arith in
+pub returns-in_err-read_run-clause-named : goal.returns-in_err-read_run-clause-named
+returns-in_err-read_run-clause-named g c k is =
     let s = g.D.Disk.state c.args.disk.now in
-    let now = g.D.Disk.state c.loop-i.disk in
-    let new = g.D.Disk.state c.read.new.self in
+    let p = err_from_is_err_and c.from_residual.result c.from_residual.ensures.1 in
+    let named = c.read_run.ensures.named k (passed_on c.from_residual.result c.read_run.result p.0
+    c.in_err-read_run.field-0.0 (BadData k) is p.1 p.2 c.in_err-read_run.was) in
+    in_run (InSpace s.size) c.runs-run-items.result.now c.loop-run.run-index c.run-item.result c.loop-run-test.true
+    c.run-item.is (subst (AllByRecursion (InSpace s.size)) (sym c.runs-run-items.ensures.blocks) c.requires.inside) k
+    named.0 named.1
+
+pub returns-in_err-read_run-clause-damaged : goal.returns-in_err-read_run-clause-damaged
+returns-in_err-read_run-clause-damaged g c h k is =
     let blocks = c.args.version.now.blocks in
-    let i = c.loop-i.i in
-    let block = c.block_at-block.result in
+    let p = err_from_is_err_and c.from_residual.result c.from_residual.ensures.1 in
+    let bad = passed_on c.from_residual.result c.read_run.result p.0 c.in_err-read_run.field-0.0 (BadData k) is p.1 p.2
+    c.in_err-read_run.was in
+    let named = c.read_run.ensures.named k bad in (
+      in_run (λ n. 0 < times n blocks) c.runs-run-items.result.now c.loop-run.run-index c.run-item.result
+          c.loop-run-test.true c.run-item.is
+          (subst (AllByRecursion (λ n. 0 < times n blocks)) (sym c.runs-run-items.ensures.blocks) (each_stands blocks))
+          k named.0 named.1,
+      sym ((c.loop-run.invariant.keeps (c.read_run.ensures.same.was_honest h)).contents k)
+          ∙ c.read_run.ensures.damaged h k bad,
+    )
+
+pub loop-run-preserved : goal.loop-run-preserved
+loop-run-preserved g c =
+    let s = g.D.Disk.state c.args.disk.now in
+    let now = g.D.Disk.state c.loop-run.disk in
+    let new = g.D.Disk.state c.read_run.new.disk in
+    let runs = c.runs-run-items.result.now in
+    let i = c.loop-run.run-index in
+    let run = c.run-item.result in
     record {
-      same = same_disk_on s now new c.loop-i.invariant.same c.read.ensures.same;
-      served = c.in-Ok.ensures.served (λ is. cc) ∙ c.loop-i.invariant.served;
-      keeps = λ h. keeps_on s now new (c.loop-i.invariant.keeps (c.read.ensures.same.was_honest h))
-          (c.read.ensures.keeps h);
-      whole = λ h. all_more (IsWholeBlock s.contents) blocks i below
-          (c.loop-i.invariant.whole (c.read.ensures.same.was_honest h))
-          (subst (IsWholeBlock s.contents) c.block_at-block.ensures (record {
-            words = c.in-Ok.field-0;
-            holds = sym ((c.loop-i.invariant.keeps (c.read.ensures.same.was_honest h)).contents block)
-                ∙ c.in-Ok.ensures.words h;
-            all = let inv = rw c.in-Ok.is at c.read.type_inv in assumption inv;
-          }));
+      same = same_disk_on s now new c.loop-run.invariant.same c.read_run.ensures.same;
+      served = c.in_ok-read_run.ensures.served (λ is. cc) ∙ c.loop-run.invariant.served;
+      keeps = λ h. keeps_on s now new (c.loop-run.invariant.keeps (c.read_run.ensures.same.was_honest h))
+          (c.read_run.ensures.keeps h);
+      whole = λ h. runs_more (IsWholeBlock s.contents) runs i run c.loop-run-test.true c.run-item.is run.ordered
+          (c.loop-run.invariant.whole (c.read_run.ensures.same.was_honest h))
+          (λ n low high. whole_before s.contents now.contents n
+          (c.loop-run.invariant.keeps (c.read_run.ensures.same.was_honest h)).contents
+          (c.in_ok-read_run.ensures.ok h n low high));
     }
-
-pub returns-in-Err-Damaged-clause-named : goal.returns-in-Err-Damaged-clause-named
-returns-in-Err-Damaged-clause-named g c k is =
-    let below : c.loop-i.i < length c.args.version.now.blocks = let a = c.loop-i-test.true in
-    let b = c.count-i-end.ensures in omega arith in
-    let size = (g.D.Disk.state c.args.disk.now).size in
-    let blocks = c.args.version.now.blocks in
-    let i = c.loop-i.i in
-    let block = c.block_at-block.result in
-    let same : block ≡ k = cc in
-    subst (InSpace size) (sym c.block_at-block.ensures ∙ same) (all_at (InSpace size) blocks i c.requires below)

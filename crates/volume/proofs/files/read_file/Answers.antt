@@ -2,10 +2,10 @@ use Rattle.std.proofs.Common.{◌<◌, ◌∷◌, ◌++◌, ℕ, sym, subst, ◌
 use Rattle.std.specs.List.{AllByRecursion}
 use Rattle.std.proofs.lemmas.Result.{err_from_is_err_and}
 use Rattle.blockdisk.specs.Laws.{same_contents}
-use Rattle.blockdisk.specs.Disk.{Contents}
+use Rattle.blockdisk.specs.Disk.{Contents, IsWholeBlock}
 use Rattle.meaning.specs.Faults.{InSpace}
-use Rattle.retrieval.proofs.Readings.{keeps_on}
-use Rattle.volume.specs.FileReading.{IsWholeBlock, IsVersionRefusal, IsDataRefusal, IsFileRefusal}
+use Rattle.blockdisk.specs.Laws.{keeps_on}
+use Rattle.volume.specs.FileReading.{IsVersionRefusal, IsDataRefusal, IsFileRefusal}
 use Rattle.volume.specs.declared.error.VolumeError.TheVariants.{BadRetrieval, BlockTwice, NoMemory, BadData}
 use Rattle.volume.specs.FaultsFound.{NamesInSpace}
 use Rattle.volume.proofs.FoundDirectories.{all_behind_all, all_times_at}

@@ -7,7 +7,7 @@ use Rattle.meaning.specs.Faults.{InSpace}
 use Rattle.meaning.specs.Directories.{MasterEntry}
 use Rattle.meaning.specs.Maps.{total}
 use Rattle.alloctab.specs.Lists.{digit_at}
-use Rattle.retrieval.proofs.Readings.{keeps_on}
+use Rattle.blockdisk.specs.Laws.{keeps_on}
 use Rattle.volume.specs.declared.error.VolumeError.TheVariants.{Device}
 use Rattle.volume.specs.Cores.{master_view, known_directory}
 use Rattle.volume.specs.Known.{KnownDirectory, reaches_in_known, IsWholeDirectory}

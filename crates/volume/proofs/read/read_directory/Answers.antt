@@ -8,7 +8,7 @@ use Rattle.meaning.specs.Faults.{InSpace}
 use Rattle.meaning.specs.Directories.{FileEntry}
 use Rattle.alloctab.specs.Lists.{digit_at}
 use Rattle.directory.specs.Chains.{viewed}
-use Rattle.retrieval.proofs.Readings.{keeps_on}
+use Rattle.blockdisk.specs.Laws.{keeps_on}
 use Rattle.volume.specs.Cores.{file_view, known_version}
 use Rattle.volume.specs.Found.{IsOnlySpace, AreFilesRead}
 use Rattle.volume.specs.FaultsFound.{NamesInSpace, IsFaultOfFiles, IsFaultOfDirectory}

@@ -5,7 +5,7 @@ use Rattle.meaning.specs.Stands.{place_of}
 use Rattle.meaning.specs.Faults.{InSpace}
 use Rattle.meaning.specs.Directories.{FileEntry}
 use Rattle.alloctab.specs.Lists.{digit_at}
-use Rattle.retrieval.proofs.Readings.{keeps_on}
+use Rattle.blockdisk.specs.Laws.{keeps_on}
 use Rattle.volume.specs.Cores.{file_view, known_version}
 use Rattle.volume.specs.FaultsFound.{NamesInSpace, IsFaultOfFile, IsFaultOfFiles}
 use Rattle.volume.specs.declared.error.VolumeError.TheVariants.{Device}

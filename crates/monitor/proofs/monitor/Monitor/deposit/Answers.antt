@@ -7,11 +7,11 @@ use Rattle.monitor.proofs.monitor.Monitor.deposit.Goals as goal
 
 pub invariant_of-self : goal.invariant_of-self
 invariant_of-self g c serves = (
-  deposit_keyed c.self.inside.volume.core.pending c.self.inside.jobs c.deposit.new.jobs c.args.job c.args.address
+  deposit_keyed c.self.inside.volume.core.pending c.self.inside.jobs c.deposit.new.self c.args.job c.args.address
       c.args.word c.deposit.result (c.self.invariant (sym c.has_failed.ensures.value ∙ c.if-has_failed.false)).0
       c.deposit.ensures.done c.deposit.ensures.refused,
   (c.self.invariant (sym c.has_failed.ensures.value ∙ c.if-has_failed.false)).1,
-  deposit_reading c.self.inside.volume.core.live c.self.inside.jobs c.deposit.new.jobs c.args.job c.args.address
+  deposit_reading c.self.inside.volume.core.live c.self.inside.jobs c.deposit.new.self c.args.job c.args.address
       c.args.word c.deposit.result (c.self.invariant (sym c.has_failed.ensures.value ∙ c.if-has_failed.false)).2
       c.deposit.ensures.done c.deposit.ensures.refused,
 )
@@ -21,10 +21,10 @@ returns-clause-answered g c =
     let d = g.D.Disk.state c.self.inside.volume.disk in
     let map = c.self.inside.volume.core in
     subst (λ m. (old : Service) → Serves (g.D.Disk.state m.disk) m.map m.failed m.jobs old
-    → (new : Service) × Serves d map c.self.inside.volume.failed c.deposit.new.jobs new
+    → (new : Service) × Serves d map c.self.inside.volume.failed c.deposit.new.self new
     × Answers (pack_of (g.D.Disk.state m.disk)) old (Deposit c.args.job c.args.address c.args.word) c.deposit.result
     new) c.self.view_is
-    (deposit_answered d map c.self.inside.volume.failed c.self.inside.jobs c.deposit.new.jobs c.args.job
+    (deposit_answered d map c.self.inside.volume.failed c.self.inside.jobs c.deposit.new.self c.args.job
     c.args.address c.args.word c.deposit.result (sym c.has_failed.ensures.value
     ∙ c.if-has_failed.false) (c.self.invariant (sym c.has_failed.ensures.value ∙ c.if-has_failed.false)).0
     (c.self.invariant (sym c.has_failed.ensures.value ∙ c.if-has_failed.false)).2
