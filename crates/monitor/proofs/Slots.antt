@@ -1,9 +1,8 @@
--- A job that is taken out of its slot, and put back.
-use Rattle.std.proofs.Common.{◌≡◌, ℕ, zero, suc, List, [], ◌∷◌, Option, None, Some, refl, ap, ◌∙◌, slice_set, replicate}
-use Rattle.meaning.specs.Cores.{first_free, rings_begin, with_right}
+-- Slots of jobs: what lies in one, and what a list is whose slot is set.
+use Rattle.std.proofs.Common.{◌≡◌, ◌<◌, ◌≤◌, ℕ, zero, suc, List, [], ◌∷◌, Option, None, Some, refl, ap, sym, ◌∙◌}
+use Rattle.std.proofs.Common.{slice_set, slice_index_or, length, arith}
 use Rattle.meaning.specs.Jobs.{slot}
-use Rattle.meaning.proofs.SlotLaws.{set-slot, slot-set_other}
-use Rattle.monitor.specs.Sides.{reset_job}
+use Rattle.meaning.proofs.SlotLaws.{set-slot}
 use Rattle.monitor.specs.declared.job.Job.{Job}
 
 pub set-twice : {X : Type 0} (xs : List X) (n : ℕ) (x y : X) → slice_set (slice_set xs n x) n y ≡ slice_set xs n y
@@ -11,26 +10,27 @@ set-twice [] n x y = refl
 set-twice (z ∷ xs) zero x y = refl
 set-twice (z ∷ xs) (suc n) x y = ap (λ ws. z ∷ ws) (set-twice xs n x y)
 
--- put back after it was taken out
-pub put_back : {X : Type 0} (old taken new : List (Option X)) (n : ℕ) (x : Option X) → taken ≡ slice_set old n None
-    → new ≡ slice_set taken n x → new ≡ slice_set old n x
-put_back old taken new n x out back = back ∙ ap (λ xs. slice_set xs n x) out ∙ set-twice old n None x
-
--- the other slots are as they were
-pub others_back : {X : Type 0} (old taken new : List (Option X)) (n : ℕ) (x : Option X) → taken ≡ slice_set old n None
-    → new ≡ slice_set taken n x → (m : ℕ) → (m ≡ n → ⊥) → slot new m ≡ slot old m
-others_back old taken new n x out back m other = ap (λ xs. slot xs m) (put_back old taken new n x out back)
-    ∙ slot-set_other old n m x other
-
--- the same, after a reset
-pub reset_back : (old taken new : List (Option Job)) (n : ℕ) (there : Job) (core : List ℕ)
-    → taken ≡ slice_set old n None
-    → new ≡ slice_set taken n (Some (record there { core = core; channels = replicate 16 None }))
-    → core ≡ with_right there.core first_free rings_begin → new ≡ slice_set old n (Some (reset_job there))
-reset_back old taken new n there core out back is = put_back old taken new n _ out back
-    ∙ ap (λ words. slice_set old n (Some (record there { core = words; channels = replicate 16 None }))) is
-
 -- a job that comes back as it was leaves all as they were
 pub unchanged : (old new : List (Option Job)) (n : ℕ) (job job' : Job) → slot old n ≡ Some job
     → new ≡ slice_set old n (Some job') → job' ≡ job → new ≡ old
 unchanged old new n job job' at set same = set ∙ ap (λ j. slice_set old n (Some j)) same ∙ set-slot old n job at
+
+-- What lies in a slot, as the list shows it.
+
+pub slot_past : (jobs : List (Option Job)) (n : ℕ) → length jobs ≤ n → slot jobs n ≡ None
+slot_past [] n past = refl
+slot_past (x ∷ xs) zero past = absurd (omega arith)
+slot_past (x ∷ xs) (suc n) past = slot_past xs n (omega arith)
+
+pub slot_there : (jobs : List (Option Job)) (n : ℕ) (entry there : Option Job) → n < length jobs
+    → entry ≡ slice_index_or jobs n entry → entry ≡ there → slot jobs n ≡ there
+slot_there [] n entry there below at is = absurd (omega arith)
+slot_there (x ∷ xs) zero entry there below at is = sym at ∙ is
+slot_there (x ∷ xs) (suc n) entry there below at is = slot_there xs n entry there (omega arith) at is
+
+-- put back as it lies there
+pub set_same : (jobs : List (Option Job)) (n : ℕ) (entry : Option Job) → entry ≡ slice_index_or jobs n entry
+    → slice_set jobs n entry ≡ jobs
+set_same [] n entry at = refl
+set_same (x ∷ xs) zero entry at = ap (λ y. y ∷ xs) at
+set_same (x ∷ xs) (suc n) entry at = ap (λ ys. x ∷ ys) (set_same xs n entry at)

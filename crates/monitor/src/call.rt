@@ -76,7 +76,7 @@ fn answer<D: Disk>(
     }
 }
 
-/// A call of the job of a number, at a moment that the disk can hold: the job is taken out of its slot and put back.
+/// A call of the job of a number, at a moment that the disk can hold: the job is served where it lies.
 fn serve<D: Disk>(
     alloc: Global,
     volume: &mut Volume<D>,
@@ -94,12 +94,13 @@ fn serve<D: Disk>(
     ensures serving { IsServing D.state volume.old.disk volume.new.disk volume.old.core volume.new.core
         volume.new.failed jobs.old jobs.new number call.now moment result }
 {
-    let Some(mut job) = jobs.take(number) else {
+    if number as usize >= jobs.slots.len() {
         return Reply::NoJob;
-    };
-    let reply = answer(alloc, volume, &mut job, call, moment);
-    jobs.put(number, job);
-    reply
+    }
+    match &mut jobs.slots[number as usize] {
+        Some(job) => answer(alloc, volume, job, call, moment),
+        None => Reply::NoJob,
+    }
 }
 
 impl<D: Disk> Monitor<D> {
@@ -110,6 +111,7 @@ impl<D: Disk> Monitor<D> {
     /// names one above 15; `NoMemory` where core can't grow, with everything as before; `Device` where the device
     /// failed, and then `Failed` to every call. A later start finds the files from before the call or those after
     /// it.
+    #[inline(never)] // words that are put and looked at don't pay for its place on the stack
     pub fn call(&mut self, alloc: Global, job: u32, call: &Call, moment: Moment) -> Reply
         ensures answered { (D.state self.new.disk).honest → (old : Service)
             → Serves (D.state self.old.disk) self.old.map self.old.failed self.old.jobs old

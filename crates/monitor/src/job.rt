@@ -69,7 +69,7 @@ pub fn all_closed() -> [Option<Channel>; CHANNELS]
 /// The jobs that are logged in, by their numbers.
 #[derive(Drop)]
 pub struct Jobs {
-    slots: Vec<Option<Job>>,
+    pub(crate) slots: Vec<Option<Job>>,
 }
 
 impl Model for Jobs {
@@ -116,18 +116,6 @@ impl Jobs {
         self.slots.get(number as usize)?.as_ref()
     }
 
-    /// Takes a job out of its slot, to be put back.
-    pub fn take(&mut self, number: u32) -> Option<Job>
-        ensures found { IfSome result (λ job. (slot self.old number ≡ Some job)
-            × (self.new ≡ slice_set self.old number None)) }
-        ensures none { result ≡ None → (slot self.old number ≡ None) × (self.new ≡ self.old) }
-    {
-        let Some(_there) = self.job(number) else {
-            return None;
-        };
-        self.slots[number as usize].take()
-    }
-
     /// Puts a job into its slot; one of another number than 0 to 64 is lost.
     pub fn put(&mut self, number: u32, job: Job)
         ensures { self.new ≡ slice_set self.old number (Some job) }
@@ -144,12 +132,16 @@ impl Jobs {
             × (self.new ≡ slice_set self.old number (Some (reset_job job))) }
         ensures none { IsFalse result → (slot self.old number ≡ None) × (self.new ≡ self.old) }
     {
-        let Some(mut job) = self.take(number) else {
+        if number as usize >= self.slots.len() {
             return false;
-        };
-        job.reset();
-        self.put(number, job);
-        true
+        }
+        match &mut self.slots[number as usize] {
+            Some(job) => {
+                job.reset();
+                true
+            }
+            None => false,
+        }
     }
 
     /// Puts a word into the core of a job, where the job lies.

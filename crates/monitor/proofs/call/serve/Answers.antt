@@ -1,38 +1,66 @@
-use Rattle.std.proofs.Common.{Some}
+use Rattle.std.proofs.Common.{◌≡◌, ◌∙◌, Some, None, ap, refl, subst, arith, length, slice_set}
+use Rattle.meaning.specs.Jobs.{slot}
 use Rattle.monitor.proofs.Promised.{nobody_serves, set_serves}
-use Rattle.monitor.proofs.Slots.{put_back}
+use Rattle.monitor.proofs.Slots.{slot_past, slot_there, set_same}
 use Rattle.monitor.proofs.call.serve.Goals as goal
+use Rattle.monitor.proofs.call.serve.Goals.{in-Some, in-None}
 
-pub returns-in_default : goal.returns-in_default
-returns-in_default g c = record {
+pub returns-then-number-len : goal.returns-then-number-len
+returns-then-number-len g c = record {
   serving =
       let volume = c.args.volume.now in
-      let none = c.take.ensures.none c.in_default.is in
+      let none : slot c.args.jobs.now c.args.number ≡ None = slot_past c.args.jobs.now c.args.number
+      (omega (arith, ap length c.jobs.view_is)) in
       nobody_serves g.D.Disk.state g.met.D.Disk.only_now volume.disk volume.core volume.failed c.args.jobs.now
-      c.take.new.self c.args.number c.args.call.now c.args.moment c.requires.alive c.requires.timely
-      c.requires.keyed c.requires.placed c.requires.reading none.0 none.1;
+      c.args.jobs.now c.args.number c.args.call.now c.args.moment c.requires.alive c.requires.timely
+      c.requires.keyed c.requires.placed c.requires.reading none refl;
 }
 
-pub answer-reply-requires-clause-ready : goal.answer-reply-requires-clause-ready
-answer-reply-requires-clause-ready g c = record {
+pub answer-requires-clause-ready : goal.answer-requires-clause-ready
+answer-requires-clause-ready g c = record {
   sound = c.requires.sound;
   alive = c.requires.alive;
   placed = c.requires.placed;
   jobs = c.args.jobs.now;
   number = c.args.number;
-  among = record { there = c.in-Some.ensures.found.0; keyed = c.requires.keyed; reading = c.requires.reading };
+  among = record {
+    there = subst (λ js. slot js c.args.number ≡ Some c.in-Some.job) c.jobs.view_is
+        (slot_there c.jobs.inside.slots.items c.args.number c.index_mut.result.now (Some c.in-Some.job) (omega arith)
+        c.index_mut.ensures.value c.in-Some.is);
+    keyed = c.requires.keyed;
+    reading = c.requires.reading;
+  };
 }
 
 pub returns : goal.returns
-returns g c = record {
-  serving =
-      let old = c.args.volume.now in
-      let new = c.answer-reply.new.volume in
-      let set = put_back c.args.jobs.now c.take.new.self c.put.new.self c.args.number
-      (Some c.answer-reply.new.job) c.in-Some.ensures.found.1 c.put.ensures in
-      set_serves g.D.Disk.state g.met.D.Disk.only_now old.disk new.disk old.core new.core new.failed c.args.jobs.now
-      c.put.new.self c.args.number c.in-Some.job c.answer-reply.new.job c.args.call.now c.args.moment
-      c.answer-reply.result set
-      (c.answer-reply.ensures.serving c.args.jobs.now c.args.number
-      (record { there = c.in-Some.ensures.found.0; keyed = c.requires.keyed; reading = c.requires.reading }));
-}
+returns g c =
+    let volume = c.args.volume.now in
+    let jobs = c.args.jobs.now in
+    let items = c.jobs.inside.slots.items in
+    elim c.match-index_mut.branch [
+      | in-Some w ↦
+          let there : slot jobs c.args.number ≡ Some w.in-Some.job =
+          subst (λ js. slot js c.args.number ≡ Some w.in-Some.job) c.jobs.view_is
+          (slot_there items c.args.number c.index_mut.result.now (Some w.in-Some.job) (omega arith)
+          c.index_mut.ensures.value w.in-Some.is) in
+          let new = w.answer.new.volume in
+          let set = ap (λ js. slice_set js c.args.number (Some w.answer.new.job)) c.jobs.view_is in
+          rw (w.volume-is, w.result-is, w.jobs-inside-is) (record {
+            serving = set_serves g.D.Disk.state g.met.D.Disk.only_now volume.disk new.disk volume.core new.core
+                new.failed jobs (slice_set items c.args.number (Some w.answer.new.job)) c.args.number w.in-Some.job
+                w.answer.new.job c.args.call.now c.args.moment w.answer.result set
+                (w.answer.ensures.serving jobs c.args.number
+                (record { there = there; keyed = c.requires.keyed; reading = c.requires.reading }));
+          })
+      | in-None w ↦
+          let none : slot jobs c.args.number ≡ None = subst (λ js. slot js c.args.number ≡ None) c.jobs.view_is
+          (slot_there items c.args.number c.index_mut.result.now None (omega arith) c.index_mut.ensures.value
+          w.in-None.is) in
+          let same : slice_set items c.args.number c.index_mut.result.now ≡ jobs =
+          set_same items c.args.number c.index_mut.result.now c.index_mut.ensures.value ∙ c.jobs.view_is in
+          rw (w.volume-is, w.result-is, w.jobs-inside-is) (record {
+            serving = nobody_serves g.D.Disk.state g.met.D.Disk.only_now volume.disk volume.core volume.failed jobs
+                (slice_set items c.args.number c.index_mut.result.now) c.args.number c.args.call.now c.args.moment
+                c.requires.alive c.requires.timely c.requires.keyed c.requires.placed c.requires.reading none same;
+          })
+    ]
