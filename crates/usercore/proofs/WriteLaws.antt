@@ -7,7 +7,8 @@ use Rattle.std.proofs.lemmas.List.Elements.{All-set}
 use Rattle.std.proofs.lemmas.Bool.Decides.{nat_tests}
 use Rattle.std.proofs.Math.ListN.{length-set}
 use Rattle.std.proofs.lemmas.Bool.{cases_lt}
-use Rattle.std.proofs.lemmas.List.{take_more, length-take-le, drop_all, ext_get_or, take_at, get_or_default, take_min as std_take_min}
+use Rattle.std.proofs.lemmas.List.{take_more, length-take-le, drop_all, ext_get_or, take_at, get_or_default}
+use Rattle.std.proofs.lemmas.List.{take_min as std_take_min}
 use borrow.Rule.Slice.PartMut.{put_mid, Post-is}
 use Rattle.words36.specs.Words.{IsWord, left, join}
 use Rattle.meaning.specs.declared.area.Area.{Area}
@@ -75,7 +76,8 @@ pub overwritten : (core ws all part : List ℕ) (a n : ℕ) → a + length ws �
     → take n (put_mid a (a + length ws - a) all part ++ drop (length (put_mid a (a + length ws - a) all part)) core)
     ≡ after_writes core (placed a ws)
 overwritten core ws all part a n fits is put long =
-    let mid : put_mid a (a + length ws - a) all part ≡ once core a ws fits = ap (λ l. put_mid a (a + length ws - a) l part) is
+    let mid : put_mid a (a + length ws - a) all part ≡ once core a ws fits =
+    ap (λ l. put_mid a (a + length ws - a) l part) is
     ∙ ap (λ l. put_mid a (a + length ws - a) core l) put
     ∙ ap (λ l. take a core ++ (ws ++ l)) (Post-is a (a + length ws) core (omega arith)) in
     take_at (put_mid a (a + length ws - a) all part) (drop (length (put_mid a (a + length ws - a) all part)) core) n
@@ -88,7 +90,8 @@ pub one_seen : (ws : List ℕ) (i w : ℕ) → i < length ws → w ≡ slice_ind
 one_seen ws i w inside is fits before k d less = ⊎_elim (λ earlier. before k d earlier)
     (λ from.
     let here : k ≡ i = omega arith in
-    let same : w ≡ slice_index_or ws k d = is ∙ get_or_default ws i w d inside ∙ ap (λ n. slice_index_or ws n d) (sym here)
+    let same : w ≡ slice_index_or ws k d = is ∙ get_or_default ws i w d inside
+    ∙ ap (λ n. slice_index_or ws n d) (sym here)
     in word_of w (slice_index_or ws k d) same fits) (cases_lt k i)
   where
     word_of : (v w : ℕ) → v ≡ w → IsWord v → IsWord w

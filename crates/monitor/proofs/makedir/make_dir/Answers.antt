@@ -9,8 +9,8 @@ use Rattle.monitor.proofs.makedir.make_dir.Goals as goal
 pub returns-then-lies_outside-clause-crash : goal.returns-then-lies_outside-clause-crash
 returns-then-lies_outside-clause-crash g c h f rests =
     unchanged_leaves (g.D.Disk.state c.args.volume.now.disk) f
-    (files_made f (asked_owner c.args.job.now.core c.args.address) (asked_protection c.args.job.now.core c.args.address))
-    rests
+    (files_made f (asked_owner c.args.job.now.core c.args.address)
+    (asked_protection c.args.job.now.core c.args.address)) rests
     (λ d left. g.met.D.Disk.only_now c.args.volume.now.disk d h left)
 
 pub returns-then-lies_outside-clause-keeps : goal.returns-then-lies_outside-clause-keeps
@@ -20,8 +20,8 @@ returns-then-lies_outside-clause-keeps g c = keeps_core c.args.volume.now.core.p
 pub returns-in_default-clause-crash : goal.returns-in_default-clause-crash
 returns-in_default-clause-crash g c h f rests =
     unchanged_leaves (g.D.Disk.state c.args.volume.now.disk) f
-    (files_made f (asked_owner c.args.job.now.core c.args.address) (asked_protection c.args.job.now.core c.args.address))
-    rests
+    (files_made f (asked_owner c.args.job.now.core c.args.address)
+    (asked_protection c.args.job.now.core c.args.address)) rests
     (λ d left. g.met.D.Disk.only_now c.args.volume.now.disk d h left)
 
 pub returns-in_default-clause-keeps : goal.returns-in_default-clause-keeps
@@ -31,8 +31,8 @@ returns-in_default-clause-keeps g c = keeps_core c.args.volume.now.core.pending 
 pub returns-then-ne-clause-crash : goal.returns-then-ne-clause-crash
 returns-then-ne-clause-crash g c h f rests =
     unchanged_leaves (g.D.Disk.state c.args.volume.now.disk) f
-    (files_made f (asked_owner c.args.job.now.core c.args.address) (asked_protection c.args.job.now.core c.args.address))
-    rests
+    (files_made f (asked_owner c.args.job.now.core c.args.address)
+    (asked_protection c.args.job.now.core c.args.address)) rests
     (λ d left. g.met.D.Disk.only_now c.args.volume.now.disk d h left)
 
 pub returns-then-ne-clause-keeps : goal.returns-then-ne-clause-keeps
