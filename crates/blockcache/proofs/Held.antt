@@ -11,7 +11,7 @@ use Rattle.lru.specs.LruCache.{lru_cache, put_entries, promoted}
 use Rattle.lru.proofs.Splits.{Contains-cons, Contains-nil}
 use Rattle.lru.proofs.CallerLemmas.{Contains-put_entries, Contains-promoted, Contains-lookup, Contains-remove_entry}
 use Rattle.blockdisk.specs.Disk.{Contents}
-use Rattle.blockcache.specs.Cache.{Kept, AreHeld, IsKept, used, without}
+use Rattle.blockcache.specs.Cache.{Kept, AreHeld, IsCached, used, without}
 
 same_key : (n m : ℕ) → nat_eq n m ≡ true → m ≡ n
 same_key n m e = grind (arith, nat_tests)
@@ -64,7 +64,7 @@ held_put kept contents n words held here e is = elim (put_entry kept n words e i
   | inr put ↦ ap contents put.0 ∙ here ∙ ap (λ w. Some w) (sym put.1)
 ]
 
-pub held_kept : (kept new : Kept) (contents : Contents) (n : ℕ) (words : List ℕ) → IsKept n words kept new
+pub held_kept : (kept new : Kept) (contents : Contents) (n : ℕ) (words : List ℕ) → IsCached n words kept new
     → AreHeld kept.entries contents → contents n ≡ Some words → AreHeld new.entries contents
 held_kept kept new contents n words is held here = ⊎_elim
     (λ put. subst (λ (c : Kept). AreHeld c.entries contents) (sym put) (held_put kept contents n words held here))
@@ -73,7 +73,7 @@ held_kept kept new contents n words is held here = ⊎_elim
 -- a put changes the cache, or is refused and changes nothing
 pub put_or_not : {R E : Type 0} (answer : Result R E) (kept new : Kept) (n : ℕ) (words : List ℕ)
     → OnOk answer (new ≡ lru_cache (put_entries nat_eq kept n words) kept.cap) → OnErr answer (new ≡ kept)
-    → IsKept n words kept new
+    → IsCached n words kept new
 put_or_not (Ok old) kept new n words ok err = inl ok
 put_or_not (Err refused) kept new n words ok err = inr err
 

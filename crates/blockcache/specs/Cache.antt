@@ -26,5 +26,5 @@ emptied kept = lru_cache [] kept.cap
 
 -- these words were put for block n, in the place of the block used longest ago where there is no room; or no
 -- memory was found for them, and nothing changed
-abbrev pub IsKept : ℕ → List ℕ → Kept → Kept → Type 0
-IsKept n words kept new = (new ≡ lru_cache (put_entries nat_eq kept n words) kept.cap) ⊎ (new ≡ kept)
+abbrev pub IsCached : ℕ → List ℕ → Kept → Kept → Type 0
+IsCached n words kept new = (new ≡ lru_cache (put_entries nat_eq kept n words) kept.cap) ⊎ (new ≡ kept)

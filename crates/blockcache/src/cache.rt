@@ -3,7 +3,7 @@ ghost use Rattle.std.specs.NonZero.{non_zero_usize_get};
 ghost use Rattle.std.specs.Map.{lookup};
 ghost use Rattle.lru.specs.LruCache.{lru_cache};
 ghost use Rattle.blockdisk.specs.Calls.{IsRead, IsVerify, IsWrite, IsSync};
-ghost use Rattle.blockcache.specs.Cache.{AreHeld, IsKept, used, without, emptied};
+ghost use Rattle.blockcache.specs.Cache.{AreHeld, IsCached, used, without, emptied};
 
 use blockdisk::{Disk, Fault, NoMemory};
 use lru::LruCache;
@@ -66,7 +66,7 @@ impl<D: Disk> Cached<D> {
     /// Keeps what a block holds, where memory is found.
     fn keep(&mut self, n: u32, block: &Block)
         requires { (D.state self.old.inner).honest → (D.state self.old.inner).contents n ≡ Some block.now }
-        ensures kept { IsKept n block.now self.old.cache self.new.cache }
+        ensures kept { IsCached n block.now self.old.cache self.new.cache }
         ensures inner { self.new.inner ≡ self.old.inner }
     {
         let _kept = self.cache.put(n, *block);
@@ -102,7 +102,7 @@ impl<D: Disk> Disk for Cached<D> {
             × (self.new.inner ≡ self.old.inner) × (self.new.cache ≡ used n self.old.cache)) }
         ensures reads { IsRead n (D.state self.old.inner) (D.state self.new.inner) result }
         ensures keeps_block { lookup (nat_eq n) self.old.cache.entries ≡ None
-            → IfOk result (λ block. IsKept n block self.old.cache self.new.cache) }
+            → IfOk result (λ block. IsCached n block self.old.cache self.new.cache) }
         ensures keeps_none { lookup (nat_eq n) self.old.cache.entries ≡ None
             → OnErr result (self.new.cache ≡ self.old.cache) }
     {
@@ -126,7 +126,7 @@ impl<D: Disk> Disk for Cached<D> {
     fn write(&mut self, n: u32, block: &Block) -> Result<(), Fault>
         requires { n < (D.state self.old.inner).size }
         ensures writes { IsWrite n block.now (D.state self.old.inner) (D.state self.new.inner) result }
-        ensures keeps_block { OnOk result (IsKept n block.now (without n self.old.cache) self.new.cache) }
+        ensures keeps_block { OnOk result (IsCached n block.now (without n self.old.cache) self.new.cache) }
         ensures forgets { OnErr result (self.new.cache ≡ without n self.old.cache) }
         ensures none { OnErr result (lookup (nat_eq n) self.new.cache.entries ≡ None) }
     {

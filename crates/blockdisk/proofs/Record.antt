@@ -7,12 +7,13 @@ use Rattle.std.proofs.lemmas.List.{take_all, take-append-le, get_or-set_same, ge
 use Rattle.std.proofs.lemmas.List.{get_or_past, length-replicate}
 use Rattle.std.proofs.Math.ListN.{length-set}
 use Rattle.blockdisk.specs.Disk.{Contents, MayLeave, Passes, Writes, Syncs}
-use Rattle.blockdisk.specs.Memory.{Memory, Moment, after_call, after_calls, moment_at, Leaves, moment_now, memory_state}
+use Rattle.blockdisk.specs.Memory.{Memory, DiskMoment, after_call, after_calls}
+use Rattle.blockdisk.specs.Memory.{moment_at, Leaves, moment_now, memory_state}
 use Rattle.blockdisk.specs.Memory.{IsReplayed, written, synced}
 use Rattle.blockdisk.specs.declared.memory.DiskCall.{DiskCall}
 use Rattle.blockdisk.specs.declared.memory.DiskCall.TheVariants.{Write, Sync}
 
-after_append : (m : Moment) (xs ys : List DiskCall) → after_calls m (xs ++ ys) ≡ after_calls (after_calls m xs) ys
+after_append : (m : DiskMoment) (xs ys : List DiskCall) → after_calls m (xs ++ ys) ≡ after_calls (after_calls m xs) ys
 after_append m [] ys = refl
 after_append m (x ∷ xs) ys = after_append (after_call m x) xs ys
 
@@ -23,7 +24,7 @@ one_longer calls call = omega (arith, length-append calls (call ∷ []))
 abbrev further : Memory → DiskCall → List (Option (List ℕ)) → List Bool → Memory
 further m call blocks opened = record m { blocks = blocks; calls = m.calls ++ call ∷ []; opened = opened }
 
-abbrev at_first : Memory → Moment
+abbrev at_first : Memory → DiskMoment
 at_first m = record { blocks = m.first; opened = replicate (length m.first) false }
 
 module _ (m : Memory) (call : DiskCall) (blocks : List (Option (List ℕ))) (opened : List Bool) where
@@ -57,13 +58,13 @@ module _ (m : Memory) (call : DiskCall) (blocks : List (Option (List ℕ))) (ope
           had.0,
           had.1,
           omega (arith, one_longer m.calls call, had.2),
-          subst (λ (n : Moment). Leaves n c) (sym (before had.0 (omega (arith, had.2)))) had.3,
+          subst (λ (n : DiskMoment). Leaves n c) (sym (before had.0 (omega (arith, had.2)))) had.3,
         ))
         (λ here. inl (
           length m.calls,
           le,
           omega (arith, one_longer m.calls call),
-          subst (λ (n : Moment). Leaves n c) (sym (before (length m.calls) (omega arith) ∙ now_is is room)) here,
+          subst (λ (n : DiskMoment). Leaves n c) (sym (before (length m.calls) (omega arith) ∙ now_is is room)) here,
         )) left;
   }
     where
@@ -71,10 +72,10 @@ module _ (m : Memory) (call : DiskCall) (blocks : List (Option (List ℕ))) (ope
           → Leaves (moment_at (further m call blocks opened) k) c → (k < length m.calls) ⊎ (length m.calls ≤ k)
           → (memory_state m).left_since t c
       past t c k since below leaves (inl earlier) = inl
-          (k, since, earlier, subst (λ (n : Moment). Leaves n c) (before k (omega arith)) leaves)
+          (k, since, earlier, subst (λ (n : DiskMoment). Leaves n c) (before k (omega arith)) leaves)
       past t c k since below leaves (inr last) =
           let here : k ≡ length m.calls = omega (arith, one_longer m.calls call) in
-          inr (subst (λ (n : Moment). Leaves n c) (before k (omega arith) ∙ ap (moment_at m) here
+          inr (subst (λ (n : DiskMoment). Leaves n c) (before k (omega arith) ∙ ap (moment_at m) here
           ∙ now_is is room) leaves)
 
 pub writes_written : (m : Memory) (n : ℕ) (words : List ℕ) → n < length m.blocks → IsReplayed m
@@ -105,9 +106,10 @@ replayed_written m n words is room =
     let now = now_is m (Write n words) m.blocks m.opened is room in record {
       same_size = length-set m.opened n true ∙ is.same_size ∙ sym (length-set m.blocks n (Some words));
       first_size = is.first_size ∙ sym (length-set m.blocks n (Some words));
-      blocks = ap (λ (w : Moment). w.blocks) last ∙ ap (λ (w : Moment). (after_call w (Write n words)).blocks) now;
-      opened = λ more. ap (λ (w : Moment). w.opened) last
-          ∙ ap (λ (w : Moment). (after_call w (Write n words)).opened) now;
+      blocks = ap (λ (w : DiskMoment). w.blocks) last
+          ∙ ap (λ (w : DiskMoment). (after_call w (Write n words)).blocks) now;
+      opened = λ more. ap (λ (w : DiskMoment). w.opened) last
+          ∙ ap (λ (w : DiskMoment). (after_call w (Write n words)).opened) now;
       fits = omega (arith, one_longer m.calls (Write n words));
       few = omega (arith, is.few, length-set m.blocks n (Some words));
     }
@@ -118,8 +120,8 @@ replayed_synced m is room =
     let now = now_is m Sync m.blocks m.opened is room in record {
       same_size = length-replicate (length m.opened) false ∙ is.same_size;
       first_size = is.first_size;
-      blocks = ap (λ (w : Moment). w.blocks) last ∙ ap (λ (w : Moment). (after_call w Sync).blocks) now;
-      opened = λ more. ap (λ (w : Moment). w.opened) last ∙ ap (λ (w : Moment). (after_call w Sync).opened) now;
+      blocks = ap (λ (w : DiskMoment). w.blocks) last ∙ ap (λ (w : DiskMoment). (after_call w Sync).blocks) now;
+      opened = λ more. ap (λ (w : DiskMoment). w.opened) last ∙ ap (λ (w : DiskMoment). (after_call w Sync).opened) now;
       fits = omega (arith, one_longer m.calls Sync);
       few = is.few;
     }

@@ -24,27 +24,27 @@ abbrev pub held : List (Option (List ℕ)) → Contents
 held blocks n = get_or blocks n None
 
 -- the blocks at a moment, and which of them are open
-pub record Moment : Type 0 where
+pub record DiskMoment : Type 0 where
   pub blocks : List (Option (List ℕ))
   pub opened : List Bool
 
-abbrev pub after_call : Moment → DiskCall → Moment
+abbrev pub after_call : DiskMoment → DiskCall → DiskMoment
 after_call m (Write n words) = record { blocks = slice_set m.blocks n (Some words); opened = slice_set m.opened n true }
 after_call m Sync = record { blocks = m.blocks; opened = replicate (length m.opened) false }
 
-abbrev pub after_calls : Moment → List DiskCall → Moment
+abbrev pub after_calls : DiskMoment → List DiskCall → DiskMoment
 after_calls m [] = m
 after_calls m (call ∷ calls) = after_calls (after_call m call) calls
 
 -- the moment after so many calls of the record
-abbrev pub moment_at : Memory → ℕ → Moment
+abbrev pub moment_at : Memory → ℕ → DiskMoment
 moment_at m k = after_calls (record { blocks = m.first; opened = replicate (length m.first) false }) (take k m.calls)
 
-abbrev pub moment_now : Memory → Moment
+abbrev pub moment_now : Memory → DiskMoment
 moment_now m = record { blocks = m.blocks; opened = m.opened }
 
 -- what a crash leaves at a moment: anything in the open blocks
-abbrev pub Leaves : Moment → Contents → Type 0
+abbrev pub Leaves : DiskMoment → Contents → Type 0
 Leaves m c = (n : ℕ) → get_or m.opened n false ≡ false → c n ≡ held m.blocks n
 
 abbrev pub memory_state : Memory → DiskState

@@ -15,9 +15,6 @@ no_fault value fault is = cc
 not_ok : (fault : Fault) → IsOk {T = Option ℕ} (Err fault) → ⊥
 not_ok fault ok = cc
 
-not_damaged : {T : Type 0} → IsErrOf {T = T} (Err Device) Damaged → ⊥
-not_damaged is = cc
-
 -- no block is looked at
 pub verify_start : (first : ℕ) (s : DiskState) → IsVerify first first s s (Ok None)
 verify_start first s = record {
@@ -63,34 +60,6 @@ module _ (n : ℕ) (s s' : DiskState) where
     where
       only : (m : ℕ) → n ≤ m → m < n + 1 → n ≡ m
       only m low high = omega arith
-
-  pub read_damaged : IsRead n s s' (Err Damaged) → IsVerify n (n + 1) s s' (Ok (Some n))
-  read_damaged read = record {
-    within = (omega arith, omega arith);
-    verified = λ h. (read.damaged h refl, λ m low high. absurd (none m low high));
-    keeps = read.keeps;
-    same = read.same;
-    device = no_fault (Some n) Damaged;
-    failed = λ is. absurd (no_fault (Some n) Device is);
-    served = λ ok. read.served other;
-  }
-    where
-      none : (m : ℕ) → n ≤ m → m < n → ⊥
-      none m low high = omega arith
-
-      other : IsErrOf {T = List ℕ} (Err Damaged) Device → ⊥
-      other is = cc
-
-  pub read_failed : (end : ℕ) → IsRead n s s' (Err Device) → IsVerify n end s s' (Err Device)
-  read_failed end read = record {
-    within = tt;
-    verified = λ h. tt;
-    keeps = read.keeps;
-    same = read.same;
-    device = not_damaged;
-    failed = λ is. read.failed refl;
-    served = λ ok. absurd (not_ok Device ok);
-  }
 
 -- Blocks behind blocks that are whole
 

@@ -2,7 +2,8 @@
 use Rattle.std.proofs.Common.{◌≡◌, ◌≢◌, ℕ, zero, suc, ◌+◌, ◌-◌, ◌<◌, ◌≤◌, List, [], ◌∷◌, ◌++◌, refl, sym, ◌∙◌, ap}
 use Rattle.std.proofs.Common.{subst, arith}
 use Rattle.words36.specs.declared.moment.Moment.{Moment}
-use Rattle.meaning.specs.Plans.{Plan, each, examines, fails, finds, writes, lists, takes, puts, calls, copies_blocks}
+use Rattle.meaning.specs.Plans.{Plan, each, examines, fails, finds}
+use Rattle.meaning.specs.Plans.{writes, lists, takes, asks_out, calls, copies_blocks}
 use Rattle.meaning.specs.Plans.{copies_last, copies_body, until_end, blocks_said, file_words}
 use Rattle.meaning.specs.declared.command.Spec.{Spec}
 use Rattle.meaning.specs.declared.call.Call.TheVariants.{Close}
@@ -28,7 +29,7 @@ each_both moment asked events more next e = each_append moment events more next
     ∙ ap (λ (l : List Event). each moment l (each moment more next)) (sym e)
 
 block_copied : (moment : Moment) (more : ℕ) (next : Plan) → copies_blocks moment (suc more) next
-    ≡ each moment (takes moment ∷ puts moment ∷ []) (copies_blocks moment more next)
+    ≡ each moment (takes moment ∷ asks_out moment ∷ []) (copies_blocks moment more next)
 unfolding copies_blocks
 block_copied moment more next = refl
 
@@ -66,7 +67,7 @@ module _ {S : Type 0} (machine : S → Machine) where
   -- Blocks.
 
   module _ (a b c : S) (moment : Moment) (count i : ℕ) (asked : List Event) (is_asked : asked
-      ≡ takes moment ∷ puts moment ∷ []) (h : i < count)
+      ≡ takes moment ∷ asks_out moment ∷ []) (h : i < count)
       (before : (next : Plan)
       → Led machine a b (copies_blocks moment count next) (copies_blocks moment (count - i) next)) where
     block_led : (next rest : Plan) → Led machine b c (each moment asked (copies_blocks moment (count - (i + 1)) next))
@@ -77,7 +78,7 @@ module _ {S : Type 0} (machine : S → Machine) where
         (subst (λ (l : Plan). Led machine b c l rest)
         (sym (ap (λ (k : ℕ). copies_blocks moment k next) (one_less count i h)
         ∙ block_copied moment (count - (i + 1)) next))
-        (led_each b c moment asked (takes moment ∷ puts moment ∷ []) (copies_blocks moment (count - (i + 1)) next)
+        (led_each b c moment asked (takes moment ∷ asks_out moment ∷ []) (copies_blocks moment (count - (i + 1)) next)
         rest is_asked p))
 
     pub blocks_more : ((next : Plan) → Led machine b c (each moment asked next) next) → (next : Plan)

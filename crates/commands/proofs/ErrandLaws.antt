@@ -16,7 +16,7 @@ use Rattle.meaning.specs.declared.encoding.Encoding.{Encoding}
 use Rattle.commands.specs.Asking.{Led, Concludes}
 use Rattle.commands.specs.Errands.{fresh, Carries, Errand, IsUnread, Delivery, Checked}
 use Rattle.commands.specs.Machines.{Machine, AlwaysStands}
-use Rattle.commands.specs.Sessions.{Puts}
+use Rattle.commands.specs.Sessions.{WritesText}
 use Rattle.commands.specs.Streams.{spoken}
 use Rattle.commands.specs.declared.answer.Tally.{Tally}
 use Rattle.commands.specs.declared.error.SessionError.{SessionError}
@@ -73,7 +73,7 @@ module _ {V E S : Type 0} (machine : S → Machine) (bytes : V → List ℕ) whe
   -- The text was written, or not all of it.
 
   pub errand_done : (text : Result V E) (sink full : Option (List ℕ)) (a b : S) (plan : Plan) (counted : Tally)
-      (unit : Unit {0}) → Carries bytes text machine a b plan counted → Puts bytes (Ok unit) sink full text
+      (unit : Unit {0}) → Carries bytes text machine a b plan counted → WritesText bytes (Ok unit) sink full text
       → Errand sink full machine a b plan (Ok counted)
   errand_done (Ok v) sink full a b plan counted unit p put = record {
     written = bytes v;
@@ -85,7 +85,7 @@ module _ {V E S : Type 0} (machine : S → Machine) (bytes : V → List ℕ) whe
   errand_done (Err error) sink full a b plan counted unit p put = absurd (not_told unit put.0)
 
   pub errand_cut : (text : Result V E) (sink full : Option (List ℕ)) (a b : S) (plan : Plan) (counted : Tally)
-      (error : SessionError) → Carries bytes text machine a b plan counted → Puts bytes (Err error) sink full text
+      (error : SessionError) → Carries bytes text machine a b plan counted → WritesText bytes (Err error) sink full text
       → Errand sink full machine a b plan (Err error)
   errand_cut (Ok v) sink full a b plan counted error p put =
       let cut = put.1.1 in
@@ -187,7 +187,7 @@ surveyed machine moment style sink full a b shown owners result same p =
 module _ {V E : Type 0} (machine : Machine) (bytes : V → List ℕ) where
   pub checked_cut : (text : Result V E) (sink full : Option (List ℕ)) (room : ℤ) (error : SessionError)
       → (machine.honest → (s : State) → machine.serves (Serving s) → room ≡ room_in machine.pack s)
-      → IfOk text (λ v. bytes v ≡ volume_line machine.pack.blocks room) → Puts bytes (Err error) sink full text
+      → IfOk text (λ v. bytes v ≡ volume_line machine.pack.blocks room) → WritesText bytes (Err error) sink full text
       → Checked sink full machine (Err error)
   checked_cut (Ok v) sink full room error left said put =
       let cut = put.1.1 in

@@ -3,7 +3,7 @@ use Rattle.std.proofs.Common.{◌≡◌, ◌≢◌, ℕ, ◌<◌, ◌≤◌, ◌
 use Rattle.std.proofs.Common.{refl, sym, ◌∙◌, ap, arith}
 use Rattle.std.proofs.lemmas.Bool.Decides.{nat_tests}
 use Rattle.meaning.specs.Lines.{Line, TooLong, without_return, line_of, fitting, upper}
-use Rattle.commands.specs.PartialLines.{Keeps, text_line}
+use Rattle.commands.specs.PartialLines.{KeepsLine, text_line}
 
 -- A return in the place of the last byte.
 
@@ -57,7 +57,7 @@ fits raw bytes h = grind (arith, nat_tests)
 too_long : (raw bytes : List ℕ) → 255 < length raw → TooLong ∷ [] ≡ fitting raw bytes
 too_long raw bytes h = grind (arith, nat_tests)
 
-pub line_ended : (flag : Bool) (kept seen : List ℕ) (lines : List Line) → Keeps flag kept seen
+pub line_ended : (flag : Bool) (kept seen : List ℕ) (lines : List Line) → KeepsLine flag kept seen
     → lines ≡ cond flag (TooLong ∷ []) (text_line (without_return kept)) → lines ≡ fitting seen (without_return seen)
 line_ended true kept seen lines h e = e ∙ too_long seen (without_return seen) h
 line_ended false kept seen lines h e =

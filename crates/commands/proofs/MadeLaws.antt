@@ -4,7 +4,7 @@ use Rattle.std.proofs.Common.{subst, Option, Some, None, IfNone, arith}
 use Rattle.std.proofs.Math.Nat.{pow-le-pow_right}
 use Rattle.std.proofs.lemmas.List.{take-append-drop}
 use Rattle.meaning.specs.Spellings.{Are, IsNumber, IsSmall, IsBracketed, IsSpec}
-use Rattle.meaning.specs.Commands.{IsAngled, IsProtection, IsProtected, IsMade}
+use Rattle.meaning.specs.Commands.{IsAngled, IsProtection, IsProtected, IsNewDirectory}
 use Rattle.meaning.specs.declared.command.Spec.{Spec}
 use Rattle.meaning.proofs.SpellingLaws.{Stops, stretch, bracketed_other, spec_other, same_but_last, same_tail}
 use Rattle.commands.specs.Characters.{is_other_than}
@@ -74,7 +74,7 @@ are_parted mark text front back n e f plain stop = record {
 }
 
 pub made_is : (text front back : List ℕ) (p n : ℕ) → AreParted 60 text front back → IsBracketed front p
-    → IsProtection back n → IsMade text p n
+    → IsProtection back n → IsNewDirectory text p n
 made_is text front back p n parted a b = record {
   before = front;
   behind = back;
@@ -87,7 +87,7 @@ protection_stops : (text : List ℕ) (n : ℕ) → IsProtection text n → Stops
 protection_stops [] n a = tt
 protection_stops (c ∷ cs) n a = subst (Stops (is_other_than 60)) (sym a.spelled) refl
 
-pub made_parts : (text front back : List ℕ) (p n : ℕ) → AreParted 60 text front back → IsMade text p n
+pub made_parts : (text front back : List ℕ) (p n : ℕ) → AreParted 60 text front back → IsNewDirectory text p n
     → IsBracketed front p × IsProtection back n
 made_parts text front back p n parted m =
     let r = stretch (is_other_than 60) front back m.before m.behind parted.plain

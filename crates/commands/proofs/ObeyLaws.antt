@@ -2,8 +2,8 @@
 use Rattle.std.proofs.Common.{◌≡◌, ℕ, ◌||◌, Bool, true, false, [], ◌∷◌, List, refl, sym, ◌∙◌, subst, Option, Some, None}
 use Rattle.std.proofs.Common.{Result, IfOk}
 use Rattle.words36.specs.declared.moment.Moment.{Moment}
-use Rattle.meaning.specs.Scripts.{written, wrong}
-use Rattle.meaning.specs.Transcripts.{is_good, refused_unless, reports}
+use Rattle.meaning.specs.Scripts.{words_given, wrong}
+use Rattle.meaning.specs.Transcripts.{is_success, refused_unless, reports_reply}
 use Rattle.meaning.specs.Texts.{complains, is_broken, line}
 use Rattle.meaning.specs.Plans.{Asks}
 use Rattle.meaning.specs.declared.call.Reply.{Reply}
@@ -40,13 +40,13 @@ module _ {V E S : Type 0} (machine : S → Machine) (stands : AlwaysStands machi
   -- and one that orders an event
   pub replied_to : (a b : S) (event : Event) (reply : Reply) → order ≡ Some event
       → IsAnswered (machine a) (machine b) event reply → counted.refused ≡ tally.refused
-      || refused_unless (is_good reply) → counted.broke ≡ tally.broke || is_broken reply
-      → IfOk result (λ v. bytes v ≡ line (written reply))
+      || refused_unless (is_success reply) → counted.broke ≡ tally.broke || is_broken reply
+      → IfOk result (λ v. bytes v ≡ line (words_given reply))
       → Replied bytes result machine a b moment who who tally counted (Ordered order)
   replied_to a b event reply e answered refused broke text = subst (λ (o : Option Event).
       Replied bytes result machine a b moment who who tally counted (Ordered o)) (sym e) (record {
         acts = Asks event reply ∷ [];
-        said = reports reply;
+        said = reports_reply reply;
         hears = ((reply, refl, refl), refl);
         goes = goes_answered machine stands a b event reply answered;
         refused = refused;

@@ -4,7 +4,7 @@ use Rattle.std.proofs.Common.{refl}
 use Rattle.std.proofs.Common.{sym, ap, subst}
 use Rattle.std.specs.Io.KnownBytes.{Appends, Consumes, IsAtEnd}
 use Rattle.words36.specs.declared.moment.Moment.{Moment}
-use Rattle.meaning.specs.Copies.{AreShort, HasFiles, IsPut, IsRefused, IsShown, IsSpec}
+use Rattle.meaning.specs.Copies.{AreShort, HasFiles, IsPut, IsLineRefused, IsPrinted, HasHalfwordExtension}
 use Rattle.meaning.specs.Errands.{AreWords, gets, keeps, unfit}
 use Rattle.meaning.specs.Jobs.{State}
 use Rattle.meaning.specs.Plans.{Act, Say, Conducts}
@@ -17,14 +17,14 @@ use Rattle.meaning.specs.declared.encoding.Encoding.{Encoding}
 use Rattle.meaning.proofs.ErrandRuns.{puts_are_exact, gets_are_exact}
 use Rattle.commands.specs.Errands.{Delivery, Errand}
 use Rattle.commands.specs.Machines.{Machine, ActsBy}
-use Rattle.commands.specs.Outcomes.{IsKept, DeliveriesKeepFiles, ErrandsShowFiles}
+use Rattle.commands.specs.Outcomes.{IsStored, DeliveriesKeepFiles, ErrandsShowFiles}
 use Rattle.commands.specs.Streams.{spoken}
 use Rattle.commands.specs.declared.answer.Tally.{Tally}
 use Rattle.commands.proofs.GoingLaws.{acts_went}
 
 -- nothing is asked where the input is no file's
 complained : (pack : Pack) (s : State) (acts : List Act) (text : List ℕ) (said : Spoken) (last : Service)
-    → Conducts (Say (complains text)) acts said → Went pack (Serving s) acts last → IsRefused s.files said last
+    → Conducts (Say (complains text)) acts said → Went pack (Serving s) acts last → IsLineRefused s.files said last
 complained pack s [] text said last led went =
     let e : said ≡ complains text = let f = led in cc in
     let flag : said.refused ≡ true = ap (λ (x : Spoken). x.refused) e in
@@ -32,9 +32,10 @@ complained pack s [] text said last led went =
 complained pack s (act ∷ acts) text said last led went = absurd led
 
 delivered : (pack : Pack) (s : State) (moment : Moment) (me : ℕ) (encoding : Encoding) (spec : Spec) (read : List ℕ)
-    (words : Option (List ℕ)) (acts : List Act) (said : Spoken) (last : Service) → 1 < length s.jobs → IsSpec spec
+    (words : Option (List ℕ)) (acts : List Act) (said : Spoken) (last : Service) → 1 < length s.jobs
+    → HasHalfwordExtension spec
     → AreWords encoding read words → Conducts (keeps moment me encoding spec words) acts said
-    → Went pack (Serving s) acts last → IsKept moment me s encoding spec read said last
+    → Went pack (Serving s) acts last → IsStored moment me s encoding spec read said last
 delivered pack s moment me encoding spec read None acts said last there few are led went =
     inr (complained pack s acts (unfit encoding) said last led went)
 delivered pack s moment me encoding spec read (Some words) acts said last there few are led went = ⊎_elim

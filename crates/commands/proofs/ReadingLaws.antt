@@ -2,22 +2,22 @@
 use Rattle.std.proofs.Common.{◌≡◌, ℕ, zero, suc, ◌+◌, ◌-◌, ◌<◌, ◌≤◌, ◌%◌, ◌/◌, ◌*◌, ◌^◌, ◌==◌, if◌then◌else◌, Bool}
 use Rattle.std.proofs.Common.{true, false, List, [], ◌∷◌, ◌++◌, length, take, get_or, replicate, Option, Some}
 use Rattle.std.proofs.Common.{None, Result, Ok, Err, bit_and, refl, sym, ◌∙◌, ap, subst, append_assoc, append-nil}
-use Rattle.std.proofs.Common.{add-one, zero-mul, arith}
+use Rattle.std.proofs.Common.{add-one, zero-mul, arith, slice_index}
 use Rattle.std.proofs.lemmas.List.{take_all}
 use Rattle.std.proofs.lemmas.Nat.Bits.{and_pow}
 use Rattle.words36.specs.Words.{left}
 use Rattle.words36.specs.declared.moment.Moment.{Moment}
 use Rattle.meaning.specs.Plans.{Asks, Plan, Ask, each, fails, deposits, fetches, examines, same_words, takes}
 use Rattle.meaning.specs.Plans.{takes_over, counts, sizes, last_said, says_words, is_end, if_end, until_end}
-use Rattle.meaning.specs.declared.call.Event.TheVariants.{Deposit}
+use Rattle.meaning.specs.declared.call.Event.TheVariants.{Deposit, Examine}
 use Rattle.meaning.specs.declared.call.Reply.{Reply}
 use Rattle.meaning.specs.declared.call.Reply.TheVariants.{Done, Value, Refused, Stopped, NoChannel, AddressCheck, NoJob}
 use Rattle.meaning.specs.declared.call.Reply.TheVariants.{NoMemory, Device, Failed, DateRange}
 use Rattle.meaning.specs.declared.call.Event.{Event}
 use Rattle.commands.specs.Asking.{Led, followed}
-use Rattle.commands.specs.Machines.{Machine, AlwaysStands, IsAnswered}
+use Rattle.commands.specs.Machines.{Machine, AlwaysStands, AreShown, IsAnswered}
 use Rattle.commands.proofs.GoingLaws.{goes_answered}
-use Rattle.commands.proofs.LedLaws.{led_on, led_still, each_append}
+use Rattle.commands.proofs.LedLaws.{led_on, led_still, led_told, each_append}
 
 module _ {S : Type 0} (machine : S → Machine) where
   -- one event
@@ -404,3 +404,20 @@ module _ {S : Type 0} (machine : S → Machine) (stands : AlwaysStands machine) 
   pub end_other : ((status : ℕ) → reply ≡ Stopped status → ⊥) → (next : Plan)
       → Led machine a b (until_end moment next) (fails moment reply)
   end_other h next = end_told next (fails moment reply) (if_other moment next reply h)
+
+-- Words that are shown at once are told as events would be, one by one.
+module _ {S : Type 0} (machine : S → Machine) (stands : AlwaysStands machine) (a : S) (moment : Moment) where
+  pub fetches_shown : (words : List ℕ) (first : ℕ) → AreShown (machine a) first words → (next : List ℕ → Plan)
+      → Led machine a a (fetches moment (length words) first next) (next words)
+  unfolding fetches
+  fetches_shown [] first shown next = led_still machine stands a (next [])
+  fetches_shown (word ∷ words) first shown next =
+      let here : first + 0 ≡ first = omega arith in
+      led_on machine a a a _ _ _
+      (led_told machine stands a a first (Value word) word moment
+      (λ told. fetches moment (length words) (first + 1) (λ others. next (told ∷ others))) refl
+      (subst (λ n. IsAnswered (machine a) (machine a) (Examine 1 n) (Value word)) here (shown 0 (omega arith))))
+      (fetches_shown words (first + 1) (λ i less.
+      let place : first + suc i ≡ first + 1 + i = omega arith in
+      subst (λ n. IsAnswered (machine a) (machine a) (Examine 1 n) (Value (slice_index words i))) place
+      (shown (suc i) (omega (arith, less)))) (λ others. next (word ∷ others)))

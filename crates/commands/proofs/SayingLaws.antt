@@ -6,7 +6,7 @@ use Rattle.std.specs.Cmp.Lexicographic.{pointwise}
 use Rattle.std.proofs.lemmas.Bool.{eq-eqb, eqb-true, both_ways, and_parts}
 use Rattle.meaning.specs.Lines.{Line, Bytes, TooLong}
 use Rattle.meaning.specs.Spellings.{AreFields, IsBracketed, IsSpec}
-use Rattle.meaning.specs.Commands.{IsMade, IsProtected, AreSpecs, IsCommand, Says, Means}
+use Rattle.meaning.specs.Commands.{IsNewDirectory, IsProtected, AreSpecs, IsCommand, Says, Means}
 use Rattle.meaning.specs.declared.command.Spec.{Spec}
 use Rattle.meaning.specs.declared.command.Command.{Command}
 use Rattle.meaning.specs.declared.command.Command.TheVariants.{Login, Directory, Copy, Rename, Delete, TypeOut, Protect}
@@ -69,7 +69,7 @@ says_no_fields text said e alone none = subst (Says text) (sym e) refuse
 pub record SaysNothing (word argument : List ℕ) : Type 0 where
   pub login : word ≡ codes "LOGIN" → (p : ℕ) → IsBracketed argument p → ⊥
   pub directory : word ≡ codes "DIRECTORY" → (p : ℕ) → IsBracketed argument p → ⊥
-  pub makdir : word ≡ codes "MAKDIR" → (p n : ℕ) → IsMade argument p n → ⊥
+  pub makdir : word ≡ codes "MAKDIR" → (p n : ℕ) → IsNewDirectory argument p n → ⊥
   pub copy : word ≡ codes "COPY" → (x y : Spec) → AreSpecs argument x y → ⊥
   pub typed : word ≡ codes "TYPE" → (x : Spec) → IsSpec argument x → ⊥
   pub rename : word ≡ codes "RENAME" → (x y : Spec) → AreSpecs argument x y → ⊥
@@ -114,7 +114,7 @@ says_nothing text word argument said e f none = subst (Says text) (sym e) refuse
     refuse (MakeDir p n) a =
         let same = same_fields (word ∷ argument ∷ []) (codes "MAKDIR" ∷ a.0 ∷ []) text f a.1 in
         none.makdir (same_head same) p n
-        (subst (λ l. IsMade l p n) (sym (same_head (same_tail same))) a.2)
+        (subst (λ l. IsNewDirectory l p n) (sym (same_head (same_tail same))) a.2)
 
 pub says_no_login : (text word argument : List ℕ) (said : Option Command) → said ≡ None
     → AreFields (word ∷ argument ∷ []) text → word ≡ codes "LOGIN" → ((p : ℕ) → IsBracketed argument p → ⊥)
@@ -145,7 +145,7 @@ says_no_directory text word argument said none f is bad = says_nothing text word
 })
 
 pub says_no_makdir : (text word argument : List ℕ) (said : Option Command) → said ≡ None
-    → AreFields (word ∷ argument ∷ []) text → word ≡ codes "MAKDIR" → ((p n : ℕ) → IsMade argument p n → ⊥)
+    → AreFields (word ∷ argument ∷ []) text → word ≡ codes "MAKDIR" → ((p n : ℕ) → IsNewDirectory argument p n → ⊥)
     → Says text said
 says_no_makdir text word argument said none f is bad = says_nothing text word argument said none f (record {
   login = λ e. absurd (other_word 77 76 _ _ word refl is e);
@@ -256,7 +256,7 @@ pub says_directory : (text word argument : List ℕ) (p : ℕ) → AreFields (wo
 says_directory text word argument p f is s = (argument, subst (λ w. AreFields (w ∷ argument ∷ []) text) is f, s)
 
 pub says_makdir : (text word argument : List ℕ) (p n : ℕ) → AreFields (word ∷ argument ∷ []) text
-    → word ≡ codes "MAKDIR" → IsMade argument p n → Says text (Some (MakeDir p n))
+    → word ≡ codes "MAKDIR" → IsNewDirectory argument p n → Says text (Some (MakeDir p n))
 says_makdir text word argument p n f is s = (argument, subst (λ w. AreFields (w ∷ argument ∷ []) text) is f, s)
 
 pub says_copy : (text word argument : List ℕ) (x y : Spec) → AreFields (word ∷ argument ∷ []) text

@@ -19,7 +19,7 @@ use Rattle.meaning.specs.declared.call.Event.{Event}
 use Rattle.meaning.specs.declared.call.Event.TheVariants.{Call as Calls}
 use Rattle.commands.specs.Machines.{Machine, AlwaysStands, IsAnswered}
 use Rattle.commands.specs.Streams.{IsServedTranscript, spoken, AreWholeLines, Unfinished, IsCut}
-use Rattle.commands.specs.Sessions.{HeardIn, Hears, Replied, Puts, Told, Closed, SoFar, StepsOn, BreaksOff}
+use Rattle.commands.specs.Sessions.{HeardIn, Hears, Replied, WritesText, Told, Closed, SoFar, StepsOn, BreaksOff}
 use Rattle.commands.specs.Sessions.{EndsWell, Spoke}
 use Rattle.commands.specs.declared.error.SessionError.{SessionError}
 use Rattle.commands.specs.declared.answer.Tally.{Tally}
@@ -353,7 +353,7 @@ told_nothing machine stands m sink moment who tally heard e = record {
 module _ {V E S : Type 0} (machine : S → Machine) (bytes : V → List ℕ) (a b : S) (p q : Option (List ℕ))
     (moment : Moment) (who after : Option ℕ) (tally counted : Tally) (heard : Heard) (some : heard ≢ Nothing) where
   told_put : (result : Result (Unit {0}) SessionError) (text : Result V E)
-      → Replied bytes text machine a b moment who after tally counted heard → Puts bytes result p q text
+      → Replied bytes text machine a b moment who after tally counted heard → WritesText bytes result p q text
       → Told result machine a b p q moment who after tally counted heard
   told_put (Ok u) (Ok v) s put = record {
     acts = s.acts;
@@ -412,7 +412,7 @@ module _ {V E S : Type 0} (machine : S → Machine) (bytes : V
     → List ℕ) (result : Result (Unit {0}) SessionError) (text : Result V E) (a b : S) (p q : Option (List ℕ))
     (moment : Moment) (who after : Option ℕ) (tally counted : Tally) (heard : Heard) where
   pub told_said : (meant : Option Command) → heard ≡ Said meant
-      → Spoke bytes text machine a b moment who after tally counted meant → Puts bytes result p q text
+      → Spoke bytes text machine a b moment who after tally counted meant → WritesText bytes result p q text
       → Told result machine a b p q moment who after tally counted heard
   told_said meant e s put = told_put machine bytes a b p q moment who after tally counted heard
       (is_something heard meant e) result text
@@ -427,7 +427,7 @@ module _ {V E S : Type 0} (machine : S → Machine) (bytes : V
       })) put
 
   pub told_ordered : (order : Option Event) → heard ≡ Ordered order
-      → Replied bytes text machine a b moment who after tally counted (Ordered order) → Puts bytes result p q text
+      → Replied bytes text machine a b moment who after tally counted (Ordered order) → WritesText bytes result p q text
       → Told result machine a b p q moment who after tally counted heard
   told_ordered order e s put = told_put machine bytes a b p q moment who after tally counted heard
       (is_an_order heard order e) result text

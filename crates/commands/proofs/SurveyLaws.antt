@@ -6,7 +6,7 @@ use Rattle.std.specs.Prelude.{IfErr}
 use Rattle.words36.specs.declared.moment.Moment.{Moment}
 use Rattle.meaning.specs.Errands.{enters, operator, shows_all, surveys}
 use Rattle.meaning.specs.Plans.{Plan, Show, Say, each, fails}
-use Rattle.meaning.specs.Texts.{Spoken, joined, silent, list_said}
+use Rattle.meaning.specs.Texts.{Spoken, both_said, silent, list_said}
 use Rattle.meaning.specs.declared.style.Style.{Style}
 use Rattle.meaning.specs.declared.call.Reply.{Reply}
 use Rattle.commands.specs.Asking.{Led, Concludes, HasShown}
@@ -19,7 +19,7 @@ use Rattle.commands.proofs.LedLaws.{led_on, led_still}
 
 shows_next : (style : Style) (owner : ℕ) (owners : List ℕ) (said : Spoken)
     → shows_all style (owner ∷ owners) said
-    ≡ Show owner (λ answer. shows_all style owners (joined said (list_said style owner answer)))
+    ≡ Show owner (λ answer. shows_all style owners (both_said said (list_said style owner answer)))
 unfolding shows_all
 shows_next style owner owners said = refl
 
@@ -40,7 +40,7 @@ module _ {S : Type 0} (machine : S → Machine) (style : Style) (owners : List �
       (h : i < length owners) (is : owner ≡ get_or owners i owner) (p : Shows a b i bytes counted)
       (result : Result V E) (q : HasShown text result machine b c style owner counted mid) where
     next_led : Led machine a c (shows_all style owners (spoken [] tally))
-        (shows_all style (drop (i + 1) owners) (joined (spoken bytes counted) (list_said style owner q.answer)))
+        (shows_all style (drop (i + 1) owners) (both_said (spoken bytes counted) (list_said style owner q.answer)))
     next_led =
         let at : drop i owners ≡ owner ∷ drop (i + 1) owners = drop_more owners i owner h
         ∙ ap (λ (o : ℕ). o ∷ drop (i + 1) owners) (sym is) in
@@ -48,10 +48,10 @@ module _ {S : Type 0} (machine : S → Machine) (style : Style) (owners : List �
         (subst (λ (l : List ℕ). Led machine a b (shows_all style owners (spoken [] tally))
         (shows_all style l (spoken bytes counted))) at p)
         (subst (λ (l : Plan). Led machine b c l
-        (shows_all style (drop (i + 1) owners) (joined (spoken bytes counted) (list_said style owner q.answer))))
+        (shows_all style (drop (i + 1) owners) (both_said (spoken bytes counted) (list_said style owner q.answer))))
         (sym (shows_next style owner (drop (i + 1) owners) (spoken bytes counted)))
         (q.led (λ answer. shows_all style (drop (i + 1) owners)
-        (joined (spoken bytes counted) (list_said style owner answer)))))
+        (both_said (spoken bytes counted) (list_said style owner answer)))))
 
     pub shows_more : (v : V) (more : List ℕ) → result ≡ Ok v → more ≡ bytes ++ text v → Shows a c (i + 1) more mid
     shows_more v more ok put =

@@ -9,7 +9,7 @@ use Rattle.std.specs.Fmt.{decimal, digits, format_spec, padded_integral, ◌++?�
 use Rattle.std.specs.Option.{option_map}
 use Rattle.words36.specs.Words.{ppn_text}
 use Rattle.words36.specs.Sixbit.{characters}
-use Rattle.meaning.specs.Scripts.{octal_in, written}
+use Rattle.meaning.specs.Scripts.{octal_in, words_given}
 use Rattle.meaning.specs.Texts.{line, blocks_in, total_text, right_in, three_digits, extension_text, day_text}
 use Rattle.meaning.specs.Texts.{entry_text}
 use Rattle.meaning.specs.declared.call.Reply.{Reply}
@@ -83,9 +83,10 @@ octal_output shown places n e =
     ∙ ap Some (padded_integral_zeros (format_spec 32 0 4 places (2 ^ 64 - 1)) (digits 8 false n) refl refl)
 
 pub reply_written : {V E : Type 0} (items : V → List ℕ) (result : Result V E) (reply : Reply)
-    (word number bytes text : List ℕ) (shown : Option (List ℕ)) → written reply ≡ word ++ number → shown ≡ Some number
+    (word number bytes text : List ℕ) (shown : Option (List ℕ)) → words_given reply ≡ word ++ number → shown
+    ≡ Some number
     → IfSome (Some word ++? shown) (λ bs. bytes ≡ bs) → text ≡ bytes → IfOk result (λ v. items v ≡ line text)
-    → IfOk result (λ v. items v ≡ line (written reply))
+    → IfOk result (λ v. items v ≡ line (words_given reply))
 reply_written items result reply word number bytes text shown is e ok same told =
     let spelled : bytes ≡ word ++ number = subst (λ o. IfSome (Some word ++? o) (λ bs. bytes ≡ bs)) e ok in
     subst (λ l. IfOk result (λ v. items v ≡ line l)) (same ∙ spelled ∙ sym is) told

@@ -4,12 +4,12 @@ use Rattle.std.proofs.Common.{append_assoc, append-nil, Option}
 use Rattle.words36.specs.declared.moment.Moment.{Moment}
 use Rattle.meaning.specs.Commands.{Means}
 use Rattle.meaning.specs.Lines.{Line}
-use Rattle.meaning.specs.Texts.{Spoken, joined, silent}
+use Rattle.meaning.specs.Texts.{Spoken, both_said, silent}
 use Rattle.meaning.specs.Plans.{Act}
 use Rattle.meaning.specs.Transcripts.{Speaks, Orders}
 use Rattle.meaning.specs.declared.command.Command.{Command}
 use Rattle.meaning.specs.declared.call.Event.{Event}
-use Rattle.commands.specs.Languages.{Says}
+use Rattle.commands.specs.Languages.{LineSays}
 use Rattle.meaning.specs.Scripts.{MeansEvent}
 use Rattle.commands.specs.Streams.{IsServedTranscript, spoken}
 use Rattle.commands.specs.Sessions.{HeardIn, Hears}
@@ -27,17 +27,17 @@ or_assoc : (a b c : Bool) → (a || b) || c ≡ a || (b || c)
 or_assoc true b c = refl
 or_assoc false b c = refl
 
-joined-silent : (a b : Spoken) → a ≡ silent → b ≡ joined a b
-joined-silent a b e = subst (λ (v : Spoken). b ≡ joined v b) (sym e) refl
+joined-silent : (a b : Spoken) → a ≡ silent → b ≡ both_said a b
+joined-silent a b e = subst (λ (v : Spoken). b ≡ both_said v b) (sym e) refl
 
-joined-end : (a : Spoken) → a ≡ joined a silent
+joined-end : (a : Spoken) → a ≡ both_said a silent
 joined-end a =
     let e : a.text ≡ a.text ++ [] = sym (append-nil a.text) in
     let f = or-false a.refused in
     let h = or-false a.broke in
     λ i. record { text = e i; refused = f i; broke = h i }
 
-joined_assoc : (a b c : Spoken) → joined (joined a b) c ≡ joined a (joined b c)
+joined_assoc : (a b c : Spoken) → both_said (both_said a b) c ≡ both_said a (both_said b c)
 joined_assoc a b c =
     let e = append_assoc a.text b.text c.text in
     let f = or_assoc a.refused b.refused c.refused in
@@ -48,28 +48,28 @@ module _ (language : Language) (moment : Moment) where
   pub transcript_on : (who : Option ℕ) (lines more : List Line) (acts next : List Act) (said here : Spoken)
       (mid after : Option ℕ) → IsServedTranscript language moment who lines acts said mid
       → IsServedTranscript language moment mid more next here after
-      → IsServedTranscript language moment who (lines ++ more) (acts ++ next) (joined said here) after
+      → IsServedTranscript language moment who (lines ++ more) (acts ++ next) (both_said said here) after
   transcript_on who [] more acts next said here mid after p q =
       let w : mid ≡ who = p.2 in
       let a : next ≡ acts ++ next = ap (λ (l : List Act). l ++ next) (sym p.0) in
-      let s : here ≡ joined said here = joined-silent said here p.1 in
-      subst (λ (v : Option ℕ). IsServedTranscript language moment v more (acts ++ next) (joined said here) after) w
+      let s : here ≡ both_said said here = joined-silent said here p.1 in
+      subst (λ (v : Option ℕ). IsServedTranscript language moment v more (acts ++ next) (both_said said here) after) w
       (subst (λ (v : Spoken). IsServedTranscript language moment mid more (acts ++ next) v after) s
       (subst (λ (l : List Act). IsServedTranscript language moment mid more l here after) a q))
   transcript_on who (line ∷ lines) more acts next said here mid after p q = (
     p.0,
     p.1 ++ next,
     p.2,
-    joined p.3 here,
+    both_said p.3 here,
     p.4,
     p.5,
     transcript_on p.4 lines more p.1 next p.3 here mid after p.6 q,
     ap (λ (l : List Act). l ++ next) p.7 ∙ append_assoc p.0 p.1 next,
-    ap (λ (v : Spoken). joined v here) p.8 ∙ joined_assoc p.2 p.3 here,
+    ap (λ (v : Spoken). both_said v here) p.8 ∙ joined_assoc p.2 p.3 here,
   )
 
   transcript_one : (who : Option ℕ) (line : Line) (acts : List Act) (said : Spoken) (after : Option ℕ)
-      → Says language moment who line acts said after
+      → LineSays language moment who line acts said after
       → IsServedTranscript language moment who (line ∷ []) acts said after
   transcript_one who line acts said after p = (
     acts,
@@ -88,22 +88,22 @@ module _ (language : Language) (moment : Moment) where
   says_said : (who : Option ℕ) (line : Line) (meant : Option Command) (acts : List Act) (said : Spoken)
       (after : Option ℕ) → language ≡ Commands → Means line meant
       → Speaks moment who meant acts said after
-      → Says language moment who line acts said after
+      → LineSays language moment who line acts said after
   says_said who line meant acts said after e m p =
-      subst (λ (l : Language). Says l moment who line acts said after) (sym e)
+      subst (λ (l : Language). LineSays l moment who line acts said after) (sym e)
       (meant, m, p)
 
   says_ordered : (who : Option ℕ) (line : Line) (order : Option Event) (acts : List Act) (said : Spoken)
       (after : Option ℕ) → language ≡ Events → MeansEvent line moment order → Orders order acts said × (after ≡ who)
-      → Says language moment who line acts said after
+      → LineSays language moment who line acts said after
   says_ordered who line order acts said after e m p =
-      subst (λ (l : Language). Says l moment who line acts said after) (sym e) (order, m, p.0, p.1)
+      subst (λ (l : Language). LineSays l moment who line acts said after) (sym e) (order, m, p.0, p.1)
 
   -- where something was heard there is a line
   pub heard_line : (who : Option ℕ) (lines : List Line) (heard : Heard) (acts : List Act) (said : Spoken)
       (after : Option ℕ) → heard ≢ Nothing → HeardIn language moment lines heard
       → Hears moment who heard acts said after
-      → (line : Line) × Says language moment who line acts said after × (lines ≡ line ∷ [])
+      → (line : Line) × LineSays language moment who line acts said after × (lines ≡ line ∷ [])
   heard_line who [] heard acts said after n h p = absurd (n h)
   heard_line who (line ∷ lines) Nothing acts said after n h p = absurd h
   heard_line who (line ∷ lines) (Said meant) acts said after n h p =
@@ -135,7 +135,7 @@ events_who moment who (line ∷ lines) acts said after (first, more, here, there
 pub spoken_more : (past : List ℕ) (tally counted : Tally) (said : Spoken) (written unwritten : List ℕ)
     → said.text ≡ written ++ unwritten → unwritten ≡ []
     → counted.refused ≡ tally.refused || said.refused → counted.broke ≡ tally.broke || said.broke
-    → joined (spoken past tally) said ≡ spoken (past ++ written) counted
+    → both_said (spoken past tally) said ≡ spoken (past ++ written) counted
 spoken_more past tally counted said written unwritten e n f h =
     let t : past ++ said.text ≡ past ++ written = ap (λ (l : List ℕ). past ++ l) (e
     ∙ ap (λ (l : List ℕ). written ++ l) n ∙ append-nil written) in

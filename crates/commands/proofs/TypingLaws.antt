@@ -8,7 +8,7 @@ use Rattle.words36.specs.Ascii.{unpacked, five_characters}
 use Rattle.words36.specs.declared.moment.Moment.{Moment}
 use Rattle.meaning.specs.Plans.{Plan, Say, each, examines, fetches, sizes, finds, lists, takes, goes_to, ends, fails}
 use Rattle.meaning.specs.Plans.{file_words, block_address, blocks_said, types_blocks, types_last, types_body, until_end}
-use Rattle.meaning.specs.Plans.{reads}
+use Rattle.meaning.specs.Plans.{reads_file}
 use Rattle.words36.specs.Blocks.{word_bytes}
 use Rattle.meaning.specs.Texts.{Spoken, typed, printed, not_null, prints, refuses, refusal, is_broken, line}
 use Rattle.meaning.specs.declared.encoding.Encoding.{Encoding}
@@ -366,7 +366,7 @@ module _ {S : Type 0} (machine : S → Machine) where
     pub typed_out : (x : X) → read ≡ Ok x → counted.refused ≡ tally.refused → counted.broke ≡ tally.broke
         → AreTyped encoding before []
         → ((words : List ℕ) → AreTyped encoding after words → IfOk result (λ v. bytes v ≡ printed encoding words))
-        → Concludes bytes result machine a c (reads moment encoding spec) tally counted
+        → Concludes bytes result machine a c (reads_file moment encoding spec) tally counted
     typed_out x e refused broke fresh text =
         let q = subst (λ (r : Result X Reply). HasTyped machine a b moment
         (λ next. plan a b moment spec (λ size. behind a b moment spec size next)) r before after) e p in
@@ -383,7 +383,7 @@ module _ {S : Type 0} (machine : S → Machine) where
     pub typed_refused : (reply : Reply) (words : List ℕ) (broken : Bool) → read ≡ Err reply → words ≡ refusal reply
         → broken ≡ is_broken reply → counted.refused ≡ true → counted.broke ≡ tally.broke || broken
         → IfOk result (λ v. bytes v ≡ line words)
-        → Concludes bytes result machine a c (reads moment encoding spec) tally counted
+        → Concludes bytes result machine a c (reads_file moment encoding spec) tally counted
     typed_refused reply words broken e same_words same_broken refused broke text =
         let q = subst (λ (r : Result X Reply). HasTyped machine a b moment
         (λ next. plan a b moment spec (λ size. behind a b moment spec size next)) r before after) e p in

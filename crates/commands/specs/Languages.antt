@@ -15,13 +15,13 @@ use Rattle.commands.specs.declared.language.Language.{Language}
 use Rattle.commands.specs.declared.language.Language.TheVariants.{Commands, Events}
 
 -- What a line asks and says. Of an event it does not matter who is logged in.
-abbrev pub Says : Language → Moment → Option ℕ → Line → List Act → Spoken → Option ℕ → Type 0
-Says Commands moment who line acts said then_who = (meant : Option Command) × Means line meant
+abbrev pub LineSays : Language → Moment → Option ℕ → Line → List Act → Spoken → Option ℕ → Type 0
+LineSays Commands moment who line acts said then_who = (meant : Option Command) × Means line meant
     × Speaks moment who meant acts said then_who
-Says Events moment who line acts said then_who = (meant : Option Event) × MeansEvent line moment meant
+LineSays Events moment who line acts said then_who = (meant : Option Event) × MeansEvent line moment meant
     × Orders meant acts said × (then_who ≡ who)
 
 -- At the end of commands job 1 is reset.
-abbrev pub Closes : Language → Moment → List Act → Type 0
-Closes Commands moment acts = (answer : Reply) × (acts ≡ Asks (calls moment Reset) answer ∷ [])
-Closes Events moment acts = acts ≡ []
+abbrev pub ClosesSession : Language → Moment → List Act → Type 0
+ClosesSession Commands moment acts = (answer : Reply) × (acts ≡ Asks (calls moment Reset) answer ∷ [])
+ClosesSession Events moment acts = acts ≡ []

@@ -1,6 +1,6 @@
 -- What is known of a service of files, whatever it is made of: the disk that it serves, whether it has kept its
 -- promises so far, and which services of the definitions it may stand for.
-use Rattle.std.specs.Prelude.{◌≡◌, ◌⊎◌, ℕ, false, IsTrue, List, [], ◌∷◌, None, Result}
+use Rattle.std.specs.Prelude.{◌≡◌, ◌⊎◌, ◌+◌, ◌<◌, ℕ, false, IsTrue, List, [], ◌∷◌, None, Result, length, slice_index}
 use Rattle.blockdisk.specs.Disk.{DiskState, Still, LeavesOnly}
 use Rattle.meaning.specs.Crashes.{may_change, StandsForEither}
 use Rattle.meaning.specs.Jobs.{State}
@@ -11,6 +11,8 @@ use Rattle.meaning.specs.Step.{step}
 use Rattle.meaning.specs.Transcripts.{Went}
 use Rattle.meaning.specs.declared.entry.Entry.{Entry}
 use Rattle.meaning.specs.declared.call.Reply.{Reply}
+use Rattle.meaning.specs.declared.call.Reply.TheVariants.{Value}
+use Rattle.meaning.specs.declared.call.Event.TheVariants.{Examine}
 use Rattle.monitor.specs.Moments.{StandsNow}
 use Rattle.meaning.specs.declared.call.Event.{Event}
 
@@ -30,6 +32,12 @@ pub record IsAnswered (old new : Machine) (event : Event) (reply : Reply) : Type
   pub broken : new.honest → old.serves Broken → Still old.disk new.disk
   pub answers : new.honest → (first : Service) → old.serves first
       → (last : Service) × new.serves last × Answers old.pack first event reply last
+
+-- Each of these words, which stand in job 1's core from an address on, is what an event is told that asks for it; and
+-- asking changes nothing.
+abbrev pub AreShown : Machine → ℕ → List ℕ → Type 0
+AreShown machine first words = (i : ℕ) → i < length words
+    → IsAnswered machine machine (Examine 1 (first + i)) (Value (slice_index words i))
 
 -- It listed a directory for a job, for which it asks the disk for nothing.
 pub record IsListed (old new : Machine) (job owner : ℕ) (answer : Result (List Entry) Reply) : Type 0 where

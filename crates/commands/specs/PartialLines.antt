@@ -6,12 +6,12 @@ use Rattle.commands.specs.declared.input.InputLine.{InputLine}
 use Rattle.commands.specs.declared.input.InputLine.TheVariants.{Text as ItsText, TooLong as ItsLength}
 
 -- Of the bytes of a line up to here these are kept, in upper case; of too many nothing but that there are too many.
-abbrev pub Keeps : Bool → List ℕ → List ℕ → Type 0
-Keeps false kept seen = (kept ≡ map upper seen) × (length seen ≤ 255)
-Keeps true kept seen = 255 < length seen
+abbrev pub KeepsLine : Bool → List ℕ → List ℕ → Type 0
+KeepsLine false kept seen = (kept ≡ map upper seen) × (length seen ≤ 255)
+KeepsLine true kept seen = 255 < length seen
 
 abbrev pub IsPartialLine : PartialLine → List ℕ → Type 0
-IsPartialLine held seen = Keeps held.is_too_long held.bytes.items seen
+IsPartialLine held seen = KeepsLine held.is_too_long held.bytes.items seen
 
 -- a text in upper case as a line, where it is one
 abbrev pub text_line : List ℕ → List Line

@@ -12,7 +12,7 @@ use Rattle.meaning.specs.Runs.{Service}
 use Rattle.meaning.specs.declared.command.Command.{Command}
 use Rattle.commands.specs.PartialLines.{IsPartialLine}
 use Rattle.commands.specs.Fitting.{Fits}
-use Rattle.commands.specs.Languages.{Closes}
+use Rattle.commands.specs.Languages.{ClosesSession}
 use Rattle.commands.specs.Machines.{Machine, GoesBy}
 use Rattle.meaning.specs.Scripts.{MeansEvent}
 use Rattle.commands.specs.Streams.{IsServedTranscript, IsServedSession, IsServedScript, spoken, HasNoFeed}
@@ -72,13 +72,14 @@ pub record Replied {V E S : Type 0} (bytes : V → List ℕ) (result : Result V 
   pub text : IfOk result (λ v. bytes v ≡ said.text)
 
 -- A text that there is was written, or a beginning of it; without one nothing was.
-abbrev pub Puts : {V E : Type 0} → (V → List ℕ) → Result (Unit {0}) SessionError → Option (List ℕ) → Option (List ℕ)
+abbrev pub WritesText : {V E : Type 0} → (V → List ℕ) → Result (Unit {0}) SessionError → Option (List ℕ)
+    → Option (List ℕ)
     → Result V E → Type 0
-Puts bytes result sink full (Ok v) =
+WritesText bytes result sink full (Ok v) =
     OnOk result (Appends sink full (bytes v))
     × IfErr result (λ error. (error ≡ Write) × ((written : List ℕ) × (unwritten : List ℕ) × Appends sink full written
     × (bytes v ≡ written ++ unwritten) × (0 < length unwritten)))
-Puts bytes result sink full (Err error) = (result ≡ Err NoMemory) × (full ≡ sink)
+WritesText bytes result sink full (Err error) = (result ≡ Err NoMemory) × (full ≡ sink)
 
 -- What was heard was answered, and a beginning of its text was written.
 pub record Told {S : Type 0} (result : Result (Unit {0}) SessionError) (machine : S
@@ -102,7 +103,7 @@ pub record Told {S : Type 0} (result : Result (Unit {0}) SessionError) (machine 
 pub record Closed {S : Type 0} (language : Language) (machine : S
     → Machine) (old new : S) (moment : Moment) : Type 0 where
   pub acts : List Act
-  pub closes : Closes language moment acts
+  pub closes : ClosesSession language moment acts
   pub goes : GoesBy machine old new acts
 
 -- Bytes of the input.

@@ -3,7 +3,7 @@ use Rattle.std.specs.Prelude.{◌≡◌, ◌<◌, ℕ, List, [], ◌∷◌, ◌+
 use Rattle.words36.specs.declared.moment.Moment.{Moment}
 use Rattle.meaning.specs.Lines.{Line, feed, lines}
 use Rattle.meaning.specs.Spellings.{Are}
-use Rattle.meaning.specs.Texts.{Spoken, silent, joined}
+use Rattle.meaning.specs.Texts.{Spoken, silent, both_said}
 use Rattle.meaning.specs.Plans.{Act, calls}
 use Rattle.meaning.specs.Room.{Pack}
 use Rattle.meaning.specs.Runs.{Service, Answers}
@@ -11,7 +11,7 @@ use Rattle.meaning.specs.Transcripts.{Went}
 use Rattle.meaning.specs.declared.call.Call.TheVariants.{Reset}
 use Rattle.meaning.specs.declared.call.Reply.{Reply}
 use Rattle.commands.specs.Characters.{is_other_than}
-use Rattle.commands.specs.Languages.{Says, Closes}
+use Rattle.commands.specs.Languages.{LineSays, ClosesSession}
 use Rattle.commands.specs.declared.error.SessionError.{SessionError}
 use Rattle.commands.specs.declared.error.SessionError.TheVariants.{Read, Write, NoMemory}
 use Rattle.commands.specs.declared.answer.Tally.{Tally}
@@ -23,8 +23,9 @@ abbrev pub IsServedTranscript : Language → Moment → Option ℕ → List Line
 IsServedTranscript language moment who [] acts said then_who = (acts ≡ []) × (said ≡ silent) × (then_who ≡ who)
 IsServedTranscript language moment who (line ∷ lines) acts said then_who =
     (first : List Act) × (more : List Act) × (here : Spoken) × (there : Spoken) × (mid : Option ℕ)
-    × Says language moment who line first here mid × IsServedTranscript language moment mid lines more there then_who
-    × (acts ≡ first ++ more) × (said ≡ joined here there)
+    × LineSays language moment who line first here mid
+    × IsServedTranscript language moment mid lines more there then_who
+    × (acts ≡ first ++ more) × (said ≡ both_said here there)
 
 -- A whole input, answered at a moment by a service that was `old` before it and is `new` after it.
 
@@ -62,7 +63,7 @@ pub record Finished (language : Language) (moment : Moment) (read written : List
   pub who : Option ℕ
   pub transcript : IsServedTranscript language moment None (lines read) talked (spoken written tally) who
   pub closing : List Act
-  pub closes : Closes language moment closing
+  pub closes : ClosesSession language moment closing
   pub acts_are : acts ≡ talked ++ closing
 
 -- All lines were answered and written but for one that had not ended.
@@ -100,7 +101,7 @@ pub record Unfinished (language : Language) (at_end : Type 0) (moment : Moment) 
   pub more : List Act
   pub here : Spoken
   pub who : Option ℕ
-  pub says : Says language moment mid line more here who
+  pub says : LineSays language moment mid line more here who
   pub acts_are : acts ≡ first ++ more
   pub part : List ℕ
   pub unwritten : List ℕ

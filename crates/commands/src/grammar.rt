@@ -1,6 +1,6 @@
 ghost use Rattle.std.specs.Prelude.{◌≡◌, ◌++◌, ◌∷◌, [], length, IfSome, IfNone, ℕ, List};
 ghost use Rattle.meaning.specs.Spellings.{AreFields, IsBracketed};
-ghost use Rattle.meaning.specs.Commands.{IsAngled, IsProtection, IsProtected, IsMade, Says, Means};
+ghost use Rattle.meaning.specs.Commands.{IsAngled, IsProtection, IsProtected, IsNewDirectory, Says, Means};
 ghost use Rattle.meaning.specs.declared.command.Spec.{Spec as SpecValue};
 ghost use Rattle.commands.specs.PartialLines.{line_of};
 
@@ -67,8 +67,8 @@ fn protection(text: &[u8]) -> Option<u32>
 
 /// The directory and the protection of `[p,n]` or `[p,n]<PROT>`.
 fn made(text: &[u8]) -> Option<(Ppn, u32)>
-    ensures some { IfSome result (λ made. IsMade text.now made.0 made.1) }
-    ensures none { IfNone result ((owner number : ℕ) → IsMade text.now owner number → ⊥) }
+    ensures some { IfSome result (λ made. IsNewDirectory text.now made.0 made.1) }
+    ensures none { IfNone result ((owner number : ℕ) → IsNewDirectory text.now owner number → ⊥) }
 {
     let (front, back) = text.split_at(length_before(text, b'<'));
     let owner = bracketed(front)?;

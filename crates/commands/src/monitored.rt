@@ -5,7 +5,7 @@ ghost use Rattle.commands.specs.Sessions.{Session, Script};
 ghost use Rattle.commands.specs.Errands.{Checked, Delivery, Errand, Survey};
 ghost use Rattle.meaning.specs.Errands.{gets, keeps, own_file};
 
-use crate::answer::Tally;
+use crate::answer::{SESSION_JOB, Tally};
 use crate::errands::{read_in, write_lists, write_out, write_refusal};
 use crate::run::{converse, play, print};
 use crate::service::FileService;
@@ -15,7 +15,7 @@ use meaning::{Encoding, Entry, Event, Reply, Spec, Style};
 use monitor::Monitor;
 use std::alloc::Global;
 use std::io::{Read, Write};
-use words36::{FileName, Moment, Ppn};
+use words36::{FileName, Moment, Ppn, Word};
 
 impl<D: Disk> FileService for Monitor<D> {
     ghost use Rattle.monitor.proofs.EventCrashes.{state_stands};
@@ -26,6 +26,14 @@ impl<D: Disk> FileService for Monitor<D> {
 
     fn event(&mut self, alloc: Global, event: &Event) -> Reply {
         Monitor::event(self, alloc, event)
+    }
+
+    fn examine_all(&self, first: u32, count: usize) -> Option<&[Word]> {
+        Monitor::examine_all(self, SESSION_JOB, first, count)
+    }
+
+    fn deposit_all(&mut self, first: u32, words: &[Word]) -> bool {
+        Monitor::deposit_all(self, SESSION_JOB, first, words)
     }
 
     fn list(&mut self, alloc: Global, job: u32, owner: Ppn) -> Result<Vec<Entry>, Reply> {

@@ -1,6 +1,6 @@
 ghost use Rattle.std.specs.Prelude.{◌≡◌, ◌||◌, ℕ, Option};
 ghost use Rattle.words36.specs.declared.moment.Moment.{Moment};
-ghost use Rattle.meaning.specs.Transcripts.{is_good, refused_unless};
+ghost use Rattle.meaning.specs.Transcripts.{is_success, refused_unless};
 ghost use Rattle.meaning.specs.Texts.{is_broken};
 ghost use Rattle.commands.specs.Sessions.{Replied};
 ghost use Rattle.commands.specs.declared.run.Heard.TheVariants.{Ordered};
@@ -13,7 +13,7 @@ use std::alloc::{AllocError, Global};
 
 /// Counts a reply.
 fn count(tally: &mut Tally, reply: &Reply)
-    ensures refused { tally.new.refused ≡ tally.old.refused || refused_unless (is_good reply.now) }
+    ensures refused { tally.new.refused ≡ tally.old.refused || refused_unless (is_success reply.now) }
     ensures broke { tally.new.broke ≡ tally.old.broke || is_broken reply.now }
 {
     match reply {

@@ -56,6 +56,9 @@ fn deposit_all<S: FileService>(
     ensures { (moment : moments.Moment) (next : Plan) → Led S.machine service.old service.new
         (each moment (deposits address words.now) next) (followed moment result (λ unit. next)) }
 {
+    if service.deposit_all(address, words) {
+        return Ok(());
+    }
     for place in 0..words.len() {
         let event = Event::Deposit(SESSION_JOB, address + place as u32, words[place]);
         ask_all(alloc, service, &[event])?;

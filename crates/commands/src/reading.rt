@@ -59,6 +59,10 @@ pub fn fetch<S: FileService>(alloc: Global, service: &mut S, count: u32) -> Resu
         (fetches moment count block_address next) (followed moment result (λ block. next (take count block))) }
 {
     let mut block = [Word::ZERO; BLOCK_WORDS];
+    if let Some(words) = service.examine_all(BLOCK_AREA, count as usize) {
+        block[..count as usize].copy_from_slice(words);
+        return Ok(block);
+    }
     for place in 0..count {
         block[place as usize] = examine(alloc, service, BLOCK_AREA + place)?;
     }

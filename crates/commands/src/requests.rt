@@ -136,7 +136,7 @@ pub fn takes(moment: Moment) -> Event
 
 /// An OUT of what the command list names.
 pub fn puts(moment: Moment) -> Event
-    ensures { result ≡ plans.puts moment }
+    ensures { result ≡ plans.asks_out moment }
 {
     Event::Call(SESSION_JOB, Call::Out(WRITER, LIST_WORDS), moment)
 }
@@ -166,7 +166,7 @@ pub fn fills(place: u32, word: Word) -> Event
 /// What makes a directory.
 pub fn makes(moment: Moment, owner: Ppn, protection: u32) -> [Event; 3]
     requires { protection < 512 }
-    ensures { result ≡ plans.makes moment owner protection }
+    ensures { result ≡ plans.asks_make_dir moment owner protection }
 {
     [
         Event::Deposit(SESSION_JOB, FILE_WORDS, owner.word()),

@@ -47,7 +47,7 @@ pub fn creates_text(moment: Moment, spec: Spec) -> [Event; 11]
 /// The byte pointer behind so many words of the buffer.
 fn pointer_behind(count: u32) -> Word
     requires { count ≤ 128 }
-    ensures { result ≡ join 0o010700 (errands.buffer_data - 1 + count) }
+    ensures { result ≡ join 0o010700 (errands.data_address - 1 + count) }
 {
     Word::from_halves(
         Half::from_bits(LAST_CHARACTER),

@@ -1,6 +1,6 @@
 ghost use Rattle.std.specs.Prelude.{◌≡◌, ◌∷◌, [], ℕ, OnOk, IfOk, IfErr, MatchResult};
 ghost use Rattle.commands.specs.PartialLines.{line_list};
-ghost use Rattle.commands.specs.Sessions.{HeardIn, FitsIn, Puts, Told, Closed, StepsOn, BreaksOff, EndsWell};
+ghost use Rattle.commands.specs.Sessions.{HeardIn, FitsIn, WritesText, Told, Closed, StepsOn, BreaksOff, EndsWell};
 ghost use Rattle.commands.specs.Sessions.{Talked, Session, Script};
 
 use crate::SessionError;
@@ -57,7 +57,7 @@ pub fn print<W: Write>(
     writer: &mut W,
     text: Result<Vec<u8>, AllocError>,
 ) -> Result<(), SessionError>
-    ensures { Puts (λ bytes. bytes.items) result (W.contents writer.old) (W.contents writer.new) text }
+    ensures { WritesText (λ bytes. bytes.items) result (W.contents writer.old) (W.contents writer.new) text }
 {
     match text {
         Ok(text) => write_text(writer, &text),

@@ -1,12 +1,14 @@
-ghost use Rattle.std.specs.Prelude.{◌≡◌, MatchResult, Ok, Err};
+ghost use Rattle.std.specs.Prelude.{◌≡◌, IfSome, IsTrue, IsFalse, MatchResult, Ok, Err, length};
 ghost use Rattle.meaning.specs.Jobs.{State};
+ghost use Rattle.meaning.specs.Plans.{deposits};
 ghost use Rattle.meaning.specs.Runs.{Serving};
 ghost use Rattle.monitor.specs.Moments.{StandsNow};
-ghost use Rattle.commands.specs.Machines.{Machine, IsAnswered, IsListed};
+ghost use Rattle.commands.specs.Asking.{HasDone};
+ghost use Rattle.commands.specs.Machines.{Machine, AreShown, IsAnswered, IsListed};
 
 use meaning::{Entry, Event, Reply};
 use std::alloc::Global;
-use words36::Ppn;
+use words36::{Ppn, Word};
 
 /// A service of files, as far as a session asks it.
 pub trait FileService {
@@ -15,6 +17,19 @@ pub trait FileService {
     /// Serves one event, and gives its reply.
     fn event(&mut self, alloc: Global, event: &Event) -> Reply
         ensures { IsAnswered (machine self.old) (machine self.new) event.now result };
+
+    /// So many words of job 1's core in a row, from an address on: each is the one that an event would be told. None
+    /// where they have to be asked for one by one.
+    fn examine_all(&self, first: u32, count: usize) -> Option<&[Word]>
+        ensures { IfSome result (λ words. (length words.now ≡ count)
+            × AreShown (machine self.now) first words.now) };
+
+    /// Puts words into job 1's core from an address on, as events would, one by one, each of which is done. False where
+    /// they have to be asked for one by one, and nothing is changed.
+    fn deposit_all(&mut self, first: u32, words: &[Word]) -> bool
+        ensures done { IsTrue result
+            → HasDone machine self.old self.new (deposits first words.now) }
+        ensures refused { IsFalse result → self.new ≡ self.old };
 
     /// The files of a directory, for a job: by name and then by extension, as numbers.
     fn list(&mut self, alloc: Global, job: u32, owner: Ppn) -> Result<Vec<Entry>, Reply>

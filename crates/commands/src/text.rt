@@ -1,6 +1,6 @@
 ghost use Rattle.std.specs.Prelude.{◌≡◌, ◌++◌, IfOk, OnOk, codes, string_bytes};
 ghost use Rattle.words36.specs.Sixbit.{characters};
-ghost use Rattle.meaning.specs.Scripts.{written};
+ghost use Rattle.meaning.specs.Scripts.{words_given};
 ghost use Rattle.meaning.specs.Texts.{line, refusal, code_text, greeting, right_in, three_digits, extension_text};
 ghost use Rattle.meaning.specs.Texts.{month_text, day_text, entry_text, blocks_in, total_text, listing, list_text};
 ghost use Rattle.meaning.specs.Errands.{volume_line};
@@ -56,7 +56,7 @@ fn code_text(code: u32) -> &'static str
 
 /// The line that a call script is answered with for a reply; its numbers are octal.
 pub fn reply_line(alloc: Global, reply: &Reply) -> Result<Vec<u8>, AllocError>
-    ensures { IfOk result (λ bytes. bytes.items ≡ line (written reply.now)) }
+    ensures { IfOk result (λ bytes. bytes.items ≡ line (words_given reply.now)) }
 {
     match reply {
         Reply::Done => line(alloc, "DONE"),

@@ -1,7 +1,7 @@
 ghost use Rattle.std.specs.Prelude.{◌≡◌, ◌+◌, ◌++◌, ℕ, List, [], Some, OnOk, flat_map};
 ghost use Rattle.words36.specs.Blocks.{word_bytes};
 ghost use Rattle.meaning.specs.Plans.{Plan, each, examines, finds as found, lists as listed, file_words, types_blocks};
-ghost use Rattle.meaning.specs.Plans.{types_last, types_body, blocks_said as said_blocks, until_end, reads};
+ghost use Rattle.meaning.specs.Plans.{types_last, types_body, blocks_said as said_blocks, until_end, reads_file};
 ghost use Rattle.meaning.specs.Texts.{typed};
 ghost use Rattle.meaning.specs.declared.encoding.Encoding.{Encoding as Encodings};
 ghost use Rattle.meaning.specs.declared.command.Command.TheVariants.{TypeOut as TypeLine};
@@ -186,7 +186,7 @@ pub fn read_out<S: FileService>(
     spec: Spec,
 ) -> Result<Vec<u8>, AllocError>
     ensures { Concludes (λ bytes. bytes.items) result S.machine service.old service.new
-        (reads moment encoding spec) tally.old tally.new }
+        (reads_file moment encoding spec) tally.old tally.new }
 {
     let mut typed = Typed::new(alloc, encoding);
     let read = type_file(alloc, service, moment, spec, &mut typed);

@@ -16,7 +16,7 @@ use Rattle.meaning.specs.Blocks.{head_or_zero}
 use Rattle.meaning.specs.Costs.{directory_cost}
 use Rattle.meaning.specs.Maps.{EachOnce, from_entries, times}
 use Rattle.meaning.specs.Directories.{Node, numbers, first_of, items, directory_block, IsSpelled, IsDirectory}
-use Rattle.meaning.specs.Walks.{Leads}
+use Rattle.meaning.specs.Walks.{LeadsAlong}
 use Rattle.meaning.specs.Faults.{InSpace, IsBadBlock, walked}
 use Rattle.meaning.proofs.MapLaws.{some_same, some_none}
 use Rattle.meaning.proofs.MapSums.{times-append}
@@ -90,9 +90,9 @@ digit_le marks n = bounded (flag_at marks n)
 -- Walks.
 
 leads_more : {E : Type 0} (words : E → List ℕ) (c : Contents) (first : ℕ) (nodes : List (Node E)) (n : ℕ)
-    (entries : List E) (next : ℕ) → Leads words c first nodes n → 0 < n
+    (entries : List E) (next : ℕ) → LeadsAlong words c first nodes n → 0 < n
     → c n ≡ Some (directory_block words next entries)
-    → Leads words c first (nodes ++ (n, entries) ∷ []) next
+    → LeadsAlong words c first (nodes ++ (n, entries) ∷ []) next
 leads_more words c first [] n entries next walk some is = (sym walk, omega arith, next, ap c walk ∙ is, refl)
 leads_more words c first (node ∷ nodes) n entries next walk some is = (
   walk.0,
@@ -103,7 +103,7 @@ leads_more words c first (node ∷ nodes) n entries next walk some is = (
 )
 
 leads_end : {E : Type 0} (words : E → List ℕ) (c : Contents) (first : ℕ) (nodes : List (Node E))
-    → Leads words c first nodes 0 → (first_of nodes ≡ first) × IsSpelled words c nodes
+    → LeadsAlong words c first nodes 0 → (first_of nodes ≡ first) × IsSpelled words c nodes
 leads_end words c first [] walk = (sym walk, tt)
 leads_end words c first (node ∷ nodes) walk =
     let r = leads_end words c walk.2 nodes walk.4 in
@@ -151,7 +151,7 @@ pub record IsLoading {K V : Type 0} (R : K → K → Ordering) (words : K × V �
   pub begins : head_or_zero (blocks ++ next ∷ []) ≡ first
   pub marked : (n : ℕ) → digit_at marks n ≡ digit_at old n + times n blocks
   pub long : length marks ≡ size
-  pub walk : honest → Leads words contents first (nodes_of blocks entries) next
+  pub walk : honest → LeadsAlong words contents first (nodes_of blocks entries) next
 
 -- what was walked while less was known to be honest
 pub loading_less : {K V : Type 0} (R : K → K → Ordering) (words : K × V → List ℕ) (IsEntry : K × V
@@ -219,7 +219,7 @@ module _ {K V : Type 0} (R : K → K → Ordering) (words : K × V → List ℕ)
           begins = head_more blocks n next ∙ l.begins;
           marked = marked_more old marks blocks n free (omega arith) l.marked;
           long = length-set marks n true ∙ long;
-          walk = λ h. subst (λ nodes. Leads words contents first nodes next)
+          walk = λ h. subst (λ nodes. LeadsAlong words contents first nodes next)
               (sym (nodes_more blocks entries es n full few) ∙ ap (nodes_of (blocks ++ n ∷ [])) (sym a.new_is))
               (leads_more words contents first (nodes_of blocks entries) n es next (l.walk h) some (r.words_are h
               ∙ ap Some a.spells.words_are));
@@ -326,8 +326,8 @@ module _ {K V : Type 0} (R : K → K → Ordering) (words : K × V → List ℕ)
     loaded_first = sym (head_there blocks next (counted_some (length blocks) (length entries) (l.counted end)))
         ∙ l.begins
 
-    pub loaded_walk : honest → Leads words contents first (nodes_of blocks entries) 0
-    loaded_walk h = subst (Leads words contents first (nodes_of blocks entries)) end (l.walk h)
+    pub loaded_walk : honest → LeadsAlong words contents first (nodes_of blocks entries) 0
+    loaded_walk h = subst (LeadsAlong words contents first (nodes_of blocks entries)) end (l.walk h)
 
     pub loaded_on : honest → IsOn words contents (record { blocks = blocks; entries = entries })
     loaded_on h = (leads_end words contents first (nodes_of blocks entries) (loaded_walk h)).1

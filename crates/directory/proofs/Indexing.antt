@@ -20,7 +20,7 @@ use Rattle.meaning.proofs.Lists.{times_here, times_later}
 use Rattle.meaning.proofs.MapLaws.{some_none, some_same}
 use Rattle.meaning.proofs.SlotLaws.{all_append}
 use Rattle.directory.specs.Edits.{StandsAt}
-use Rattle.directory.specs.Indexes.{order_to, HasKeyAt, Precedes, AreRising, Compares, IsGap, IsEntered, IsIndex}
+use Rattle.directory.specs.Indexes.{order_to, HasKeyAt, Precedes, AreRising, Compares, IsGap, IsInserted, IsIndex}
 use Rattle.directory.specs.Indexes.{IsLeft}
 use Rattle.directory.proofs.Finding.{find_at}
 use Rattle.directory.proofs.Orders.{one, one_same, one_other, same_or_not, strict, all_in, all_at, all_take, all_drop}
@@ -361,7 +361,7 @@ module _ {K V : Type 0} {R : K → K → Ordering} (o : IsTotalOrder R) (exact :
 
   -- an entry comes behind the others
   pub index_pushed : (items : List (K × V)) (e : K × V) (order new : List ℕ) → IsIndex R items order
-      → IsEntered R items e.0 (length items) order new → IsIndex R (items ++ e ∷ []) new
+      → IsInserted R items e.0 (length items) order new → IsIndex R (items ++ e ∷ []) new
   index_pushed items e order new index entered =
       let many = length-append items (e ∷ []) in
       let inside : (p : ℕ) → 0 < times p order → p < length items = rising_inside R items order index.rising in
@@ -394,20 +394,20 @@ module _ {K V : Type 0} {R : K → K → Ordering} (o : IsTotalOrder R) (exact :
   pub pushed_index : {E : Type 0} (view : E → K × V) (list seen : List E) (e : E) (k : K) (n : ℕ)
       (order before new : List ℕ)
       → seen ≡ list → k ≡ (view e).0 → n ≡ length list → before ≡ order → IsIndex R (map view list) order
-      → IsEntered R (map view seen) k n before new → (all : List E) → all ≡ list ++ e ∷ []
+      → IsInserted R (map view seen) k n before new → (all : List E) → all ≡ list ++ e ∷ []
       → IsIndex R (map view all) new
   pushed_index view list seen e k n order before new same key many was index entered all more =
-      let first = subst (λ es. IsEntered R (map view es) k n before new) same entered in
-      let second = subst (λ q. IsEntered R (map view list) q n before new) key first in
-      let third = subst (λ m. IsEntered R (map view list) (view e).0 m before new)
+      let first = subst (λ es. IsInserted R (map view es) k n before new) same entered in
+      let second = subst (λ q. IsInserted R (map view list) q n before new) key first in
+      let third = subst (λ m. IsInserted R (map view list) (view e).0 m before new)
       (many ∙ sym (length-map list view)) second in
-      let fourth = subst (λ ps. IsEntered R (map view list) (view e).0 (length (map view list)) ps new) was third in
+      let fourth = subst (λ ps. IsInserted R (map view list) (view e).0 (length (map view list)) ps new) was third in
       subst (λ es. IsIndex R es new) (sym (ap (map view) more ∙ map_push view list e))
       (index_pushed (map view list) (view e) order new index fourth)
 
   -- an entry comes in the place of another: its place leaves the order and comes in again
   pub index_set : (items : List (K × V)) (i : ℕ) (e : K × V) (order less new : List ℕ) → i < length items
-      → IsIndex R items order → IsLeft i order less → IsEntered R items e.0 i less new
+      → IsIndex R items order → IsLeft i order less → IsInserted R items e.0 i less new
       → IsIndex R (slice_set items i e) new
   index_set items i e order less new within index left entered =
       record {
@@ -507,7 +507,7 @@ module _ {K V : Type 0} {R : K → K → Ordering} (o : IsTotalOrder R) (exact :
   pub index_moved : (items : List (K × V)) (i : ℕ) (e : K × V) (order less least new : List ℕ) → i < length items
       → (i ≡ length items - 1 → ⊥) → slice_get items (length items - 1) ≡ Some e
       → IsIndex R items order → IsLeft i order less → IsLeft (length items - 1) less least
-      → IsEntered R items e.0 i least new → IsIndex R (take (length items - 1) (slice_set items i e)) new
+      → IsInserted R items e.0 i least new → IsIndex R (take (length items - 1) (slice_set items i e)) new
   index_moved items i e order less least new within other last index left left' entered =
       record {
         rising = subst (AreRising R after) (sym entered.is)

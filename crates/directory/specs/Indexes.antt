@@ -36,7 +36,7 @@ module _ {K V : Type 0} (R : K → K → Ordering) (items : List (K × V)) where
     pub high : AllByRecursion (Compares k Greater) (drop at order)
 
   -- A place came into the order, where its key belongs.
-  pub record IsEntered (k : K) (place : ℕ) (old new : List ℕ) : Type 0 where
+  pub record IsInserted (k : K) (place : ℕ) (old new : List ℕ) : Type 0 where
     pub at : ℕ
     pub gap : IsGap k old at
     pub is : new ≡ take at old ++ place ∷ drop at old

@@ -6,7 +6,7 @@ use Rattle.blockdisk.specs.Disk.{Contents}
 use Rattle.meaning.specs.Maps.{EachOnce, times}
 use Rattle.meaning.specs.Directories.{Node, numbers, first_of, items, directory_block}
 use Rattle.meaning.specs.Readings.{IsChainRead}
-use Rattle.meaning.specs.Walks.{Leads}
+use Rattle.meaning.specs.Walks.{LeadsAlong}
 use Rattle.meaning.specs.Faults.{InSpace, IsBadBlock, walked}
 use Rattle.alloctab.specs.Lists.{digit_at}
 
@@ -62,7 +62,7 @@ pub record Adds {K V : Type 0} (R : K → K → Ordering) (words : K × V → Li
 pub record IsBadChain {K V : Type 0} (R : K → K → Ordering) (words : K × V → List ℕ) (IsEntry : K × V
     → Type 0) (target : K × V → ℕ) (size : ℕ) (contents : Contents) (first n : ℕ) : Type 0 where
   pub before : List (Node (K × V))
-  pub walk : Leads words contents first before n
+  pub walk : LeadsAlong words contents first before n
   pub inside : InSpace size n
   pub bad : IsBadBlock R words IsEntry target size contents before n
 
@@ -70,7 +70,7 @@ pub record IsBadChain {K V : Type 0} (R : K → K → Ordering) (words : K × V 
 pub record IsTwiceInChain {K V : Type 0} (words : K × V → List ℕ) (contents : Contents) (reached : List Bool)
     (first n : ℕ) : Type 0 where
   pub before : List (Node (K × V))
-  pub walk : Leads words contents first before n
+  pub walk : LeadsAlong words contents first before n
   pub somewhere : 0 < n
   pub twice : 2 ≤ digit_at reached n + times n (walked before n)
 

@@ -259,7 +259,7 @@ impl<E: Entry> Chain<E> {
     ghost use Rattle.meaning.specs.Blocks.{head_or_zero};
     ghost use Rattle.meaning.specs.Maps.{times};
     ghost use Rattle.meaning.specs.Directories.{Node};
-    ghost use Rattle.meaning.specs.Walks.{Leads};
+    ghost use Rattle.meaning.specs.Walks.{LeadsAlong};
     ghost use Rattle.alloctab.specs.Lists.{digit_at};
     ghost use Rattle.directory.specs.Chains.{IsChain, IsOn, viewed, nodes_of};
     ghost use Rattle.directory.specs.Loading.{IsBadChain, IsTwiceInChain, IsWholeChain};
@@ -287,7 +287,7 @@ impl<E: Entry> Chain<E> {
         ensures on { (D.state disk.new).honest
             → IfOk result (λ chain. IsOn E.words_of (D.state disk.old).contents (viewed E.view chain)) }
         ensures walk { (D.state disk.new).honest
-            → IfOk result (λ chain. Leads E.words_of (D.state disk.old).contents first
+            → IfOk result (λ chain. LeadsAlong E.words_of (D.state disk.old).contents first
             (nodes_of chain.blocks (map E.view chain.entries)) 0) }
         ensures first { IfOk result (λ chain. head_or_zero chain.blocks ≡ first) }
         ensures chain { IfOk result (λ chain. IsChain E.order E.IsEntry (viewed E.view chain)) }

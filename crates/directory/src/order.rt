@@ -5,7 +5,7 @@ ghost use Rattle.std.specs.Vec.{vec_len, vec_capacity};
 ghost use Rattle.std.specs.FinMap.Entries.{find};
 ghost use Rattle.meaning.specs.Maps.{times};
 ghost use Rattle.directory.specs.Edits.{StandsAt};
-ghost use Rattle.directory.specs.Indexes.{order_to, HasKeyAt, AreRising, IsGap, IsEntered, IsIndex, IsLeft};
+ghost use Rattle.directory.specs.Indexes.{order_to, HasKeyAt, AreRising, IsGap, IsInserted, IsIndex, IsLeft};
 ghost use Rattle.directory.specs.Spares.{HasPlaces};
 
 use crate::Entry;
@@ -64,7 +64,7 @@ pub(crate) fn enter<E: Entry>(order: &mut Vec<usize>, list: &[E], key: &E::Key, 
     requires rising { AreRising E.order (map E.view list.now) order.old.items }
     requires absent { (p : ℕ) → 0 < times p order.old.items → HasKeyAt E.order (map E.view list.now) key.now p → ⊥ }
     requires places { HasPlaces (suc (vec_len order.old)) (vec_capacity order.old) }
-    ensures entered { IsEntered E.order (map E.view list.now) key.now place order.old.items order.new.items }
+    ensures entered { IsInserted E.order (map E.view list.now) key.now place order.old.items order.new.items }
     ensures places { HasPlaces (vec_len order.new) (vec_capacity order.new) }
 {
     match search(order, list, key) {

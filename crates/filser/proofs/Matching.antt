@@ -20,7 +20,7 @@ use Rattle.commands.specs.Files.{IsFileName}
 use Rattle.arguments.specs.CommandLine.{command_line, serving, filing, looking, init_app, run_app, calls_app, put_app}
 use Rattle.arguments.specs.CommandLine.{get_app, list_app, check_app, convert_app, converting, dated, filed, formed}
 use Rattle.arguments.specs.CommandLine.{sized}
-use Rattle.filser.specs.Requests.{Asks, IsAsked, IsTask, IsAt, IsNamed, IsPlace, HasForm, HasText, HasNumber}
+use Rattle.filser.specs.Requests.{Asks, IsAsked, IsTask, IsAt, IsNamedFile, IsListedPlace, HasForm, HasText, HasNumber}
 use Rattle.filser.specs.Requests.{Spells, task_name}
 use Rattle.filser.specs.declared.task.NamedFile.{NamedFile}
 use Rattle.filser.specs.declared.task.Task.{Task}
@@ -113,20 +113,20 @@ out_of_range rows id least most m parsed outside n has =
 -- Arguments that name a file, a directory or a moment, and don't.
 
 pub no_owner : (rows : List Row) (text : Text) → HasText rows (codes "PPN") text
-    → ((owner : ℕ) → IsPair 6 text owner → ⊥) → (f : NamedFile) → IsNamed rows f → ⊥
+    → ((owner : ℕ) → IsPair 6 text owner → ⊥) → (f : NamedFile) → IsNamedFile rows f → ⊥
 no_owner rows text has none f named =
     let same = same_some named.owner.0 text (sym named.owner.1 ∙ has) in
     none f.owner (subst (λ (t : Text). IsPair 6 t f.owner) same named.owner.2)
 
 pub no_name : (rows : List Row) (text : Text) → HasText rows (codes "NAME") text
-    → ((name ext : ℕ) → IsFileName (map upper text) name ext → ⊥) → (f : NamedFile) → IsNamed rows f → ⊥
+    → ((name ext : ℕ) → IsFileName (map upper text) name ext → ⊥) → (f : NamedFile) → IsNamedFile rows f → ⊥
 no_name rows text has none f named =
     let same = same_some named.name.0 text (sym named.name.1 ∙ has) in
     none f.name.name f.name.ext (subst (λ (t : Text). IsFileName (map upper t) f.name.name f.name.ext) same
     named.name.2)
 
 pub no_place : (rows : List Row) (text : Text) → HasText rows (codes "PPN") text
-    → ((owner : ℕ) → IsPair 6 text owner → ⊥) → (place : Option ℕ) → IsPlace rows place → ⊥
+    → ((owner : ℕ) → IsPair 6 text owner → ⊥) → (place : Option ℕ) → IsListedPlace rows place → ⊥
 no_place rows text has none None gone = some_is_none text (sym has ∙ gone)
 no_place rows text has none (Some owner) named =
     let same = same_some named.0 text (sym named.1 ∙ has) in
@@ -259,7 +259,7 @@ no_calls name rows is none (ListAll place style) asked = other_task name (codes 
 no_calls name rows is none Check asked = other_task name (codes "calls") Check 293 refl (λ e. omega arith) is asked.0
 
 pub no_put : (name : Text) (rows : List Row) → name ≡ codes "put"
-    → ((f : NamedFile) (at : Moment) → IsNamed rows f → IsAt rows at → ⊥) → (t : Task) → IsTask name rows t → ⊥
+    → ((f : NamedFile) (at : Moment) → IsNamedFile rows f → IsAt rows at → ⊥) → (t : Task) → IsTask name rows t → ⊥
 no_put name rows is none (Run at) asked = other_task name (codes "put") (Run at) 346 refl (λ e. omega arith) is asked.0
 no_put name rows is none (Calls at) asked = other_task name (codes "put") (Calls at) 346 refl (λ e. omega arith) is
     asked.0
@@ -272,7 +272,7 @@ no_put name rows is none (ListAll place style) asked = other_task name (codes "p
 no_put name rows is none Check asked = other_task name (codes "put") Check 346 refl (λ e. omega arith) is asked.0
 
 pub no_get : (name : Text) (rows : List Row) → name ≡ codes "get"
-    → ((f : NamedFile) (at : Moment) → IsNamed rows f → IsAt rows at → ⊥) → (t : Task) → IsTask name rows t → ⊥
+    → ((f : NamedFile) (at : Moment) → IsNamedFile rows f → IsAt rows at → ⊥) → (t : Task) → IsTask name rows t → ⊥
 no_get name rows is none (Run at) asked = other_task name (codes "get") (Run at) 305 refl (λ e. omega arith) is asked.0
 no_get name rows is none (Calls at) asked = other_task name (codes "get") (Calls at) 305 refl (λ e. omega arith) is
     asked.0

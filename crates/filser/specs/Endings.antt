@@ -9,19 +9,19 @@ use Rattle.filser.specs.declared.status.Status.{Status}
 use Rattle.filser.specs.declared.status.Status.TheVariants.{Done, BadArguments, Fault}
 
 -- help or the version was asked for
-abbrev pub IsShown : ErrorKind → Type 0
-IsShown kind = (kind ≡ DisplayHelp) ⊎ (kind ≡ DisplayVersion)
+abbrev pub AsksForHelp : ErrorKind → Type 0
+AsksForHelp kind = (kind ≡ DisplayHelp) ⊎ (kind ≡ DisplayVersion)
 
 abbrev pub EndsUnasked : RequestError → Status → Type 0
-EndsUnasked (Usage e) s = (IsShown (kind_of e) → (s ≡ Done) ⊎ (s ≡ Fault))
-    × ((IsShown (kind_of e) → ⊥) → s ≡ BadArguments)
+EndsUnasked (Usage e) s = (AsksForHelp (kind_of e) → (s ≡ Done) ⊎ (s ≡ Fault))
+    × ((AsksForHelp (kind_of e) → ⊥) → s ≡ BadArguments)
 EndsUnasked BadArgument s = s ≡ BadArguments
 EndsUnasked NoMemory s = s ≡ Fault
 
 -- the words are refused, and not for being a question
 abbrev pub AreMistaken : Kinds → Type 0
-AreMistaken kinds = (kinds ≡ [] → ⊥) × ((kind : ErrorKind) → IsAmong kind kinds → IsShown kind → ⊥)
+AreMistaken kinds = (kinds ≡ [] → ⊥) × ((kind : ErrorKind) → IsAmong kind kinds → AsksForHelp kind → ⊥)
 
 -- they ask for help or the version
 abbrev pub AskToSee : Kinds → Type 0
-AskToSee kinds = (kinds ≡ [] → ⊥) × ((kind : ErrorKind) → IsAmong kind kinds → IsShown kind)
+AskToSee kinds = (kinds ≡ [] → ⊥) × ((kind : ErrorKind) → IsAmong kind kinds → AsksForHelp kind)

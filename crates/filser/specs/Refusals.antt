@@ -44,5 +44,5 @@ refusal_code Exists = 3
 refusal_code (Start error) = start_code error
 
 -- what a file is refused for before a block of it is looked at
-abbrev pub IsFileRefusal : Refusal → Type 0
-IsFileRefusal refusal = (refusal ≡ Start NotVolume) ⊎ (refusal ≡ Start Device)
+abbrev pub IsImageRefusal : Refusal → Type 0
+IsImageRefusal refusal = (refusal ≡ Start NotVolume) ⊎ (refusal ≡ Start Device)

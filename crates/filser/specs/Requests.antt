@@ -34,19 +34,19 @@ HasNumber rows id least most n = ((text : Text) × (one_of id rows ≡ Some text
 abbrev pub HasOwner : List Row → ℕ → Type 0
 HasOwner rows owner = (text : Text) × HasText rows (codes "PPN") text × IsPair 6 text owner
 
-abbrev pub HasName : List Row → ℕ → ℕ → Type 0
-HasName rows name ext = (text : Text) × HasText rows (codes "NAME") text × IsFileName (map upper text) name ext
+abbrev pub HasFileName : List Row → ℕ → ℕ → Type 0
+HasFileName rows name ext = (text : Text) × HasText rows (codes "NAME") text × IsFileName (map upper text) name ext
 
 -- Its bytes are words where that is asked for.
-pub record IsNamed (rows : List Row) (file : NamedFile) : Type 0 where
+pub record IsNamedFile (rows : List Row) (file : NamedFile) : Type 0 where
   pub owner : HasOwner rows file.owner
-  pub name : HasName rows file.name.name file.name.ext
+  pub name : HasFileName rows file.name.name file.name.ext
   pub encoding : (file.encoding ≡ Words) ↔ HasText rows (codes "words") (codes "true")
 
 -- the directory that is to be listed, or all
-abbrev pub IsPlace : List Row → Option ℕ → Type 0
-IsPlace rows None = first_of (codes "PPN") rows ≡ None
-IsPlace rows (Some owner) = HasOwner rows owner
+abbrev pub IsListedPlace : List Row → Option ℕ → Type 0
+IsListedPlace rows None = first_of (codes "PPN") rows ≡ None
+IsListedPlace rows (Some owner) = HasOwner rows owner
 
 -- lists are a table where that is asked for
 abbrev pub IsStyle : List Row → Style → Type 0
@@ -69,9 +69,9 @@ IsAt rows at = HasNumber rows (codes "date") 0 32767 at.date × HasNumber rows (
 abbrev pub HasTask : List Row → Task → Type 0
 HasTask rows (Run at) = IsAt rows at
 HasTask rows (Calls at) = IsAt rows at
-HasTask rows (Put file at) = IsNamed rows file × IsAt rows at
-HasTask rows (Get file at) = IsNamed rows file × IsAt rows at
-HasTask rows (ListAll place style) = IsPlace rows place × IsStyle rows style
+HasTask rows (Put file at) = IsNamedFile rows file × IsAt rows at
+HasTask rows (Get file at) = IsNamedFile rows file × IsAt rows at
+HasTask rows (ListAll place style) = IsListedPlace rows place × IsStyle rows style
 HasTask rows Check = Unit
 
 abbrev pub IsTask : Text → List Row → Task → Type 0

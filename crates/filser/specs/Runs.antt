@@ -15,7 +15,7 @@ use Rattle.filser.specs.Refusals.{refusal_code}
 use Rattle.filser.specs.Requests.{Asks}
 use Rattle.filser.specs.ServedDisks.{IsEnding, IsSaid}
 use Rattle.filser.specs.Statuses.{status_code}
-use Rattle.filser.specs.Tasks.{Attends, IsStart}
+use Rattle.filser.specs.Tasks.{Attends, IsFirstMoment}
 use Rattle.filser.specs.declared.asked.Request.{Request}
 use Rattle.filser.specs.declared.asked.Request.TheVariants.{Fresh, Init, Work, Convert}
 use Rattle.filser.specs.declared.error.RequestError.{RequestError}
@@ -55,15 +55,16 @@ IsTold blocks sink full status = (status ≡ Fault)
 -- What was asked for was done: the lines of the reader were served at date 0 and minute 0, over a fresh volume in
 -- memory; an image was made, of which nothing is printed; a task was attended to on the image that is named; or it was
 -- converted.
-abbrev pub IsRun : {D E : Type 0} → (D → DiskState) → (E → DiskState) → Request → Option (List ℕ) → Option (List ℕ)
+abbrev pub IsRequestRun : {D E : Type 0} → (D → DiskState) → (E → DiskState) → Request → Option (List ℕ)
+    → Option (List ℕ)
     → Option (List ℕ) → Option (List ℕ) → Status → Type 0
-IsRun memory image Fresh source left sink full status =
-    (at : Moment) × IsStart at × IsAttended memory (Run at) source left sink full status
-IsRun memory image (Init path blocks form) source left sink full status =
+IsRequestRun memory image Fresh source left sink full status =
+    (at : Moment) × IsFirstMoment at × IsAttended memory (Run at) source left sink full status
+IsRequestRun memory image (Init path blocks form) source left sink full status =
     (left ≡ source) × (full ≡ sink) × (status ≡ Done)
-IsRun memory image (Work path form task) source left sink full status =
+IsRequestRun memory image (Work path form task) source left sink full status =
     IsAttended image task source left sink full status
-IsRun memory image (Convert path new form) source left sink full status =
+IsRequestRun memory image (Convert path new form) source left sink full status =
     (left ≡ source) × ((blocks : ℕ) × IsTold blocks sink full status)
 
 -- what is printed where the words ask for nothing that is done: what `clap` has to say of them, or nothing
@@ -80,5 +81,5 @@ IsUnasked kinds source left sink full status =
 pub record WasRun {D E : Type 0} (memory : D → DiskState) (image : E → DiskState) (kinds : Kinds)
     (found : Option (Text × List Row)) (source left sink full : Option (List ℕ)) (status : Status) : Type 0 where
   pub is : ((request : Request) × Asks found request
-      × (IsRun memory image request source left sink full status ⊎ IsTurnedAway source left sink full status))
+      × (IsRequestRun memory image request source left sink full status ⊎ IsTurnedAway source left sink full status))
       ⊎ IsUnasked kinds source left sink full status

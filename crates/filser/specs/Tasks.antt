@@ -13,8 +13,8 @@ use Rattle.filser.specs.declared.task.Task.{Task}
 use Rattle.filser.specs.declared.task.Task.TheVariants.{Run, Calls, Put, Get, List as ListAll, Check}
 
 -- date 0, minute 0
-abbrev pub IsStart : Moment → Type 0
-IsStart moment = (moment.date ≡ 0) × (moment.minute ≡ 0)
+abbrev pub IsFirstMoment : Moment → Type 0
+IsFirstMoment moment = (moment.date ≡ 0) × (moment.minute ≡ 0)
 
 -- The reader had `source` and has `left`, the writer held `sink` and holds `full`.
 abbrev pub Attends : {D : Type 0} → (D → DiskState) → Task → Option (List ℕ) → Option (List ℕ) → Option (List ℕ)
@@ -29,6 +29,6 @@ Attends state (Put file at) source left sink full first last result =
 Attends state (Get file at) source left sink full first last result =
     Errand sink full (machine_over state) first last (gets at file.owner file.encoding (own_file file.name)) result
 Attends state (ListAll place style) source left sink full first last result =
-    (at : Moment) × IsStart at × Survey sink full (machine_over state) first last at style place result
+    (at : Moment) × IsFirstMoment at × Survey sink full (machine_over state) first last at style place result
 Attends state Check source left sink full first last result =
     Checked sink full (machine_over state first) result × (last ≡ first)

@@ -3,9 +3,9 @@ ghost use Rattle.blockdisk.specs.Disk.{NoneOpen};
 ghost use Rattle.changeset.specs.Rest.{AtRest};
 ghost use Rattle.meaning.specs.Maps.{empty};
 ghost use Rattle.meaning.specs.Stands.{Stands};
-ghost use Rattle.filser.specs.Refusals.{IsFileRefusal};
+ghost use Rattle.filser.specs.Refusals.{IsImageRefusal};
 ghost use Rattle.filser.specs.ServedDisks.{HoldsFile};
-ghost use Rattle.imagefile.specs.Streams.{IsApart};
+ghost use Rattle.imagefile.specs.Streams.{IsNoStream};
 ghost use Rattle.imagefile.specs.Supposition.{unseen_in};
 ghost use Rattle.filser.specs.declared.refusal.Refusal.TheVariants.{Exists, Start};
 ghost use Rattle.volume.specs.declared.error.VolumeError.TheVariants.{Device};
@@ -49,8 +49,8 @@ pub(crate) fn tell_failure<E: Write>(errors: &mut E, path: &str, image: Image) {
 ///
 /// `Input`, `Output` or `Errors`, by the number.
 fn kept_apart(file: File) -> Result<File, ImageFault>
-    ensures apart { IfOk result (λ kept. (kept ≡ file) × IsApart kept) }
-    ensures refused { IfErr result (λ fault. IsFileRefusal fault.refusal) }
+    ensures apart { IfOk result (λ kept. (kept ≡ file) × IsNoStream kept) }
+    ensures refused { IfErr result (λ fault. IsImageRefusal fault.refusal) }
 {
     match apart(file) {
         Ok(file) => Ok(file),
@@ -65,7 +65,7 @@ fn kept_apart(file: File) -> Result<File, ImageFault>
 ///
 /// `InUse` where another process has it.
 fn claim<E: Write>(file: &File, path: &str, errors: &mut E) -> Result<(), ImageFault>
-    ensures { IfErr result (λ fault. IsFileRefusal fault.refusal) }
+    ensures { IfErr result (λ fault. IsImageRefusal fault.refusal) }
 {
     match file.try_lock() {
         Ok(()) => Ok(()),
@@ -91,10 +91,10 @@ pub(crate) fn disk_in(
     form: Form,
     supposed: Supposition,
 ) -> Result<ImageDisk<HostFile>, ImageFault>
-    requires { IsApart file }
+    requires { IsNoStream file }
     ensures holds { IfOk result
         (λ image. HoldsFile form (unseen_in supposed) (⟦<ImageDisk<HostFile> as Disk>⟧.state image)) }
-    ensures refused { IfErr result (λ fault. IsFileRefusal fault.refusal) }
+    ensures refused { IfErr result (λ fault. IsImageRefusal fault.refusal) }
 {
     match ImageDisk::of_form(HostFile::from_file(file, supposed), form) {
         Ok(image) => Ok(image),
@@ -120,10 +120,10 @@ pub(crate) fn image_in(
     form: Form,
     supposed: Supposition,
 ) -> Result<Image, ImageFault>
-    requires { IsApart file }
+    requires { IsNoStream file }
     ensures holds { IfOk result
         (λ image. HoldsFile form (unseen_in supposed) (⟦<Cached<ImageDisk<HostFile>> as Disk>⟧.state image)) }
-    ensures refused { IfErr result (λ fault. IsFileRefusal fault.refusal) }
+    ensures refused { IfErr result (λ fault. IsImageRefusal fault.refusal) }
 {
     let disk = disk_in(file, form, supposed)?;
     let room = NonZeroUsize::new(KEPT_BLOCKS).unwrap();
@@ -143,8 +143,8 @@ pub(crate) fn open_file<F: Files<File = File>, E: Write>(
     path: &str,
     errors: &mut E,
 ) -> Result<File, ImageFault>
-    ensures apart { IfOk result IsApart }
-    ensures refused { IfErr result (λ fault. IsFileRefusal fault.refusal) }
+    ensures apart { IfOk result IsNoStream }
+    ensures refused { IfErr result (λ fault. IsImageRefusal fault.refusal) }
 {
     match OpenOptions::new().read(true).write(true).open(files, path) {
         Ok(file) => {
@@ -202,7 +202,7 @@ pub(crate) fn zeros_in<E: Write>(
     blocks: u32,
     errors: &mut E,
 ) -> Result<ImageDisk<HostFile>, ImageFault>
-    ensures { IfErr result (λ fault. IsFileRefusal fault.refusal) }
+    ensures { IfErr result (λ fault. IsImageRefusal fault.refusal) }
 {
     let file = kept_apart(file)?;
     claim(&file, path, errors)?;
@@ -224,7 +224,7 @@ fn volume_on(disk: ImageDisk<HostFile>) -> Result<ImageDisk<HostFile>, ImageFaul
         (λ c. Stands (⟦<ImageDisk<HostFile> as Disk>⟧.state disk).size c empty)) }
     ensures settled { IfOk result (λ made. (⟦<ImageDisk<HostFile> as Disk>⟧.state made).honest
         → NoneOpen (⟦<ImageDisk<HostFile> as Disk>⟧.state made)) }
-    ensures refused { IfErr result (λ fault. IsFileRefusal fault.refusal) }
+    ensures refused { IfErr result (λ fault. IsImageRefusal fault.refusal) }
 {
     let mut disk = disk;
     match Volume::init(&mut disk) {
@@ -248,7 +248,7 @@ fn fill<E: Write>(
     blocks: u32,
     errors: &mut E,
 ) -> Result<(), ImageFault>
-    ensures { IfErr result (λ fault. IsFileRefusal fault.refusal) }
+    ensures { IfErr result (λ fault. IsImageRefusal fault.refusal) }
 {
     volume_on(zeros_in(file, path, form, blocks, errors)?)?;
     Ok(())
@@ -267,7 +267,7 @@ pub fn make_image<F: Files<File = File>, E: Write>(
     blocks: u32,
     errors: &mut E,
 ) -> Result<(), ImageFault>
-    ensures { IfErr result (λ fault. (fault.refusal ≡ Exists) ⊎ IsFileRefusal fault.refusal) }
+    ensures { IfErr result (λ fault. (fault.refusal ≡ Exists) ⊎ IsImageRefusal fault.refusal) }
 {
     let file = new_file(files, path)?;
     match fill(file, path, form, blocks, errors) {

@@ -3,10 +3,10 @@ ghost use Rattle.std.specs.Prelude.{MatchResult};
 ghost use Rattle.std.specs.Io.KnownBytes.{Keeps};
 ghost use Rattle.clap.specs.Words.{fault_of, kind_of, subcommand_of};
 ghost use Rattle.arguments.specs.CommandLine.{command_line};
-ghost use Rattle.filser.specs.Endings.{AreMistaken, AskToSee, EndsUnasked, IsShown};
+ghost use Rattle.filser.specs.Endings.{AreMistaken, AskToSee, EndsUnasked, AsksForHelp};
 ghost use Rattle.filser.specs.HostFaults.{forbids_errors, forbids_output};
 ghost use Rattle.filser.specs.Requests.{Asks, InRange};
-ghost use Rattle.filser.specs.Runs.{IsExcused, IsRun, IsTurnedAway, WasRun};
+ghost use Rattle.filser.specs.Runs.{IsExcused, IsRequestRun, IsTurnedAway, WasRun};
 ghost use Rattle.filser.specs.Statuses.{status_code};
 ghost use Rattle.filser.specs.declared.error.RequestError.TheVariants.{BadArgument, NoMemory};
 ghost use Rattle.filser.specs.declared.status.Status.{Status as Statuses};
@@ -125,7 +125,7 @@ fn start<F: Files<File = File>, R: Read, W: Write, E: Write>(
 ) -> Status
     requires { InRange asked.now }
     ensures serving { result ≢ BadArguments }
-    ensures ran { IsRun (⟦<MemDisk as Disk>⟧.state) (⟦<Cached<ImageDisk<HostFile>> as Disk>⟧.state) asked.now
+    ensures ran { IsRequestRun (⟦<MemDisk as Disk>⟧.state) (⟦<Cached<ImageDisk<HostFile>> as Disk>⟧.state) asked.now
         (R.remaining reader.old) (R.remaining reader.new) (W.contents writer.old) (W.contents writer.new) result
         ⊎ IsTurnedAway (R.remaining reader.old) (R.remaining reader.new) (W.contents writer.old) (W.contents writer.new)
         result }
@@ -154,7 +154,7 @@ fn perform<F: Files<File = File>, R: Read, W: Write, E: Write>(
 ) -> Status
     requires { InRange asked.now }
     ensures serving { result ≢ BadArguments }
-    ensures ran { IsRun (⟦<MemDisk as Disk>⟧.state) (⟦<Cached<ImageDisk<HostFile>> as Disk>⟧.state) asked.now
+    ensures ran { IsRequestRun (⟦<MemDisk as Disk>⟧.state) (⟦<Cached<ImageDisk<HostFile>> as Disk>⟧.state) asked.now
         (R.remaining reader.old) (R.remaining reader.new) (W.contents writer.old) (W.contents writer.new) result
         ⊎ IsTurnedAway (R.remaining reader.old) (R.remaining reader.new) (W.contents writer.old) (W.contents writer.new)
         result }
@@ -245,8 +245,8 @@ fn refuse<W: Write, E: Write>(error: &RequestError, writer: &mut W, errors: &mut
 
 /// Shows the text of `clap`: help and the version are what was asked for, and all else is a mistake.
 fn show<W: Write, E: Write>(usage: &Error, writer: &mut W, errors: &mut E) -> Status
-    ensures shown { IsShown (kind_of usage.now) → (result ≡ Done) ⊎ (result ≡ Fault) }
-    ensures mistake { (IsShown (kind_of usage.now) → ⊥) → result ≡ BadArguments }
+    ensures shown { AsksForHelp (kind_of usage.now) → (result ≡ Done) ⊎ (result ≡ Fault) }
+    ensures mistake { (AsksForHelp (kind_of usage.now) → ⊥) → result ≡ BadArguments }
 {
     if usage.use_stderr() {
         let _ = write!(errors, "{usage}");

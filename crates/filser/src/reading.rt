@@ -5,7 +5,8 @@ ghost use Rattle.clap.specs.Words.{kind_of, IsAmong};
 ghost use Rattle.clap.specs.declared.error.Error.{Error as ClapError};
 ghost use Rattle.clap.specs.declared.error.kind.ErrorKind.TheVariants.{OutOfMemory};
 ghost use Rattle.arguments.specs.CommandLine.{command_line};
-ghost use Rattle.filser.specs.Requests.{Asks, IsAsked, IsAt, IsNamed, IsPlace, IsStyle, IsTask, HasForm, HasText};
+ghost use Rattle.filser.specs.Requests.{Asks, IsAsked, IsAt, IsNamedFile};
+ghost use Rattle.filser.specs.Requests.{IsListedPlace, IsStyle, IsTask, HasForm, HasText};
 ghost use Rattle.filser.specs.Requests.{HasNumber};
 ghost use Rattle.filser.specs.Requests.{InRange};
 ghost use Rattle.words36.specs.declared.moment.Moment.{Moment as Moments};
@@ -128,8 +129,8 @@ fn moment(matches: &ArgMatches) -> Option<Moment>
 
 /// The directory that is to be listed, or none for all of them.
 fn place(matches: &ArgMatches) -> Option<Option<Ppn>>
-    ensures { MatchOption result ((p : Option ℕ) → IsPlace (rows_of (found_of matches.now)) p → ⊥)
-        (IsPlace (rows_of (found_of matches.now))) }
+    ensures { MatchOption result ((p : Option ℕ) → IsListedPlace (rows_of (found_of matches.now)) p → ⊥)
+        (IsListedPlace (rows_of (found_of matches.now))) }
 {
     match text(matches, "PPN") {
         Some(text) => Some(Some(owner_named(text.as_bytes())?)),
@@ -149,8 +150,8 @@ fn style(matches: &ArgMatches) -> Style
 
 /// The file that is named.
 fn named(matches: &ArgMatches) -> Option<NamedFile>
-    ensures { MatchOption result ((f : NamedFiles) → IsNamed (rows_of (found_of matches.now)) f → ⊥)
-        (IsNamed (rows_of (found_of matches.now))) }
+    ensures { MatchOption result ((f : NamedFiles) → IsNamedFile (rows_of (found_of matches.now)) f → ⊥)
+        (IsNamedFile (rows_of (found_of matches.now))) }
 {
     let owner = owner_named(text(matches, "PPN")?.as_bytes())?;
     let name = file_named(text(matches, "NAME")?.as_bytes())?;

@@ -3,14 +3,14 @@ ghost use Rattle.std.specs.Io.KnownBytes.{Appends};
 ghost use Rattle.meaning.specs.Files.{File as StoredFile, Files};
 ghost use Rattle.meaning.specs.Lines.{feed};
 ghost use Rattle.meaning.specs.Stands.{Stands};
-ghost use Rattle.filser.specs.Refusals.{IsFileRefusal, refusal_text, refusal_code};
+ghost use Rattle.filser.specs.Refusals.{IsImageRefusal, refusal_text, refusal_code};
 ghost use Rattle.filser.specs.ServedDisks.{IsEnding, IsSaid, IsServed, IsUnserved};
 ghost use Rattle.filser.specs.Runs.{IsAttended, IsTurnedAway};
-ghost use Rattle.filser.specs.Tasks.{Attends, IsStart};
+ghost use Rattle.filser.specs.Tasks.{Attends, IsFirstMoment};
 ghost use Rattle.filser.specs.declared.task.Task.TheVariants.{Run};
 ghost use Rattle.words36.specs.declared.moment.Moment as moments;
 ghost use Rattle.imagefile.specs.Image.{block_length, image_contents};
-ghost use Rattle.imagefile.specs.Streams.{IsApart};
+ghost use Rattle.imagefile.specs.Streams.{IsNoStream};
 ghost use Rattle.imagefile.specs.Supposition.{unseen_in};
 ghost use Rattle.imagefile.specs.Unseen.{size_of, first_bytes};
 ghost use Rattle.filser.specs.Statuses.{status_code};
@@ -74,7 +74,7 @@ fn ending(talked: Result<Tally, SessionError>) -> Status
 
 /// The moment of what takes place at none: date 0, minute 0.
 fn no_moment() -> Moment
-    ensures { IsStart result }
+    ensures { IsFirstMoment result }
 {
     Moment::new(0, 0).unwrap()
 }
@@ -165,9 +165,9 @@ pub(crate) fn serve_file<R: Read, W: Write>(
     reader: &mut R,
     writer: &mut W,
 ) -> Result<(Status, Image), ImageFault>
-    requires { IsApart file }
+    requires { IsNoStream file }
     ensures serving { IfOk result (λ done. done.0 ≢ BadArguments) }
-    ensures refused { IfErr result (λ fault. IsFileRefusal fault.refusal) }
+    ensures refused { IfErr result (λ fault. IsImageRefusal fault.refusal) }
     ensures served { IfOk result (λ done. (⟦<Cached<ImageDisk<HostFile>> as Disk>⟧.state done.1).honest
         → (blocks : ℕ) (files : Files StoredFile) → size_of (unseen_in supposed) ≡ block_length form * blocks
         → Stands blocks (image_contents form (first_bytes (unseen_in supposed))) files
@@ -194,7 +194,7 @@ pub(crate) fn serve_fresh<R: Read, W: Write>(
     writer: &mut W,
 ) -> Status
     ensures serving { result ≢ BadArguments }
-    ensures attended { ((at : moments.Moment) × IsStart at × IsAttended (⟦<MemDisk as Disk>⟧.state) (Run at)
+    ensures attended { ((at : moments.Moment) × IsFirstMoment at × IsAttended (⟦<MemDisk as Disk>⟧.state) (Run at)
         (R.remaining reader.old) (R.remaining reader.new) (W.contents writer.old) (W.contents writer.new) result)
         ⊎ IsTurnedAway (R.remaining reader.old) (R.remaining reader.new) (W.contents writer.old) (W.contents writer.new)
         result }

@@ -8,8 +8,9 @@ use Rattle.std.proofs.lemmas.List.{get_or-take, get_or-drop, get_or-replicate, g
 use Rattle.std.proofs.lemmas.List.{length-take-le}
 use Rattle.imagefile.specs.File.{Remains, Inside, window, MayRemain, FilePasses, FileWrites, FileSyncs}
 use Rattle.blockdisk.specs.Disk.{one_more}
-use Rattle.imagefile.specs.Memory.{Step, Wrote, Synced, spelled, bytes_in, Memory, memory_of, put, Moment, after_step}
-use Rattle.imagefile.specs.Memory.{after_steps, moment_at, Leaves, moment_now, memory_state, IsReplayed, begun}
+use Rattle.imagefile.specs.Memory.{Step, Wrote, Synced, spelled, bytes_in}
+use Rattle.imagefile.specs.Memory.{FileMemory, memory_of, put, FileMoment, after_step}
+use Rattle.imagefile.specs.Memory.{after_steps, moment_at, FileLeaves, moment_now, memory_state, IsFileReplayed, begun}
 use Rattle.imagefile.specs.Memory.{bytes_written, write_refused, bytes_synced}
 use Rattle.imagefile.specs.declared.memory.FileCall.{FileCall}
 use Rattle.imagefile.specs.declared.memory.FileCall.TheVariants.{Write, Sync}
@@ -88,7 +89,7 @@ begins bytes first written given calls opened room byte_room b f c w o r =
       failures = 0;
     }
 
-pub replayed_begun : (given : List ℕ) (room : ℕ) → IsReplayed (begun given room)
+pub replayed_begun : (given : List ℕ) (room : ℕ) → IsFileReplayed (begun given room)
 replayed_begun given room = record {
   same_size = length-replicate (length given) false;
   first_size = refl;
@@ -139,7 +140,7 @@ bytes_in-append (Sync ∷ calls) more = bytes_in-append calls more
 
 -- Moments
 
-after_append : (m : Moment) (xs ys : List Step) → after_steps m (xs ++ ys) ≡ after_steps (after_steps m xs) ys
+after_append : (m : FileMoment) (xs ys : List Step) → after_steps m (xs ++ ys) ≡ after_steps (after_steps m xs) ys
 after_append m [] ys = refl
 after_append m (x ∷ xs) ys = after_append (after_step m x) xs ys
 
@@ -147,7 +148,7 @@ one_longer : (steps : List Step) (step : Step) → length (steps ++ step ∷ [])
 one_longer steps step = omega (arith, length-append steps (step ∷ []))
 
 -- m with one more step in its record, which made this of it
-abbrev further : Memory → Step → List ℕ → List Bool → ℕ → Memory
+abbrev further : FileMemory → Step → List ℕ → List Bool → ℕ → FileMemory
 further m step bytes opened written = record m {
   bytes = bytes;
   steps = m.steps ++ step ∷ [];
@@ -155,10 +156,10 @@ further m step bytes opened written = record m {
   written = written;
 }
 
-abbrev at_first : Memory → Moment
+abbrev at_first : FileMemory → FileMoment
 at_first m = record { bytes = m.first; opened = replicate (length m.first) false }
 
-module _ (m : Memory) (step : Step) (bytes : List ℕ) (opened : List Bool) (written : ℕ) where
+module _ (m : FileMemory) (step : Step) (bytes : List ℕ) (opened : List Bool) (written : ℕ) where
   before : (k : ℕ) → k ≤ length m.steps → moment_at (further m step bytes opened written) k ≡ moment_at m k
   before k le = ap (λ (steps : List Step). after_steps (at_first m) steps) (take-append-le k m.steps (step ∷ []) le)
 
@@ -172,10 +173,10 @@ module _ (m : Memory) (step : Step) (bytes : List ℕ) (opened : List Bool) (wri
       (sym (take_all (length m.steps) m.steps (omega arith)))
 
   -- while there is room, the last moment of the record is now
-  now_is : IsReplayed m → length m.steps < m.room → moment_at m (length m.steps) ≡ moment_now m
+  now_is : IsFileReplayed m → length m.steps < m.room → moment_at m (length m.steps) ≡ moment_now m
   now_is is room = λ i. record { bytes = is.bytes i; opened = is.opened room i }
 
-  pub passes_further : IsReplayed m → length m.steps < m.room
+  pub passes_further : IsFileReplayed m → length m.steps < m.room
       → FilePasses (memory_state m) (memory_state (further m step bytes opened written))
       (MayRemain (memory_state (further m step bytes opened written)))
   passes_further is room = record {
@@ -189,34 +190,36 @@ module _ (m : Memory) (step : Step) (bytes : List ℕ) (opened : List Bool) (wri
           had.0,
           had.1,
           omega (arith, one_longer m.steps step, had.2),
-          subst (λ (n : Moment). Leaves n r) (sym (before had.0 (omega (arith, had.2)))) had.3,
+          subst (λ (n : FileMoment). FileLeaves n r) (sym (before had.0 (omega (arith, had.2)))) had.3,
         ))
         (λ here. inl (
           length m.steps,
           le,
           omega (arith, one_longer m.steps step),
-          subst (λ (n : Moment). Leaves n r) (sym (before (length m.steps) (omega arith) ∙ now_is is room)) here,
+          subst (λ (n : FileMoment). FileLeaves n r) (sym (before (length m.steps) (omega arith) ∙ now_is is room))
+              here,
         )) left;
   }
     where
       past : (t : ℕ) (r : Remains) (k : ℕ) → t ≤ k → k < length (m.steps ++ step ∷ [])
-          → Leaves (moment_at (further m step bytes opened written) k) r → (k < length m.steps) ⊎ (length m.steps ≤ k)
+          → FileLeaves (moment_at (further m step bytes opened written) k) r → (k < length m.steps)
+          ⊎ (length m.steps ≤ k)
           → (memory_state m).left_since t r
       past t r k since below leaves (inl earlier) = inl
-          (k, since, earlier, subst (λ (n : Moment). Leaves n r) (before k (omega arith)) leaves)
+          (k, since, earlier, subst (λ (n : FileMoment). FileLeaves n r) (before k (omega arith)) leaves)
       past t r k since below leaves (inr last) =
           let here : k ≡ length m.steps = omega (arith, one_longer m.steps step) in
-          inr (subst (λ (n : Moment). Leaves n r) (before k (omega arith) ∙ ap (moment_at m) here
+          inr (subst (λ (n : FileMoment). FileLeaves n r) (before k (omega arith) ∙ ap (moment_at m) here
           ∙ now_is is room) leaves)
 
 -- Calls
 
-marks_fit : (m : Memory) (at n : ℕ) → IsReplayed m → at + n ≤ length m.bytes
+marks_fit : (m : FileMemory) (at n : ℕ) → IsFileReplayed m → at + n ≤ length m.bytes
     → at + length (replicate n true) ≤ length m.opened
 marks_fit m at n is fits = omega (arith, is.same_size, length-replicate n true)
 
 -- which bytes are open after a write
-module _ (m : Memory) (at n : ℕ) (is : IsReplayed m) (fits : at + n ≤ length m.bytes) where
+module _ (m : FileMemory) (at n : ℕ) (is : IsFileReplayed m) (fits : at + n ≤ length m.bytes) where
   abbrev marks : List Bool
   marks = replicate n true
 
@@ -236,7 +239,7 @@ module _ (m : Memory) (at n : ℕ) (is : IsReplayed m) (fits : at + n ≤ length
   pub length_opened : length (put at marks m.opened) ≡ length m.opened
   length_opened = length-put at marks m.opened (marks_fit m at n is fits)
 
-pub writes_written : (m : Memory) (at : ℕ) (xs : List ℕ) → IsReplayed m → at + length xs ≤ length m.bytes
+pub writes_written : (m : FileMemory) (at : ℕ) (xs : List ℕ) → IsFileReplayed m → at + length xs ≤ length m.bytes
     → length m.steps < m.room
     → FileWrites at (length xs) (memory_state m) (memory_state (bytes_written m at xs))
 writes_written m at xs is fits room = record {
@@ -247,14 +250,14 @@ writes_written m at xs is fits room = record {
       (m.written + length xs) is room;
 }
 
-pub put_written : (m : Memory) (at : ℕ) (xs : List ℕ) → at + length xs ≤ length m.bytes
+pub put_written : (m : FileMemory) (at : ℕ) (xs : List ℕ) → at + length xs ≤ length m.bytes
     → window (memory_state (bytes_written m at xs)).bytes at (length xs) ≡ xs
 put_written m at xs fits = window-list (λ p. get_or (put at xs m.bytes) p 0) at xs (λ i less.
     let back : at + i - at ≡ i = omega arith in
     put_inside at xs m.bytes fits (at + i) 0 (record { low = omega arith; high = omega (arith, less) })
     ∙ ap (λ k. get_or xs k 0) back)
 
-pub writes_refused : (m : Memory) (at n : ℕ) → IsReplayed m → at + n ≤ length m.bytes
+pub writes_refused : (m : FileMemory) (at n : ℕ) → IsFileReplayed m → at + n ≤ length m.bytes
     → FileWrites at n (memory_state m) (memory_state (write_refused m at n))
 writes_refused m at n is fits = record {
   bytes = λ p out. refl;
@@ -290,7 +293,7 @@ all_closed : (n k : ℕ) → (k < n) ⊎ (n ≤ k) → get_or (replicate n false
 all_closed n k (inl less) = get_or-replicate n k false false less
 all_closed n k (inr past) = get_or_past (replicate n false) k false (omega (arith, length-replicate n false))
 
-pub syncs_synced : (m : Memory) → IsReplayed m → length m.steps < m.room
+pub syncs_synced : (m : FileMemory) → IsFileReplayed m → length m.steps < m.room
     → FileSyncs (memory_state m) (memory_state (bytes_synced m))
 syncs_synced m is room = record {
   bytes = λ k. refl;
@@ -298,23 +301,23 @@ syncs_synced m is room = record {
   time = passes_further m Synced m.bytes (replicate (length m.opened) false) m.written is room;
 }
 
-pub replayed_written : (m : Memory) (at : ℕ) (xs : List ℕ) → IsReplayed m → at + length xs ≤ length m.bytes
-    → length m.steps < m.room → m.written + length xs ≤ m.byte_room → IsReplayed (bytes_written m at xs)
+pub replayed_written : (m : FileMemory) (at : ℕ) (xs : List ℕ) → IsFileReplayed m → at + length xs ≤ length m.bytes
+    → length m.steps < m.room → m.written + length xs ≤ m.byte_room → IsFileReplayed (bytes_written m at xs)
 replayed_written m at xs is fits room bytes_room =
     let opened = put at (replicate (length xs) true) m.opened in
     let last = after m (Wrote at xs) (put at xs m.bytes) opened (m.written + length xs) in
     let now = now_is m (Wrote at xs) m.bytes m.opened m.written is room in record {
       same_size = length_opened m at (length xs) is fits ∙ is.same_size ∙ sym (length-put at xs m.bytes fits);
       first_size = is.first_size ∙ sym (length-put at xs m.bytes fits);
-      bytes = ap (λ (w : Moment). w.bytes) last ∙ ap (λ (w : Moment). (after_step w (Wrote at xs)).bytes) now;
-      opened = λ more. ap (λ (w : Moment). w.opened) last
-          ∙ ap (λ (w : Moment). (after_step w (Wrote at xs)).opened) now;
+      bytes = ap (λ (w : FileMoment). w.bytes) last ∙ ap (λ (w : FileMoment). (after_step w (Wrote at xs)).bytes) now;
+      opened = λ more. ap (λ (w : FileMoment). w.opened) last
+          ∙ ap (λ (w : FileMoment). (after_step w (Wrote at xs)).opened) now;
       fits = omega (arith, one_longer m.steps (Wrote at xs));
       bytes_fit = bytes_room;
     }
 
-pub replayed_refused : (m : Memory) (at n : ℕ) → IsReplayed m → at + n ≤ length m.bytes
-    → IsReplayed (write_refused m at n)
+pub replayed_refused : (m : FileMemory) (at n : ℕ) → IsFileReplayed m → at + n ≤ length m.bytes
+    → IsFileReplayed (write_refused m at n)
 replayed_refused m at n is fits = record {
   same_size = length_opened m at n is fits ∙ is.same_size;
   first_size = is.first_size;
@@ -327,14 +330,15 @@ replayed_refused m at n is fits = record {
     no_room : (k : ℕ) → k < k → ⊥
     no_room k h = omega arith
 
-pub replayed_synced : (m : Memory) → IsReplayed m → length m.steps < m.room → IsReplayed (bytes_synced m)
+pub replayed_synced : (m : FileMemory) → IsFileReplayed m → length m.steps < m.room → IsFileReplayed (bytes_synced m)
 replayed_synced m is room =
     let last = after m Synced m.bytes (replicate (length m.opened) false) m.written in
     let now = now_is m Synced m.bytes m.opened m.written is room in record {
       same_size = length-replicate (length m.opened) false ∙ is.same_size;
       first_size = is.first_size;
-      bytes = ap (λ (w : Moment). w.bytes) last ∙ ap (λ (w : Moment). (after_step w Synced).bytes) now;
-      opened = λ more. ap (λ (w : Moment). w.opened) last ∙ ap (λ (w : Moment). (after_step w Synced).opened) now;
+      bytes = ap (λ (w : FileMoment). w.bytes) last ∙ ap (λ (w : FileMoment). (after_step w Synced).bytes) now;
+      opened = λ more. ap (λ (w : FileMoment). w.opened) last
+          ∙ ap (λ (w : FileMoment). (after_step w Synced).opened) now;
       fits = omega (arith, one_longer m.steps Synced);
       bytes_fit = is.bytes_fit;
     }
@@ -350,7 +354,7 @@ synced_in calls = omega (arith, bytes_in-append calls (Sync ∷ []))
 -- The fields after a call
 
 module _ (bytes first written : List ℕ) (calls : List FileCall) (opened : List Bool) (room byte_room failures : ℕ) where
-  abbrev old : Memory
+  abbrev old : FileMemory
   old = memory_of bytes first calls written opened room byte_room failures
 
   pub made_written : (bytes' written' xs : List ℕ) (calls' : List FileCall) (opened' : List Bool) (at : ℕ)

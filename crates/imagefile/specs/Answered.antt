@@ -3,34 +3,34 @@ use Rattle.std.specs.Prelude.{◌+◌, ◌≤◌, ℕ, true, List, [], ◌∷◌
 use Rattle.imagefile.specs.File.{window}
 use Rattle.imagefile.specs.Calls.{Call, SeekEnd, Read, Write, Sync}
 use Rattle.imagefile.specs.Unseen.{Unseen, size_of}
-use Rattle.imagefile.specs.Recorded.{after_calls, asked_at}
+use Rattle.imagefile.specs.Recorded.{after_calls, words_asked_at}
 
-pub data Asked : Type 0 where
+pub data HostCall : Type 0 where
   -- how many bytes it has
-  Measure : Asked
+  Measure : HostCall
   -- so many bytes from this place on
-  ReadAt : ℕ → ℕ → Asked
+  ReadAt : ℕ → ℕ → HostCall
   -- to hold these bytes from this place on
-  WriteAt : ℕ → List ℕ → Asked
+  WriteAt : ℕ → List ℕ → HostCall
   -- to have all that was written on the device
-  SyncAll : Asked
+  SyncAll : HostCall
 
 -- it lies within a file of so many bytes
-abbrev pub IsWithin : ℕ → Asked → Type 0
-IsWithin size Measure = Unit {0}
-IsWithin size (ReadAt at count) = at + count ≤ size
-IsWithin size (WriteAt at given) = at + length given ≤ size
-IsWithin size SyncAll = Unit {0}
+abbrev pub IsInFile : ℕ → HostCall → Type 0
+IsInFile size Measure = Unit {0}
+IsInFile size (ReadAt at count) = at + count ≤ size
+IsInFile size (WriteAt at given) = at + length given ≤ size
+IsInFile size SyncAll = Unit {0}
 
 -- the record after one thing more was asked and answered
-abbrev pub one_answered : Unseen → Asked → List Call → List Call
+abbrev pub one_answered : Unseen → HostCall → List Call → List Call
 one_answered u Measure earlier = SeekEnd (Some (size_of u)) ∷ earlier
-one_answered u (ReadAt at count) earlier = asked_at at (Some at)
+one_answered u (ReadAt at count) earlier = words_asked_at at (Some at)
     (Read count (Some (window (after_calls u earlier).bytes at count))) earlier
-one_answered u (WriteAt at given) earlier = asked_at at (Some at) (Write given (Some (length given))) earlier
+one_answered u (WriteAt at given) earlier = words_asked_at at (Some at) (Write given (Some (length given))) earlier
 one_answered u SyncAll earlier = Sync true ∷ earlier
 
 -- the record after all this was asked, of which the newest comes first
-abbrev pub answered : Unseen → List Asked → List Call
+abbrev pub answered : Unseen → List HostCall → List Call
 answered u [] = []
 answered u (asked ∷ before) = one_answered u asked (answered u before)

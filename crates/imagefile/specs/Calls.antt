@@ -27,17 +27,17 @@ came (Err error) buffer = None
 
 -- How the logic stores a call.
 
-abbrev Parts : Type 0
-Parts = (ℕ × Option ℕ) ⊎ (Option ℕ ⊎ ((ℕ × Option (List ℕ)) ⊎ ((List ℕ × Option ℕ) ⊎ Bool)))
+abbrev CallParts : Type 0
+CallParts = (ℕ × Option ℕ) ⊎ (Option ℕ ⊎ ((ℕ × Option (List ℕ)) ⊎ ((List ℕ × Option ℕ) ⊎ Bool)))
 
-abbrev to_parts : Call → Parts
+abbrev to_parts : Call → CallParts
 to_parts (SeekStart at place) = inl (at, place)
 to_parts (SeekEnd place) = inr (inl place)
 to_parts (Read asked bytes) = inr (inr (inl (asked, bytes)))
 to_parts (Write bytes count) = inr (inr (inr (inl (bytes, count))))
 to_parts (Sync done) = inr (inr (inr (inr done)))
 
-abbrev from_parts : Parts → Call
+abbrev from_parts : CallParts → Call
 from_parts (inl p) = SeekStart p.0 p.1
 from_parts (inr (inl place)) = SeekEnd place
 from_parts (inr (inr (inl p))) = Read p.0 p.1
@@ -52,7 +52,7 @@ from_parts-to_parts (Write bytes count) = refl
 from_parts-to_parts (Sync done) = refl
 
 abbrev pub calls_code : Coded (List Call)
-calls_code = coded_list (code_by Parts
+calls_code = coded_list (code_by CallParts
     (coded⊎ (coded× coded_ℕ (coded_option coded_ℕ))
     (coded⊎ (coded_option coded_ℕ) (coded⊎ (coded× coded_ℕ (coded_option (coded_list coded_ℕ)))
     (coded⊎ (coded× (coded_list coded_ℕ) (coded_option coded_ℕ)) coded_bool)))) to_parts from_parts from_parts-to_parts)

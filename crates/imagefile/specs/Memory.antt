@@ -25,7 +25,7 @@ bytes_in [] = 0
 bytes_in (Write at n ∷ calls) = n + bytes_in calls
 bytes_in (Sync ∷ calls) = bytes_in calls
 
-pub record Memory : Type 0 where
+pub record FileMemory : Type 0 where
   -- what a read gives
   pub bytes : List ℕ
   -- what a read gave at first, when no byte was open
@@ -42,7 +42,7 @@ pub record Memory : Type 0 where
   pub failures : ℕ
 
 -- a file in memory that keeps all this
-abbrev pub memory_of : List ℕ → List ℕ → List FileCall → List ℕ → List Bool → ℕ → ℕ → ℕ → Memory
+abbrev pub memory_of : List ℕ → List ℕ → List FileCall → List ℕ → List Bool → ℕ → ℕ → ℕ → FileMemory
 memory_of bytes first calls written opened room byte_room failures = record {
   bytes = bytes;
   first = first;
@@ -59,30 +59,30 @@ unfoldable pub put : {A : Type 0} → ℕ → List A → List A → List A
 put at xs all = take at all ++ (xs ++ drop (at + length xs) all)
 
 -- the bytes at a moment, and which of them are open
-pub record Moment : Type 0 where
+pub record FileMoment : Type 0 where
   pub bytes : List ℕ
   pub opened : List Bool
 
-abbrev pub after_step : Moment → Step → Moment
+abbrev pub after_step : FileMoment → Step → FileMoment
 after_step m (Wrote at xs) = record { bytes = put at xs m.bytes; opened = put at (replicate (length xs) true) m.opened }
 after_step m Synced = record { bytes = m.bytes; opened = replicate (length m.opened) false }
 
-abbrev pub after_steps : Moment → List Step → Moment
+abbrev pub after_steps : FileMoment → List Step → FileMoment
 after_steps m [] = m
 after_steps m (step ∷ steps) = after_steps (after_step m step) steps
 
 -- the moment after so many steps of the record
-abbrev pub moment_at : Memory → ℕ → Moment
+abbrev pub moment_at : FileMemory → ℕ → FileMoment
 moment_at m k = after_steps (record { bytes = m.first; opened = replicate (length m.first) false }) (take k m.steps)
 
-abbrev pub moment_now : Memory → Moment
+abbrev pub moment_now : FileMemory → FileMoment
 moment_now m = record { bytes = m.bytes; opened = m.opened }
 
 -- what a crash leaves at a moment: anything at the open bytes
-abbrev pub Leaves : Moment → Remains → Type 0
-Leaves m r = (p : ℕ) → get_or m.opened p false ≡ false → r p ≡ Some (get_or m.bytes p 0)
+abbrev pub FileLeaves : FileMoment → Remains → Type 0
+FileLeaves m r = (p : ℕ) → get_or m.opened p false ≡ false → r p ≡ Some (get_or m.bytes p 0)
 
-abbrev pub memory_state : Memory → FileState
+abbrev pub memory_state : FileMemory → FileState
 memory_state m = record {
   size = length m.bytes;
   honest = Unit {0};
@@ -90,11 +90,12 @@ memory_state m = record {
   bytes = λ p. get_or m.bytes p 0;
   is_open = λ p. get_or m.opened p false;
   clock = length m.steps;
-  left_since = λ t r. ((k : ℕ) × (t ≤ k) × (k < length m.steps) × Leaves (moment_at m k) r) ⊎ Leaves (moment_now m) r;
+  left_since = λ t r. ((k : ℕ) × (t ≤ k) × (k < length m.steps) × FileLeaves (moment_at m k) r)
+      ⊎ FileLeaves (moment_now m) r;
 }
 
 -- the record tells what is there
-pub record IsReplayed (m : Memory) : Type 0 where
+pub record IsFileReplayed (m : FileMemory) : Type 0 where
   pub same_size : length m.opened ≡ length m.bytes
   pub first_size : length m.first ≡ length m.bytes
   pub bytes : (moment_at m (length m.steps)).bytes ≡ m.bytes
@@ -106,7 +107,7 @@ pub record IsReplayed (m : Memory) : Type 0 where
 -- What the calls make of it.
 
 -- these bytes, and room for so many calls
-abbrev pub begun : List ℕ → ℕ → Memory
+abbrev pub begun : List ℕ → ℕ → FileMemory
 begun bytes room = record {
   bytes = bytes;
   first = bytes;
@@ -118,7 +119,7 @@ begun bytes room = record {
   failures = 0;
 }
 
-abbrev pub bytes_written : Memory → ℕ → List ℕ → Memory
+abbrev pub bytes_written : FileMemory → ℕ → List ℕ → FileMemory
 bytes_written m at xs = record m {
   bytes = put at xs m.bytes;
   steps = m.steps ++ Wrote at xs ∷ [];
@@ -127,20 +128,20 @@ bytes_written m at xs = record m {
 }
 
 -- the bytes are open all the same, and the record is closed
-abbrev pub write_refused : Memory → ℕ → ℕ → Memory
+abbrev pub write_refused : FileMemory → ℕ → ℕ → FileMemory
 write_refused m at n = record m {
   opened = put at (replicate n true) m.opened;
   room = length m.steps;
   failures = one_more m.failures;
 }
 
-abbrev pub bytes_synced : Memory → Memory
+abbrev pub bytes_synced : FileMemory → FileMemory
 bytes_synced m = record m { steps = m.steps ++ Synced ∷ []; opened = replicate (length m.opened) false }
 
-abbrev pub sync_refused : Memory → Memory
+abbrev pub sync_refused : FileMemory → FileMemory
 sync_refused m = record m { failures = one_more m.failures }
 
 -- the record has room for a write of so many bytes
-pub record HasRoom (m : Memory) (n : ℕ) : Type 0 where
+pub record HasRoom (m : FileMemory) (n : ℕ) : Type 0 where
   pub steps : length m.steps < m.room
   pub bytes : m.written + n ≤ m.byte_room

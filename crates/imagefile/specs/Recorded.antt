@@ -7,7 +7,7 @@ use Rattle.imagefile.specs.Calls.{Call, SeekStart, SeekEnd, Read, Write, Sync}
 use Rattle.imagefile.specs.Unseen.{Unseen, size_of, first_bytes, first_open, left_by}
 
 -- what is so between two calls
-pub record Between : Type 0 where
+pub record BetweenCalls : Type 0 where
   pub bytes : Bytes
   pub is_open : ℕ → Bool
   -- where the next read or write begins, where that is known
@@ -33,11 +33,11 @@ bytes_after at given count left b p =
     if is_inside at count p then get_or given (p - at) 0 else if is_inside at (length given) p then left p else b p
 
 -- the bytes after a sync that failed, and left these where a byte was open
-abbrev pub bytes_lost : Between → Bytes → Bytes
+abbrev pub bytes_lost : BetweenCalls → Bytes → Bytes
 bytes_lost b left p = if b.is_open p then left p else b.bytes p
 
 -- what a call makes of it that comes after n others
-abbrev pub after_call : Unseen → ℕ → Call → Between → Between
+abbrev pub after_call : Unseen → ℕ → Call → BetweenCalls → BetweenCalls
 after_call u n (SeekStart at place) b = record { bytes = b.bytes; is_open = b.is_open; position = place }
 after_call u n (SeekEnd place) b = record { bytes = b.bytes; is_open = b.is_open; position = place }
 after_call u n (Read asked bytes) b = record {
@@ -58,14 +58,14 @@ after_call u n (Sync false) b = record {
 }
 
 -- after all calls of a record, of which the newest comes first
-abbrev pub after_calls : Unseen → List Call → Between
+abbrev pub after_calls : Unseen → List Call → BetweenCalls
 after_calls u [] = record { bytes = first_bytes u; is_open = first_open u; position = None }
 after_calls u (call ∷ earlier) = after_call u (length earlier) call (after_calls u earlier)
 
 -- What a file that keeps to the model may answer. A seek to a place asks nothing of the device, and
 -- does not fail; the other calls may. Of a read or write at a position that isn't known, or past the
 -- end, the model says nothing.
-abbrev pub IsAllowed : Unseen → Between → Call → Type 0
+abbrev pub IsAllowed : Unseen → BetweenCalls → Call → Type 0
 IsAllowed u b (SeekStart at place) = place ≡ Some at
 IsAllowed u b (SeekEnd place) = IfSome place (λ p. p ≡ size_of u)
 IsAllowed u b (Read asked bytes) = IfSome bytes (λ came. IsSomeAnd b.position (λ at. (at + length came ≤ size_of u)
@@ -80,7 +80,7 @@ IsHonestRecord u [] = Unit {0}
 IsHonestRecord u (call ∷ earlier) = IsHonestRecord u earlier × IsAllowed u (after_calls u earlier) call
 
 -- what a crash may leave between two calls: anything at the open bytes
-abbrev pub MayStay : Between → Remains → Type 0
+abbrev pub MayStay : BetweenCalls → Remains → Type 0
 MayStay b r = (p : ℕ) → b.is_open p ≡ false → r p ≡ Some (b.bytes p)
 
 -- what a crash may have left since there were so many calls
@@ -102,9 +102,9 @@ recorded u calls = record {
 }
 
 -- a call at a place: a seek to it, and the call itself where that answered
-abbrev pub asked_at : ℕ → Option ℕ → Call → List Call → List Call
-asked_at at None call earlier = SeekStart at None ∷ earlier
-asked_at at (Some place) call earlier = call ∷ SeekStart at (Some place) ∷ earlier
+abbrev pub words_asked_at : ℕ → Option ℕ → Call → List Call → List Call
+words_asked_at at None call earlier = SeekStart at None ∷ earlier
+words_asked_at at (Some place) call earlier = call ∷ SeekStart at (Some place) ∷ earlier
 
 -- The next read or write begins at this place.
 abbrev pub BeginsAt : Unseen → List Call → ℕ → Type 0

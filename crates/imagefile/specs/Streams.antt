@@ -4,5 +4,5 @@ use Rattle.std.specs.Fd.{file_raw_fd}
 use Rattle.std.specs.declared.fs.File.{File}
 
 -- a file has none of their numbers, 0 to 2
-abbrev pub IsApart : File → Type 0
-IsApart file = pos 2 <ℤ file_raw_fd file
+abbrev pub IsNoStream : File → Type 0
+IsNoStream file = pos 2 <ℤ file_raw_fd file

@@ -31,18 +31,18 @@ left_by u n p = get_or (get_or u.left n []) p 0
 
 -- How the logic stores it.
 
-abbrev Parts : Type 0
-Parts = List ℕ × (List Bool × List (List ℕ))
+abbrev UnseenParts : Type 0
+UnseenParts = List ℕ × (List Bool × List (List ℕ))
 
-abbrev to_parts : Unseen → Parts
+abbrev to_parts : Unseen → UnseenParts
 to_parts u = (u.first, (u.opened, u.left))
 
-abbrev from_parts : Parts → Unseen
+abbrev from_parts : UnseenParts → Unseen
 from_parts p = record { first = p.0; opened = p.1.0; left = p.1.1 }
 
 pub from_parts-to_parts : (u : Unseen) → from_parts (to_parts u) ≡ u
 from_parts-to_parts u = refl
 
 abbrev pub unseen_code : Coded Unseen
-unseen_code = code_by Parts (coded× (coded_list coded_ℕ)
+unseen_code = code_by UnseenParts (coded× (coded_list coded_ℕ)
     (coded× (coded_list coded_bool) (coded_list (coded_list coded_ℕ)))) to_parts from_parts from_parts-to_parts

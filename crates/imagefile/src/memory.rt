@@ -39,9 +39,9 @@ pub struct MemFile {
 
 impl Model for MemFile {
     ghost use Rattle.std.specs.Prelude.{◌≡◌, ◌≤◌, length, vec_capacity};
-    ghost use Rattle.imagefile.specs.Memory.{Memory, IsReplayed, memory_of, bytes_in};
+    ghost use Rattle.imagefile.specs.Memory.{FileMemory, IsFileReplayed, memory_of, bytes_in};
 
-    ghost Value = { Memory };
+    ghost Value = { FileMemory };
 
     ghost view = { λ m. memory_of m.bytes.items m.first.items m.calls.items m.written.items m.opened.items
         m.room m.byte_room m.failures };
@@ -49,7 +49,7 @@ impl Model for MemFile {
     ghost invariant = { λ m. (m.room ≤ vec_capacity m.calls)
         × (m.byte_room ≤ vec_capacity m.written)
         × (bytes_in m.calls.items ≡ length m.written.items)
-        × IsReplayed (memory_of m.bytes.items m.first.items m.calls.items m.written.items m.opened.items
+        × IsFileReplayed (memory_of m.bytes.items m.first.items m.calls.items m.written.items m.opened.items
         m.room m.byte_room m.failures) };
 }
 

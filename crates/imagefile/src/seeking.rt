@@ -3,9 +3,10 @@ ghost use Rattle.std.specs.Prelude.{IfOk, IfSome, OnOk, OnErr};
 ghost use Rattle.imagefile.specs.File.{FileWrites, window};
 ghost use Rattle.imagefile.specs.Calls.{Call, SeekStart, SeekEnd, Read, Write, Sync, answer, came};
 ghost use Rattle.imagefile.specs.Unseen.{Unseen, size_of};
-ghost use Rattle.imagefile.specs.Recorded.{IsHonestRecord, BeginsAt, GoesTo, AsksAt, asked_at, after_calls, recorded};
+ghost use Rattle.imagefile.specs.Recorded.{IsHonestRecord, BeginsAt, GoesTo};
+ghost use Rattle.imagefile.specs.Recorded.{AsksAt, words_asked_at, after_calls, recorded};
 ghost use Rattle.imagefile.specs.RecordedLaws.{recorded_counts_now, recorded_only_now, recorded_reaches_back};
-ghost use Rattle.imagefile.specs.Answered.{Asked, IsWithin, answered};
+ghost use Rattle.imagefile.specs.Answered.{HostCall, IsInFile, answered};
 ghost use Rattle.imagefile.specs.Supposition.{unseen_in};
 
 use crate::{FileCalls, HostCalls, Supposition, SystemCalls};
@@ -73,14 +74,14 @@ pub fn answers_by_the_model_are_honest()
     ensures read { (u : Unseen) (calls : List Call) (at asked count : ℕ) → at + count ≤ size_of u
         → IsHonestRecord u calls
         → IsHonestRecord u
-        (asked_at at (Some at) (Read asked (Some (window (after_calls u calls).bytes at count))) calls) }
+        (words_asked_at at (Some at) (Read asked (Some (window (after_calls u calls).bytes at count))) calls) }
     ensures written { (u : Unseen) (calls : List Call) (at count : ℕ) (given : List ℕ) → at + length given ≤ size_of u
         → count ≤ length given → IsHonestRecord u calls
-        → IsHonestRecord u (asked_at at (Some at) (Write given (Some count)) calls) }
+        → IsHonestRecord u (words_asked_at at (Some at) (Write given (Some count)) calls) }
     ensures failed { (u : Unseen) (calls : List Call) (at asked : ℕ) (given : List ℕ) → at + length given ≤ size_of u
         → IsHonestRecord u calls
-        → IsHonestRecord u (asked_at at (Some at) (Read asked None) calls)
-        × IsHonestRecord u (asked_at at (Some at) (Write given None) calls) }
+        → IsHonestRecord u (words_asked_at at (Some at) (Read asked None) calls)
+        × IsHonestRecord u (words_asked_at at (Some at) (Write given None) calls) }
     ensures synced { (u : Unseen) (calls : List Call) (done : Bool) → IsHonestRecord u calls
         → IsHonestRecord u (Sync done ∷ calls) }
 {}
@@ -89,7 +90,7 @@ pub fn answers_by_the_model_are_honest()
 /// however it began and whatever it was asked within its length. So what is supposed of a record is met
 /// by each such file.
 pub fn a_file_by_the_model_is_honest()
-    ensures { (u : Unseen) (asked : List Asked) → All (IsWithin (size_of u)) asked
+    ensures { (u : Unseen) (asked : List HostCall) → All (IsInFile (size_of u)) asked
         → IsHonestRecord u (answered u asked) }
 {}
 

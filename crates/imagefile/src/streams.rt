@@ -1,6 +1,6 @@
 ghost use Rattle.std.specs.Prelude.{◌≡◌, ◌≤ℤ◌, pos, IfOk, IfErr};
 ghost use Rattle.std.specs.Fd.{file_raw_fd};
-ghost use Rattle.imagefile.specs.Streams.{IsApart};
+ghost use Rattle.imagefile.specs.Streams.{IsNoStream};
 
 use std::fs::File;
 use std::os::fd::{AsRawFd, RawFd};
@@ -15,7 +15,7 @@ const LAST_STREAM: RawFd = 2;
 ///
 /// Its number, where that is 0 to 2; the file is closed.
 pub fn apart(file: File) -> Result<File, RawFd>
-    ensures apart { IfOk result (λ kept. (kept ≡ file) × IsApart kept) }
+    ensures apart { IfOk result (λ kept. (kept ≡ file) × IsNoStream kept) }
     ensures refused { IfErr result (λ number. (number ≡ file_raw_fd file) × (number ≤ℤ pos 2)) }
 {
     let number = file.as_raw_fd();

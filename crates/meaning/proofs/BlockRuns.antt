@@ -16,7 +16,7 @@ use Rattle.meaning.specs.Outputs.{out_answer, out_done, put_done}
 use Rattle.meaning.specs.Outcomes.{stopped_in}
 use Rattle.meaning.specs.Room.{Pack}
 use Rattle.meaning.specs.Runs.{Steps}
-use Rattle.meaning.specs.Plans.{takes, puts, goes_to, list_words, block_address}
+use Rattle.meaning.specs.Plans.{takes, asks_out, goes_to, list_words, block_address}
 use Rattle.meaning.specs.declared.call.Call.TheVariants.{In, Out, Useti}
 use Rattle.meaning.specs.declared.call.Reply.TheVariants.{Done}
 use Rattle.meaning.proofs.CoreWrites.{window, range_window}
@@ -76,7 +76,7 @@ module _ (pack : Pack) (s : State) (j0 : Job) (there : job_at s 1 ≡ Some j0) (
   -- the words of the block are put behind those that were
   pub puts_done : (me : ℕ) (j : Job) (o : Output) (count : ℕ) (t : State) → IsJob me j
       → channel_at j 2 ≡ Some (writing o) → 0 < count → count ≤ 128 → Lists count j.core
-      → Steps pack (at s j) (puts moment) Done t
+      → Steps pack (at s j) (asks_out moment) Done t
       → t ≡ at s (with_open j 2 (writing (record o {
         pending = record o.pending { body = splice o.pending.body o.next (window j.core block_address count) };
         next = o.next + blocks_of (length (window j.core block_address count));

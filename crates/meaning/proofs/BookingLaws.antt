@@ -8,7 +8,8 @@ use Rattle.meaning.specs.Maps.{total}
 use Rattle.meaning.specs.Files.{Files}
 use Rattle.meaning.specs.Published.{Version}
 use Rattle.meaning.specs.Jobs.{Channel, Job, Output, State, slot, channel_at, job_at, with_channel, all_closed}
-use Rattle.meaning.specs.Room.{output_of, outputs_of, outputs, distinct_cost, current, held, has_serial}
+use Rattle.meaning.specs.Room.{output_of, outputs_of, outputs}
+use Rattle.meaning.specs.Room.{distinct_cost, current_versions, held_versions, has_serial}
 use Rattle.meaning.specs.Runs.{IsFresh}
 use Rattle.meaning.specs.Sound.{Exists, AreAlike, IsSound}
 use Rattle.meaning.proofs.MapSums.{total-append}
@@ -147,41 +148,42 @@ module _ (f : Output → ℕ) where
 -- What versions cost.
 
 module _ (s s' : State) (sound : IsSound s) where
-  serial_there : (w : Version) → Exists s w → has_serial w.serial (current s ++ held s) ≡ true
-  serial_there w there = decide (has_serial w.serial (current s ++ held s)) refl
+  serial_there : (w : Version) → Exists s w → has_serial w.serial (current_versions s ++ held_versions s) ≡ true
+  serial_there w there = decide (has_serial w.serial (current_versions s ++ held_versions s)) refl
     where
-      decide : (b : Bool) → has_serial w.serial (current s ++ held s) ≡ b → b ≡ true
+      decide : (b : Bool) → has_serial w.serial (current_versions s ++ held_versions s) ≡ b → b ≡ true
       decide true e = refl
       decide false e =
           let h = version_of_all s (λ v. (v.serial == w.serial) ≡ false)
-          (none_passes (λ v. v.serial == w.serial) (current s ++ held s) e) w there in
+          (none_passes (λ v. v.serial == w.serial) (current_versions s ++ held_versions s) e) w there in
           let wrong = sym h ∙ eq-eqb w.serial w.serial refl in cc
 
   cost_alike : (v w : Version) → AreAlike v w → cost v ≡ cost w
   cost_alike v w a = ap (λ body. version_cost (length body)) a.body
 
   same_cost : (w : Version) → Known s w
-      → AllByRecursion (λ y. y.serial ≡ w.serial → cost y ≡ cost w) (current s ++ held s)
+      → AllByRecursion (λ y. y.serial ≡ w.serial → cost y ≡ cost w) (current_versions s ++ held_versions s)
   same_cost w at = all_versions s (λ y. y.serial ≡ w.serial → cost y ≡ cost w)
       (λ y is e. cost_alike y at.0 (sound.serials y at.0 is at.1 (e ∙ sym at.2)) ∙ cost_alike at.0 w at.3)
 
-  serial_known : (w : Version) → Known s w → has_serial w.serial (current s ++ held s) ≡ true
-  serial_known w at = subst (λ k. has_serial k (current s ++ held s) ≡ true) at.2 (serial_there at.0 at.1)
+  serial_known : (w : Version) → Known s w → has_serial w.serial (current_versions s ++ held_versions s) ≡ true
+  serial_known w at = subst (λ k. has_serial k (current_versions s ++ held_versions s) ≡ true) at.2
+      (serial_there at.0 at.1)
 
-  pub costs_kept : ((w : Version) → Exists s' w → Known s w) → distinct_cost (current s' ++ held s')
-      ≤ distinct_cost (current s ++ held s)
-  costs_kept was = distinct_le (current s' ++ held s') (current s ++ held s)
-      (all_versions s' (Fits (current s ++ held s))
+  pub costs_kept : ((w : Version) → Exists s' w → Known s w) → distinct_cost (current_versions s' ++ held_versions s')
+      ≤ distinct_cost (current_versions s ++ held_versions s)
+  costs_kept was = distinct_le (current_versions s' ++ held_versions s') (current_versions s ++ held_versions s)
+      (all_versions s' (Fits (current_versions s ++ held_versions s))
       (λ w there. (serial_known w (was w there), same_cost w (was w there))))
 
   module _ (v : Version) (fresh : IsFresh s v.serial) where
     another : (w : Version) → Exists s w → w.serial ≡ v.serial → ⊥
     another w there e =
         let h = version_of_all s (λ u. (u.serial == v.serial) ≡ false)
-        (none_passes (λ u. u.serial == v.serial) (current s ++ held s) fresh) w there in
+        (none_passes (λ u. u.serial == v.serial) (current_versions s ++ held_versions s) fresh) w there in
         let wrong = sym h ∙ eq-eqb w.serial v.serial e in cc
 
-    fits_new : (w : Version) → Known s w ⊎ (w ≡ v) → Fits (v ∷ (current s ++ held s)) w
+    fits_new : (w : Version) → Known s w ⊎ (w ≡ v) → Fits (v ∷ (current_versions s ++ held_versions s)) w
     fits_new w (inl at) = (
       passes (v.serial == w.serial) (serial_known w at),
       ((λ e. absurd (another at.0 at.1 (at.2 ∙ sym e))), same_cost w at),
@@ -191,7 +193,8 @@ module _ (s s' : State) (sound : IsSound s) where
         passes true e = refl
         passes false e = e
     fits_new w (inr same) = (
-      subst (λ u. has_serial u.serial (v ∷ (current s ++ held s)) ≡ true) (sym same) (first v (current s ++ held s)),
+      subst (λ u. has_serial u.serial (v ∷ (current_versions s ++ held_versions s)) ≡ true) (sym same)
+          (first v (current_versions s ++ held_versions s)),
       (
         (λ e. ap cost (sym same)),
         all_versions s (λ y. y.serial ≡ w.serial
@@ -203,9 +206,10 @@ module _ (s s' : State) (sound : IsSound s) where
         first v vs = let e = eq-eqb v.serial v.serial refl in rw e refl
 
     pub costs_new : ((w : Version) → Exists s' w → Known s w ⊎ (w ≡ v))
-        → distinct_cost (current s' ++ held s') ≤ cost v + distinct_cost (current s ++ held s)
+        → distinct_cost (current_versions s' ++ held_versions s') ≤ cost v + distinct_cost
+        (current_versions s ++ held_versions s)
     costs_new was =
-        let a = distinct_le (current s' ++ held s') (v ∷ (current s ++ held s))
-        (all_versions s' (Fits (v ∷ (current s ++ held s))) (λ w there. fits_new w (was w there))) in
-        let b = distinct_more v (current s ++ held s) in
+        let a = distinct_le (current_versions s' ++ held_versions s') (v ∷ (current_versions s ++ held_versions s))
+        (all_versions s' (Fits (v ∷ (current_versions s ++ held_versions s))) (λ w there. fits_new w (was w there))) in
+        let b = distinct_more v (current_versions s ++ held_versions s) in
         omega (arith, a, b)

@@ -2,7 +2,7 @@
 use Rattle.std.proofs.Common.{◌≡◌, ℕ, ◌+◌, ◌*◌, List, [], ◌∷◌, Some, None, refl, sym, ap, subst, ◌∙◌}
 use Rattle.std.specs.Prelude.{codes}
 use Rattle.meaning.specs.Spellings.{AreFields}
-use Rattle.meaning.specs.Commands.{IsAngled, IsProtection, AreSpecs, IsProtected, IsMade, IsCommand}
+use Rattle.meaning.specs.Commands.{IsAngled, IsProtection, AreSpecs, IsProtected, IsNewDirectory, IsCommand}
 use Rattle.meaning.specs.declared.command.Spec.{Spec}
 use Rattle.meaning.specs.declared.command.Command.{Command}
 use Rattle.meaning.specs.declared.command.Command.TheVariants.{Login, Directory, Copy, Rename, Delete, TypeOut, Protect}
@@ -47,7 +47,7 @@ same_protection [] (d ∷ ds) n m e a b = absurd (none_all e)
 same_protection (c ∷ cs) [] n m e a b = absurd (none_all (sym e))
 same_protection (c ∷ cs) (d ∷ ds) n m e a b = same_angled (c ∷ cs) (d ∷ ds) n m e a b
 
-same_made : (s t : List ℕ) (p q n m : ℕ) → s ≡ t → IsMade s p n → IsMade t q m → (p ≡ q) × (n ≡ m)
+same_made : (s t : List ℕ) (p q n m : ℕ) → s ≡ t → IsNewDirectory s p n → IsNewDirectory t q m → (p ≡ q) × (n ≡ m)
 same_made s t p q n m e a b =
     let r = stretch (other_than 60) a.before a.behind b.before b.behind
     (bracketed_other 60 a.before p refl refl refl refl a.left)

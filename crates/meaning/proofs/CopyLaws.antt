@@ -24,12 +24,13 @@ use Rattle.meaning.specs.Room.{Pack}
 use Rattle.meaning.specs.Runs.{Service, Serving, Broken, Answers, Steps}
 use Rattle.meaning.specs.Step.{last_date, on_job, on_channel, of_job, call_of}
 use Rattle.meaning.specs.Texts.{Spoken}
-use Rattle.meaning.specs.Plans.{Plan, each, calls, finds, writes, lists, takes, puts}
+use Rattle.meaning.specs.Plans.{Plan, each, calls, finds, writes, lists, takes, asks_out}
 use Rattle.meaning.specs.Plans.{goes_to}
 use Rattle.meaning.specs.Plans.{copies_blocks, copies_last, copies_body, copies, until_end, if_end, is_end, fails}
 use Rattle.meaning.specs.Plans.{ends, ok}
 use Rattle.meaning.specs.Plans.{list_words, file_words, open_words, examines, blocks_said}
-use Rattle.meaning.specs.Copies.{Comes, IsReady, IsSpec, AreShort, IsRefused, IsMade, IsCopied, place_of}
+use Rattle.meaning.specs.Copies.{Comes, IsJobReady, HasHalfwordExtension, AreShort}
+use Rattle.meaning.specs.Copies.{IsLineRefused, IsOneChange, IsCopied, place_of}
 use Rattle.meaning.specs.Copies.{made}
 use Rattle.meaning.specs.declared.command.Spec.{Spec}
 use Rattle.meaning.specs.declared.call.Call.TheVariants.{In, Close}
@@ -59,7 +60,7 @@ Copied me from v to kind file j = IsJob me j × ((next : ℕ) × (channel_at j 1
     × ((next : ℕ) × (channel_at j 2 ≡ Some (writing (side to kind (with_body file v.file.body) next))))
 
 abbrev last_events : Moment → ℕ → ℕ → List Event
-last_events moment count n = lists count ++ goes_to moment n ∷ takes moment ∷ puts moment ∷ []
+last_events moment count n = lists count ++ goes_to moment n ∷ takes moment ∷ asks_out moment ∷ []
 
 -- An IN behind the last block has to tell the end.
 end_or_fails : (moment : Moment) (next : Plan) (reply : Reply)
@@ -98,7 +99,7 @@ module _ (pack : Pack) (s : State) (j0 : Job) (there : job_at s 1 ≡ Some j0) (
   -- One block more.
   block_copied : (me : ℕ) (from : Place) (v : Version) (to : Place) (kind : Kind) (file : File) (k : ℕ) (j : Job)
       → Copying me from v to kind file k j → Lists 128 j.core → (k + 1) * 128 ≤ length v.file.body
-      → (t : State) → AllDone pack (at s j) (takes moment ∷ puts moment ∷ []) t
+      → (t : State) → AllDone pack (at s j) (takes moment ∷ asks_out moment ∷ []) t
       → (j' : Job) × (t ≡ at s j') × Copying me from v to kind file (k + 1) j' × Lists 128 j'.core
   block_copied me from v to kind file k j is named fits t all =
       let d = both_done pack s j0 there moment me j from v to kind file k 128 t is (omega arith) (omega arith) named
@@ -118,7 +119,7 @@ module _ (pack : Pack) (s : State) (j0 : Job) (there : job_at s 1 ≡ Some j0) (
       (said : Spoken) (new : Service) (more k : ℕ) (j : Job) → Copying me from v to kind file k j → Lists 128 j.core
       → (k + more) * 128 ≤ length v.file.body
       → Comes pack (Serving (at s j)) (copies_blocks moment more next) said new
-      → IsRefused s.files said new
+      → IsLineRefused s.files said new
       ⊎ ((j' : Job) × Copying me from v to kind file (k + more) j' × Lists 128 j'.core
       × Comes pack (Serving (at s j')) next said new)
   unfolding copies_blocks
@@ -129,12 +130,12 @@ module _ (pack : Pack) (s : State) (j0 : Job) (there : job_at s 1 ≡ Some j0) (
       (λ (t, all, same, rest).
       let one : k + 1 + more ≡ k + suc more = omega arith in
       let d = block_copied me from v to kind file k j is named (omega arith) t all in
-      subst (λ n. IsRefused s.files said new
+      subst (λ n. IsLineRefused s.files said new
       ⊎ ((j' : Job) × Copying me from v to kind file n j' × Lists 128 j'.core
       × Comes pack (Serving (at s j')) next said new)) one
       (blocks_copied me from v to kind file next said new more (k + 1) d.0 d.2 d.3 (omega arith)
       (subst (λ u. Comes pack (Serving u) (copies_blocks moment more next) said new) d.1 rest)))
-      (each_done pack (at s j) moment (takes moment ∷ puts moment ∷ []) (copies_blocks moment more next) said new
+      (each_done pack (at s j) moment (takes moment ∷ asks_out moment ∷ []) (copies_blocks moment more next) said new
       (tt, (tt, tt)) c)
 
   pub last_copied : (me : ℕ) (from : Place) (v : Version) (to : Place) (kind : Kind) (file : File) (more : ℕ)
@@ -142,13 +143,13 @@ module _ (pack : Pack) (s : State) (j0 : Job) (there : job_at s 1 ≡ Some j0) (
       (said : Spoken) (new : Service) (j : Job) → Copying me from v to kind file more j → Lists 128 j.core
       → length v.file.body ≤ longest → more * 128 < length v.file.body → length v.file.body ≤ (more + 1) * 128
       → Comes pack (Serving (at s j)) (copies_last moment (more + 1) (size_word (length v.file.body)) next) said new
-      → IsRefused s.files said new
+      → IsLineRefused s.files said new
       ⊎ ((j' : Job) × Copied me from v to kind file j' × Comes pack (Serving (at s j')) next said new)
   last_copied me from v to kind file more next said new j is named fits low high c =
       ⊎_elim inl (λ (j1, (is1, (k1, first1), second1, lists1), c1). ⊎_elim inl
       (λ (t, all, same, rest). inr (behind j1 is1 k1 first1 second1 t all rest))
       (each_done pack (at s j1) moment (last_events moment count (more + 1)) next said new
-      (all_append IsQuiet (lists count) (goes_to moment (more + 1) ∷ takes moment ∷ puts moment ∷ [])
+      (all_append IsQuiet (lists count) (goes_to moment (more + 1) ∷ takes moment ∷ asks_out moment ∷ [])
       (quiet_deposits (list_pair count) list_words) (tt, (tt, (tt, tt)))) c1))
       (sizes_done pack s j0 there moment me from v more
       (λ count. each moment (last_events moment count (more + 1)) next) said new j is.whole
@@ -164,7 +165,8 @@ module _ (pack : Pack) (s : State) (j0 : Job) (there : job_at s 1 ≡ Some j0) (
           → Comes pack (Serving t) next said new
           → (j' : Job) × Copied me from v to kind file j' × Comes pack (Serving (at s j')) next said new
       behind j1 is1 k first1 second1 t all rest =
-          let parts = split_done pack (at s j1) (lists count) (goes_to moment (more + 1) ∷ takes moment ∷ puts moment
+          let parts = split_done pack (at s j1) (lists count)
+          (goes_to moment (more + 1) ∷ takes moment ∷ asks_out moment
           ∷ []) t all in
           let core = after_writes j1.core (placed list_words (list_pair count)) in
           let j2 = with_core j1 core in
@@ -182,7 +184,7 @@ module _ (pack : Pack) (s : State) (j0 : Job) (there : job_at s 1 ≡ Some j0) (
           let d = both_done pack s j0 there moment me j3 from v to kind file more count t is3 (omega arith)
           (omega arith)
           (listing j1.core count is1.core) (omega arith)
-          (subst (λ u. AllDone pack u (takes moment ∷ puts moment ∷ []) t) to3 parts.2.2) in
+          (subst (λ u. AllDone pack u (takes moment ∷ asks_out moment ∷ []) t) to3 parts.2.2) in
           let all_words : take (more * 128 + count) v.file.body ≡ v.file.body =
           take_all (more * 128 + count) v.file.body
           (omega arith) in (
@@ -198,7 +200,7 @@ module _ (pack : Pack) (s : State) (j0 : Job) (there : job_at s 1 ≡ Some j0) (
   -- The end is told, and leaves what is written.
   pub until_done : (me : ℕ) (c : Channel) (next : Plan) (said : Spoken) (new : Service) (j : Job) → IsJob me j
       → channel_at j 1 ≡ Some c → Comes pack (Serving (at s j)) (until_end moment next) said new
-      → IsRefused s.files said new
+      → IsLineRefused s.files said new
       ⊎ ((j' : Job) × (channel_at j' 2 ≡ channel_at j 2) × Comes pack (Serving (at s j')) next said new)
   until_done me c next said new j is first come =
       by (asked pack (Serving (at s j)) (takes moment) (if_end moment next) said new come)
@@ -230,7 +232,7 @@ module _ (pack : Pack) (s : State) (j0 : Job) (there : job_at s 1 ≡ Some j0) (
 
       by : ((reply : Reply) × (mid : Service) × Answers pack (Serving (at s j)) (takes moment) reply mid
           × Comes pack mid (if_end moment next reply) said new)
-          → IsRefused s.files said new
+          → IsLineRefused s.files said new
           ⊎ ((j' : Job) × (channel_at j' 2 ≡ channel_at j 2) × Comes pack (Serving (at s j')) next said new)
       by (reply, mid, answers, more) = ⊎_elim
           (λ (status, is, same). inr (stopped status mid
@@ -263,7 +265,7 @@ module _ (pack : Pack) (s : State) (j0 : Job) (there : job_at s 1 ≡ Some j0) (
       → channel_at j 2 ≡ Some (outputs c o) → last_buffer j (outputs c o) ≡ Some []
       → is_none (get s.files o.place.ppn) ≡ false
       → Comes pack (Serving (at s j)) (each moment (calls moment (Close 2 0) ∷ []) (ends moment ok)) said new
-      → ((said ≡ ok) × IsMade s.files o.place o.pending new) ⊎ IsRefused s.files said new
+      → ((said ≡ ok) × IsOneChange s.files o.place o.pending new) ⊎ IsLineRefused s.files said new
   unfolding each
   closes_done c o said new j second none directory come = ⊎_elim inr
       (λ (t, steps, rest). inl (make t (closed j c o t second none steps) rest))
@@ -271,7 +273,7 @@ module _ (pack : Pack) (s : State) (j0 : Job) (there : job_at s 1 ≡ Some j0) (
     where
       make : (t : State)
           → (serial : ℕ) × (t.files ≡ with_file s.files o.place (record { file = o.pending; serial = serial }))
-          → Comes pack (Serving t) (ends moment ok) said new → (said ≡ ok) × IsMade s.files o.place o.pending new
+          → Comes pack (Serving t) (ends moment ok) said new → (said ≡ ok) × IsOneChange s.files o.place o.pending new
       make t (serial, files) rest =
           let e = goes_on pack t moment ok said new rest in
           let v : Version = record { file = o.pending; serial = serial } in
@@ -291,7 +293,7 @@ module _ (pack : Pack) (s : State) (j0 : Job) (there : job_at s 1 ≡ Some j0) (
       → channel_at j 1 ≡ Some c → channel_at j 2 ≡ Some (writing o) → is_none (get s.files o.place.ppn) ≡ false
       → Comes pack (Serving (at s j))
       (until_end moment (each moment (calls moment (Close 2 0) ∷ []) (ends moment ok))) said new
-      → ((said ≡ ok) × IsMade s.files o.place o.pending new) ⊎ IsRefused s.files said new
+      → ((said ≡ ok) × IsOneChange s.files o.place o.pending new) ⊎ IsLineRefused s.files said new
   published me c o said new j is first second directory come = ⊎_elim inr
       (λ (j', same, more). closes_done open_channel o said new j' (same ∙ second) refl directory more)
       (until_done me c (each moment (calls moment (Close 2 0) ∷ []) (ends moment ok)) said new j is first come)
@@ -302,7 +304,7 @@ module _ (pack : Pack) (s : State) (j0 : Job) (there : job_at s 1 ≡ Some j0) (
       → channel_at j 2 ≡ Some (writing (side to kind (with_body file []) 1)) → Lists 128 j.core
       → length v.file.body ≤ longest → (blocks : ℕ) → blocks ≡ blocks_of (length v.file.body)
       → Comes pack (Serving (at s j)) (copies_body moment blocks (size_word (length v.file.body)) next) said new
-      → IsRefused s.files said new
+      → IsLineRefused s.files said new
       ⊎ ((j' : Job) × Copied me from v to kind file j' × Comes pack (Serving (at s j')) next said new)
   body_copied me from v to kind file next said new j is first second named fits zero count come =
       let none : v.file.body ≡ [] = empty v.file.body (no_words (length v.file.body) count) in
@@ -351,9 +353,9 @@ pub at_home : (s : State) (j : Job) → job_at s 1 ≡ Some j → s ≡ at s j
 at_home s j there = sym (ap (λ js. record s { jobs = js }) (set-slot s.jobs 1 j there))
 
 pub copies_are_exact : (pack : Pack) (moment : Moment) (me : ℕ) (s : State) (to from : Spec) (said : Spoken)
-    (new : Service) → IsReady s me → IsSpec to → IsSpec from → AreShort s.files
+    (new : Service) → IsJobReady s me → HasHalfwordExtension to → HasHalfwordExtension from → AreShort s.files
     → Comes pack (Serving s) (copies moment to from) said new
-    → IsCopied moment me s to from said new ⊎ IsRefused s.files said new
+    → IsCopied moment me s to from said new ⊎ IsLineRefused s.files said new
 copies_are_exact pack moment me s to from said new ready to_is from_is short come = ⊎_elim inr
     (λ (t, all, same, rest). begun t all rest)
     (each_done pack s moment (finds moment from ++ writes moment to ++ lists 128) rests said new
@@ -379,7 +381,7 @@ copies_are_exact pack moment me s to from said new ready to_is from_is short com
         → (j : Job) → Copied me (place_of me from) v (place_of me to) kind
         (made s.files (place_of me to) dump_mode moment []) j
         → Comes pack (Serving (at s j)) closing said new
-        → IsCopied moment me s to from said new ⊎ IsRefused s.files said new
+        → IsCopied moment me s to from said new ⊎ IsLineRefused s.files said new
     finished v found kind directory j (is, (k, first), (n, second)) more = ⊎_elim
         (λ (e, done). inl (e, (v, found, done))) inr
         (published pack s j0 ready.logged_in moment me (reading (place_of me from) v k)
@@ -388,7 +390,7 @@ copies_are_exact pack moment me s to from said new ready to_is from_is short com
 
     begun : (t : State) → AllDone pack s (finds moment from ++ writes moment to ++ lists 128) t
         → Comes pack (Serving t) rests said new
-        → IsCopied moment me s to from said new ⊎ IsRefused s.files said new
+        → IsCopied moment me s to from said new ⊎ IsLineRefused s.files said new
     begun t all rest =
         let there = ready.logged_in in
         let last = split_done pack (at s j0) (finds moment from ++ writes moment to) (lists 128) t

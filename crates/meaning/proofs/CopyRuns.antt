@@ -13,7 +13,7 @@ use Rattle.meaning.specs.CommandLists.{word_count}
 use Rattle.meaning.specs.Jobs.{Job, State, Kind, job_at, channel_at}
 use Rattle.meaning.specs.Room.{Pack}
 use Rattle.meaning.specs.Runs.{Steps}
-use Rattle.meaning.specs.Plans.{takes, puts, list_words, block_address}
+use Rattle.meaning.specs.Plans.{takes, asks_out, list_words, block_address}
 use Rattle.meaning.specs.declared.call.Reply.TheVariants.{Done}
 use Rattle.meaning.proofs.PlanRuns.{AllDone}
 use Rattle.meaning.proofs.CoreWrites.{writes_length, spared, window, written}
@@ -61,7 +61,7 @@ module _ (pack : Pack) (s : State) (j0 : Job) (there : job_at s 1 ≡ Some j0) (
   -- words are taken and put: the file has so many more of the version
   pub both_done : (me : ℕ) (j : Job) (from : Place) (v : Version) (to : Place) (kind : Kind) (file : File) (k count : ℕ)
       (t : State) → Copying me from v to kind file k j → 0 < count → count ≤ 128 → Lists count j.core
-      → k * 128 + count ≤ length v.file.body → AllDone pack (at s j) (takes moment ∷ puts moment ∷ []) t
+      → k * 128 + count ≤ length v.file.body → AllDone pack (at s j) (takes moment ∷ asks_out moment ∷ []) t
       → (j' : Job) × (t ≡ at s j') × IsJob me j' × (channel_at j' 1 ≡ Some (reading from v (k + 2)))
       × (channel_at j' 2 ≡ Some (writing (side to kind (with_body file (take (k * 128 + count) v.file.body)) (k + 2))))
       × Lists count j'.core
@@ -87,7 +87,7 @@ module _ (pack : Pack) (s : State) (j0 : Job) (there : job_at s 1 ≡ Some j0) (
       let out : channel_at j1 2 ≡ Some (writing o) = at_other c1 1 2 (reading from v (k + 2)) (λ e. cc) ∙ is.second in
       let second =
       puts_done pack s j0 there moment me j1 o count w is2 out some few (kept_lists j.core count ahead count
-      lists) (subst (λ x. Steps pack x (puts moment) Done w) first putting) in
+      lists) (subst (λ x. Steps pack x (asks_out moment) Done w) first putting) in
       let words : window core block_address count ≡ take count ahead = written j.core block_address count
       (take count ahead) (omega (arith, length-take count ahead)) (let l = is.whole.core in omega arith) in
       let long' : length (window core block_address count) ≡ count = ap length words ∙ omega (

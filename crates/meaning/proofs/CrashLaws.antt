@@ -4,7 +4,7 @@ use Rattle.blockdisk.specs.Disk.{Contents, DiskState, MayLeave, LeavesOnly}
 use Rattle.blockdisk.specs.Laws.{between_on, leaves_between}
 use Rattle.meaning.specs.Jobs.{State}
 use Rattle.meaning.specs.Room.{Pack}
-use Rattle.meaning.specs.Runs.{Service, Serving, Broken, Answers, Run}
+use Rattle.meaning.specs.Runs.{Service, Serving, Broken, Answers, AnswersAll}
 use Rattle.meaning.specs.Crashes.{StandsForState, StandsForEither, RunsOn}
 use Rattle.meaning.specs.declared.call.Event.{Event}
 use Rattle.meaning.specs.declared.call.Reply.{Reply}
@@ -32,7 +32,7 @@ before_now pack d t (Serving x) s (event ∷ events) (reply ∷ replies) (Servin
 
 -- A run with moments is a run.
 pub is_run : (pack : Pack) (d : DiskState) (t : ℕ) (old new : Service) (events : List Event) (replies : List Reply)
-    → RunsOn pack d t old events replies new → Run pack old events replies new
+    → RunsOn pack d t old events replies new → AnswersAll pack old events replies new
 is_run pack d t Broken new events replies r = r
 is_run pack d t (Serving s) new [] [] r = r.0
 is_run pack d t (Serving s) new [] (reply ∷ replies) r = absurd r

@@ -20,9 +20,9 @@ use Rattle.meaning.specs.Looking.{place_at, has_no_directory, digit_at, high_dat
 use Rattle.meaning.specs.Entering.{enter_answer, enter_done, entered, output_opened}
 use Rattle.meaning.specs.CommandLists.{dump_list, areas_from, area_of, next_command, limited, word_count}
 use Rattle.meaning.specs.declared.area.Area.{Area}
-use Rattle.meaning.specs.Plans.{calls, opens, names, writes, new_words, list_words}
+use Rattle.meaning.specs.Plans.{calls, asks_open, names, writes, new_words, list_words}
 use Rattle.meaning.specs.Plans.{block_address, open_words}
-use Rattle.meaning.specs.Copies.{place_of, IsSpec, made}
+use Rattle.meaning.specs.Copies.{place_of, HasHalfwordExtension, made}
 use Rattle.meaning.specs.declared.command.Spec.{Spec}
 use Rattle.meaning.specs.declared.call.Call.TheVariants.{Enter}
 use Rattle.meaning.specs.declared.call.Reply.TheVariants.{Done, AddressCheck, Refused}
@@ -72,7 +72,8 @@ has_directory pack s j c e place is =
     (passed_test (has_no_directory s place) (Refused 1) _ (λ w. cc) b.1).0
 
 module _ (pack : Pack) (s : State) (j0 : Job) (there : job_at s 1 ≡ Some j0) (moment : Moment) where
-  pub enter_done_by : (me : ℕ) (c : Channel) (j : Job) (spec : Spec) (t : State) → IsJob me j → IsSpec spec
+  pub enter_done_by : (me : ℕ) (c : Channel) (j : Job) (spec : Spec) (t : State) → IsJob me j
+      → HasHalfwordExtension spec
       → channel_at j 2 ≡ Some (idle c)
       → AllDone pack (at s j) (names new_words spec 0 ++ calls moment (Enter 2 new_words) ∷ []) t
       → Entered s me moment spec c j t
@@ -122,12 +123,13 @@ module _ (pack : Pack) (s : State) (j0 : Job) (there : job_at s 1 ≡ Some j0) (
         directory = directory;
       }
 
-  pub writes_done : (me : ℕ) (j : Job) (spec : Spec) (t : State) → IsJob me j → IsSpec spec
+  pub writes_done : (me : ℕ) (j : Job) (spec : Spec) (t : State) → IsJob me j → HasHalfwordExtension spec
       → AllDone pack (at s j) (writes moment spec) t
       → Entered s me moment spec open_channel (with_open (with_core j (opening j)) 2 open_channel) t
   writes_done me j spec t is few all =
-      let both = split_done pack (at s j) (opens moment 2) (names new_words spec 0 ++ calls moment (Enter 2 new_words)
-      ∷ []) t (subst (λ es. AllDone pack (at s j) es t) (append_assoc (opens moment 2) (names new_words spec 0)
+      let both = split_done pack (at s j) (asks_open moment 2)
+      (names new_words spec 0 ++ calls moment (Enter 2 new_words)
+      ∷ []) t (subst (λ es. AllDone pack (at s j) es t) (append_assoc (asks_open moment 2) (names new_words spec 0)
       (calls moment (Enter 2 new_words) ∷ [])) all) in
       let c0 = with_core j (opening j) in
       let is0 : IsJob me c0 = job_core me j (opening j) is

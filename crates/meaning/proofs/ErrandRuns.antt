@@ -16,10 +16,11 @@ use Rattle.meaning.specs.Room.{Pack}
 use Rattle.meaning.specs.Runs.{Service, Serving, Steps}
 use Rattle.meaning.specs.Texts.{Spoken}
 use Rattle.meaning.specs.Transcripts.{core_words}
-use Rattle.meaning.specs.Plans.{Plan, each, calls, ends, ok, names, puts, reads, new_words}
+use Rattle.meaning.specs.Plans.{Plan, each, calls, ends, ok, names, asks_out, reads_file, new_words}
 use Rattle.meaning.specs.Plans.{deposits, open_words}
 use Rattle.meaning.specs.Errands.{enters, creates, fills_all, keeps, gets}
-use Rattle.meaning.specs.Copies.{Comes, IsReady, IsRefused, IsSpec, AreShort, IsShown, IsPut, place_of, made}
+use Rattle.meaning.specs.Copies.{Comes, IsJobReady, IsLineRefused, HasHalfwordExtension}
+use Rattle.meaning.specs.Copies.{AreShort, IsPrinted, IsPut, place_of, made}
 use Rattle.meaning.specs.Copies.{put_mode}
 use Rattle.meaning.specs.declared.command.Spec.{Spec}
 use Rattle.meaning.specs.declared.encoding.Encoding.{Encoding}
@@ -56,7 +57,7 @@ core_is = length-set (replicate core_words 0) first_free rings_begin ∙ length-
 is_job : (me : ℕ) → IsJob me (new_job me core_words)
 is_job me = record { owner = refl; core = core_is; channels = refl }
 
-is_ready : (s : State) (me : ℕ) → 1 < length s.jobs → IsReady (logged s me) me
+is_ready : (s : State) (me : ℕ) → 1 < length s.jobs → IsJobReady (logged s me) me
 is_ready s me there = record {
   job = new_job me core_words;
   logged_in = logged_in s me there;
@@ -76,39 +77,39 @@ login_done pack s me t (serial, fresh, e) =
     ∙ (settled_done {A = State} (login_answer 1 core_words) (logged s me) (λ r. s) (ap (λ x. x.0) e)).1
 
 pub logins_make_ready : (pack : Pack) (s t : State) (me : ℕ) → 1 < length s.jobs
-    → Steps pack s (Login 1 me core_words) Done t → IsReady t me
-logins_make_ready pack s t me there steps = subst (λ u. IsReady u me) (sym (login_done pack s me t steps))
+    → Steps pack s (Login 1 me core_words) Done t → IsJobReady t me
+logins_make_ready pack s t me there steps = subst (λ u. IsJobReady u me) (sym (login_done pack s me t steps))
     (is_ready s me there)
 
 module _ (pack : Pack) (moment : Moment) (me : ℕ) (s : State) (said : Spoken) (new : Service) where
   enters_done : (next : Plan) → Comes pack (Serving s) (each moment (enters me) next) said new
-      → IsRefused s.files said new ⊎ Comes pack (Serving (logged s me)) next said new
+      → IsLineRefused s.files said new ⊎ Comes pack (Serving (logged s me)) next said new
   unfolding each
   enters_done next come = ⊎_elim inl
       (λ (t, steps, rest). inr (subst (λ u. Comes pack (Serving u) next said new) (login_done pack s me t steps) rest))
       (one_done pack s moment (Login 1 me core_words) next said new come)
 
 pub gets_are_exact : (pack : Pack) (moment : Moment) (me : ℕ) (s : State) (encoding : Encoding) (spec : Spec)
-    (said : Spoken) (new : Service) → 1 < length s.jobs → IsSpec spec → AreShort s.files
+    (said : Spoken) (new : Service) → 1 < length s.jobs → HasHalfwordExtension spec → AreShort s.files
     → Comes pack (Serving s) (gets moment me encoding spec) said new
-    → IsShown me s encoding spec said new ⊎ IsRefused s.files said new
+    → IsPrinted me s encoding spec said new ⊎ IsLineRefused s.files said new
 gets_are_exact pack moment me s encoding spec said new there few short come = ⊎_elim inr
     (λ more. reads_are_exact pack moment me (logged s me) encoding spec said new (is_ready s me there) few short more)
-    (enters_done pack moment me s said new (reads moment encoding spec) come)
+    (enters_done pack moment me s said new (reads_file moment encoding spec) come)
 
 quiet_creates : (moment : Moment) (encoding : Encoding) (spec : Spec)
     → AllByRecursion IsQuiet (creates moment encoding spec)
 quiet_creates moment Characters spec =
     let rest : List Event = calls moment (Open 2 open_words) ∷ (names new_words spec 0
-    ++ calls moment (Enter 2 new_words) ∷ calls moment (Outbuf 2 1) ∷ puts moment ∷ []) in
+    ++ calls moment (Enter 2 new_words) ∷ calls moment (Outbuf 2 1) ∷ asks_out moment ∷ []) in
     let quiet : AllByRecursion IsQuiet rest = (tt, (tt, (tt, (tt, (tt, (tt, (tt, (tt, tt)))))))) in
     all_append IsQuiet (deposits open_words opening_words) rest (quiet_deposits opening_words open_words) quiet
 quiet_creates moment Words spec = quiet_writes moment spec
 
 pub puts_are_exact : (pack : Pack) (moment : Moment) (me : ℕ) (s : State) (encoding : Encoding) (spec : Spec)
-    (words : List ℕ) (said : Spoken) (new : Service) → 1 < length s.jobs → IsSpec spec
+    (words : List ℕ) (said : Spoken) (new : Service) → 1 < length s.jobs → HasHalfwordExtension spec
     → Comes pack (Serving s) (keeps moment me encoding spec (Some words)) said new
-    → IsPut moment me s encoding spec words said new ⊎ IsRefused s.files said new
+    → IsPut moment me s encoding spec words said new ⊎ IsLineRefused s.files said new
 puts_are_exact pack moment me s encoding spec words said new there few come = ⊎_elim inr
     (λ more. ⊎_elim inr (λ (t, all, same, rest). by encoding t all rest)
     (each_done pack base moment (creates moment encoding spec) (filling encoding) said new
@@ -139,7 +140,7 @@ puts_are_exact pack moment me s encoding spec words said new there few come = �
 
     by : (encoding : Encoding) (t : State) → AllDone pack base (creates moment encoding spec) t
         → Comes pack (Serving t) (filling encoding) said new
-        → IsPut moment me s encoding spec words said new ⊎ IsRefused s.files said new
+        → IsPut moment me s encoding spec words said new ⊎ IsLineRefused s.files said new
     by Words t all rest =
         let b = words_begun pack base j0 there0 moment me j0 spec t (is_job me) few (home Words t all) in
         ⊎_elim inr (λ (n, j', is, more). closes_done pack base j0 there0 moment open_channel

@@ -18,7 +18,7 @@ use Rattle.meaning.specs.Directories.{Node, numbers, first_of, items, directory_
 use Rattle.meaning.specs.Directories.{MasterEntry, master_words, IsMasterEntry, file_words, IsFileEntry}
 use Rattle.meaning.specs.Stands.{StoredFile, StoredDirectory, DiskMap, blocks_of_file, reaches_in_directory, reaches}
 use Rattle.meaning.specs.Stands.{entry_of, IsVersion, HasMap}
-use Rattle.meaning.specs.Walks.{Leads, IsMasterWalk, IsDirectoryNamed, IsFileNamed}
+use Rattle.meaning.specs.Walks.{LeadsAlong, IsMasterWalk, IsDirectoryNamed, IsFileNamed}
 use Rattle.meaning.specs.Faults.{InSpace, IsBadBlock, malformed, next_outside, entry_outside, short, empty_later}
 use Rattle.meaning.specs.Faults.{key_again, IsMasterEntryOf, IsBadMasterBlock, IsBadFileBlock}
 use Rattle.meaning.proofs.MapLaws.{some_same}
@@ -96,7 +96,7 @@ module _ {K V : Type 0} {R : K → K → Ordering} (words : K × V → List ℕ)
           (subst (EachOnce R) (entries ∙ sym (append_assoc (items before) es (items post))) d.each_once)))
 
   pub no_bad_block : (first : ℕ) (before : List (Node (K × V))) (n : ℕ) → first ≡ head_or_zero blocks
-      → Leads words contents first before n → 0 < n → IsBadBlock R words IsEntry target size contents before n → ⊥
+      → LeadsAlong words contents first before n → 0 < n → IsBadBlock R words IsEntry target size contents before n → ⊥
   no_bad_block first before n e l p bad = there
       (walk_of_directory words apart IsMapEntry contents blocks m d nonzero first n before e l)
     where

@@ -24,7 +24,7 @@ use Rattle.meaning.specs.Retrieval.{first_extension, all_runs, pointer, prime_bl
 use Rattle.meaning.specs.Retrieval.{IsRetrieved}
 use Rattle.meaning.specs.Stands.{StoredFile, StoredDirectory, DiskMap, reaches_in_file, reaches_in_directory, reaches}
 use Rattle.meaning.specs.Stands.{place_of, entry_of, HasMap, Stands}
-use Rattle.meaning.specs.Walks.{Leads, LeadsOn, IsPrimeRead}
+use Rattle.meaning.specs.Walks.{LeadsAlong, LeadsOn, IsPrimeRead}
 use Rattle.meaning.specs.Faults.{InSpace, RunsInSpace, IsBadVersion, malformed_prime, prime_run_outside}
 use Rattle.meaning.specs.Faults.{prime_next_outside, prime_short, miscounted, too_many, malformed_extension}
 use Rattle.meaning.specs.Faults.{extension_run_outside, extension_next_outside, extension_short, IsBadRetrieval}
@@ -281,7 +281,7 @@ module _ (size : ℕ) (contents : Contents) (m : DiskMap) (s : HasMap size conte
       ((has.0, has.1, (let e = equal in omega arith)), files_part layout ppn d same at es there n fs a.1)
 
   directory_le : (layout ppn first : ℕ) (d : StoredDirectory) → layout ≡ m.layout → get m.directories ppn ≡ Some d
-      → first ≡ head_or_zero d.chain → (e : ReadDirectory) → Leads file_words contents first e.nodes e.last
+      → first ≡ head_or_zero d.chain → (e : ReadDirectory) → LeadsAlong file_words contents first e.nodes e.last
       → EachOnce name_cmp e.files → AllByRecursion (IsFileRead layout contents ppn (items e.nodes)) e.files
       → (n : ℕ) → times_in_directory n e ≤ reaches_in_directory n d
   directory_le layout ppn first d same at is e walk unique files n =

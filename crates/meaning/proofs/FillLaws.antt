@@ -13,9 +13,9 @@ use Rattle.meaning.specs.Jobs.{Job, State, Kind, job_at, channel_at}
 use Rattle.meaning.specs.Room.{Pack}
 use Rattle.meaning.specs.Runs.{Service, Serving, Steps}
 use Rattle.meaning.specs.Texts.{Spoken}
-use Rattle.meaning.specs.Plans.{Plan, lists, puts, deposits, list_words, block_address}
+use Rattle.meaning.specs.Plans.{Plan, lists, asks_out, deposits, list_words, block_address}
 use Rattle.meaning.specs.Errands.{fills, fills_parts, part_address}
-use Rattle.meaning.specs.Copies.{Comes, IsRefused}
+use Rattle.meaning.specs.Copies.{Comes, IsLineRefused}
 use Rattle.meaning.specs.declared.encoding.Encoding.{Encoding}
 use Rattle.meaning.specs.declared.encoding.Encoding.TheVariants.{Characters, Words}
 use Rattle.meaning.specs.declared.call.Reply.TheVariants.{Done}
@@ -42,7 +42,8 @@ quiet_fills moment Characters part = all_append IsQuiet (deposits (part_address 
     (quiet_deposits part (part_address Characters)) (tt, (tt, tt))
 quiet_fills moment Words part = all_append IsQuiet (deposits (part_address Words) part) _
     (quiet_deposits part (part_address Words))
-    (all_append IsQuiet (lists (length part)) (puts moment ∷ []) (quiet_deposits (list_pair (length part)) list_words)
+    (all_append IsQuiet (lists (length part)) (asks_out moment ∷ [])
+    (quiet_deposits (list_pair (length part)) list_words)
     (tt, tt))
 
 parts_left : (more len : ℕ) → suc more ≡ blocks_of len → more ≡ blocks_of (len - 128)
@@ -53,7 +54,7 @@ module _ (pack : Pack) (s : State) (moment : Moment) (encoding : Encoding) (W : 
   pub parts_done : (more k : ℕ) (done words : List ℕ) (next : Plan) (said : Spoken) (new : Service) (j : Job)
       → more ≡ blocks_of (length words) → W k done j → (0 < length words → length done ≡ k * 128)
       → Comes pack (Serving (at s j)) (fills_parts moment encoding more words next) said new
-      → IsRefused s.files said new
+      → IsLineRefused s.files said new
       ⊎ ((n : ℕ) × (j' : Job) × W n (done ++ words) j' × Comes pack (Serving (at s j')) next said new)
   unfolding fills_parts
   parts_done zero k done words next said new j count is whole come =
@@ -95,8 +96,8 @@ module _ (pack : Pack) (s : State) (j0 : Job) (there : job_at s 1 ≡ Some j0) (
       → PartsAreDone pack s moment Words (PutsWords me to kind file)
   words_done me to kind file k done part j t is long some few all =
       let count = length part in
-      let last = split_done pack (at s j) (deposits block_address part) (lists count ++ puts moment ∷ []) t all in
-      let both = split_done pack last.0 (lists count) (puts moment ∷ []) t last.2 in
+      let last = split_done pack (at s j) (deposits block_address part) (lists count ++ asks_out moment ∷ []) t all in
+      let both = split_done pack last.0 (lists count) (asks_out moment ∷ []) t last.2 in
       let core1 = after_writes j.core (placed block_address part) in
       let j1 = with_core j core1 in
       let is1 : IsJob me j1 = job_core me j core1 is.whole (writes_length j.core (placed block_address part)) in
@@ -108,7 +109,7 @@ module _ (pack : Pack) (s : State) (j0 : Job) (there : job_at s 1 ≡ Some j0) (
       (subst (λ u. AllDone pack u (lists count) both.0) to1 both.1) in
       let o = side to kind (with_body file done) (k + 1) in
       let to3 = puts_done pack s j0 there moment me j2 o count both.2.0 is2 is.second some few
-      (listing core1 count is1.core) (subst (λ u. Steps pack u (puts moment) Done both.2.0) to2 both.2.1) in
+      (listing core1 count is1.core) (subst (λ u. Steps pack u (asks_out moment) Done both.2.0) to2 both.2.1) in
       let words : window core2 block_address count ≡ part =
       ap (take count) (passed core1 list_words block_address (list_pair count) (omega arith))
       ∙ written j.core block_address count part refl (let l = is.whole.core in omega arith) in

@@ -15,7 +15,7 @@ use Rattle.meaning.specs.Looking.{directory_digit_at}
 use Rattle.meaning.specs.Inputs.{in_answer, in_done, core_filled, words_ahead, reads}
 use Rattle.meaning.specs.Outcomes.{stopped_in, refused_at}
 use Rattle.meaning.specs.Step.{step, last_date, on_job, on_channel, of_job}
-use Rattle.meaning.specs.Runs.{Service, Serving, Broken, Answers, Run}
+use Rattle.meaning.specs.Runs.{Service, Serving, Broken, Answers, AnswersAll}
 use Rattle.meaning.specs.Holding.{SparesEvent, SpareAll, version_read, held_on, held_in, held_for, held_at, FoundBy}
 use Rattle.meaning.specs.Holding.{MovesWordsOf}
 use Rattle.meaning.specs.declared.call.Call.TheVariants.{Lookup, In}
@@ -40,7 +40,7 @@ pub not_broken : {s : State} → Serving s ≡ Broken → ⊥
 not_broken e = cc
 
 pub broken_stays : (pack : Pack) (events : List Event) (replies : List Reply) (new : Service)
-    → Run pack Broken events replies new → new ≡ Broken
+    → AnswersAll pack Broken events replies new → new ≡ Broken
 broken_stays pack [] [] new r = r
 broken_stays pack [] (reply ∷ replies) new r = absurd r
 broken_stays pack (event ∷ events) [] new r = absurd r
@@ -55,7 +55,7 @@ answers_held pack s t event reply n ch v a spared h = ⊎_elim
     (λ none. subst (λ x. held_at x n ch ≡ Some v) (sym none.1) h) a
 
 pub run_held : (pack : Pack) (s t : State) (events : List Event) (replies : List Reply) (n ch : ℕ) (v : Version)
-    → Run pack (Serving s) events replies (Serving t) → SpareAll n ch events → held_at s n ch ≡ Some v
+    → AnswersAll pack (Serving s) events replies (Serving t) → SpareAll n ch events → held_at s n ch ≡ Some v
     → held_at t n ch ≡ Some v
 run_held pack s t [] [] n ch v r spared h = subst (λ x. held_at x n ch ≡ Some v) (sym (serving_same r)) h
 run_held pack s t [] (reply ∷ replies) n ch v r spared h = absurd r
@@ -215,7 +215,7 @@ done_steps pack s t event a = ⊎_elim (λ steps. (steps.0, steps.2)) (λ none. 
 pub reading_holds : (pack : Pack) (s s' t u : State) (n ch e a : ℕ) (first last : Moment) (events : List Event)
     (replies : List Reply)
     → Answers pack (Serving s) (Calls n (Lookup ch e) first) Done (Serving s')
-    → Run pack (Serving s') events replies (Serving t) → SpareAll n ch events
+    → AnswersAll pack (Serving s') events replies (Serving t) → SpareAll n ch events
     → Answers pack (Serving t) (Calls n (In ch a) last) Done (Serving u) → (v : Version) × FoundBy s n e v
     × MovesWordsOf t u n ch a v
 reading_holds pack s s' t u n ch e a first last events replies look run spared take =

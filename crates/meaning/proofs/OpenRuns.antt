@@ -18,8 +18,8 @@ use Rattle.meaning.specs.Opening.{disk, dump_mode, open_answer, open_done, core_
 use Rattle.meaning.specs.Looking.{place_at, own_if_zero, has_no_directory, is_absent}
 use Rattle.meaning.specs.Looking.{lookup_answer, lookup_done, looked_up, with_attributes, size_word, high_date}
 use Rattle.meaning.specs.Step.{of_job}
-use Rattle.meaning.specs.Plans.{calls, deposits, opens, names, finds, open_words, file_words}
-use Rattle.meaning.specs.Copies.{place_of, IsSpec}
+use Rattle.meaning.specs.Plans.{calls, deposits, asks_open, names, finds, open_words, file_words}
+use Rattle.meaning.specs.Copies.{place_of, HasHalfwordExtension}
 use Rattle.meaning.specs.declared.command.Spec.{Spec}
 use Rattle.meaning.specs.declared.call.Call.TheVariants.{Open, Lookup}
 use Rattle.meaning.specs.declared.call.Reply.{Reply}
@@ -87,7 +87,7 @@ abbrev pub opening : Job → List ℕ
 opening j = after_writes j.core (placed open_words (dump_mode ∷ disk ∷ 0 ∷ []))
 
 module _ (pack : Pack) (s : State) (j0 : Job) (there : job_at s 1 ≡ Some j0) (moment : Moment) where
-  pub opens_done : (me : ℕ) (j : Job) (ch : ℕ) (t : State) → IsJob me j → AllDone pack (at s j) (opens moment ch) t
+  pub opens_done : (me : ℕ) (j : Job) (ch : ℕ) (t : State) → IsJob me j → AllDone pack (at s j) (asks_open moment ch) t
       → t ≡ at s (with_open (with_core j (opening j)) ch open_channel)
   opens_done me j ch t is all =
       let l = is.core in
@@ -122,7 +122,7 @@ named : (j : Job) (e ppn name ext : ℕ) (me : ℕ) → j.ppn ≡ me → slice_i
     → place_at j e ≡ record { ppn = own_if_zero ppn me; name = record { name = name; ext = ext } }
 named j e ppn name ext me f g h i = rw (f, g, h, i) refl
 
-pub place_named : (me : ℕ) (j : Job) (e : ℕ) (spec : Spec) → IsJob me j → IsSpec spec → e + 4 ≤ 4096
+pub place_named : (me : ℕ) (j : Job) (e : ℕ) (spec : Spec) → IsJob me j → HasHalfwordExtension spec → e + 4 ≤ 4096
     → place_at (naming j e spec) e ≡ place_of me spec
 place_named me j e spec is few fits =
     let l = is.core in
@@ -179,12 +179,12 @@ sized_at pack core e f fits = get_or-set_same (with_attributes pack.layout core 
     (size_word (length f.body)) 0 (omega (arith, writes_length core (attributing pack core e f)))
 
 module _ (pack : Pack) (s : State) (j0 : Job) (there : job_at s 1 ≡ Some j0) (moment : Moment) where
-  pub finds_done : (me : ℕ) (j : Job) (spec : Spec) (t : State) → IsJob me j → IsSpec spec
+  pub finds_done : (me : ℕ) (j : Job) (spec : Spec) (t : State) → IsJob me j → HasHalfwordExtension spec
       → AllDone pack (at s j) (finds moment spec) t → Found s me spec j t
   finds_done me j spec t is few all =
-      let last = split_done pack (at s j) (opens moment 1 ++ names file_words spec 0)
+      let last = split_done pack (at s j) (asks_open moment 1 ++ names file_words spec 0)
       (calls moment (Lookup 1 file_words) ∷ []) t all in
-      let both = split_done pack (at s j) (opens moment 1) (names file_words spec 0) last.0 last.1 in
+      let both = split_done pack (at s j) (asks_open moment 1) (names file_words spec 0) last.0 last.1 in
       let j1 = with_open (with_core j (opening j)) 1 open_channel in
       let is1 : IsJob me j1 = job_open me (with_core j (opening j)) 1 open_channel
       (job_core me j (opening j) is (writes_length j.core (placed open_words (dump_mode ∷ disk ∷ 0 ∷ [])))) in

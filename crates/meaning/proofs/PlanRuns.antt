@@ -15,7 +15,7 @@ use Rattle.meaning.specs.Sessions.{login_answer, new_job, deposit_answer, deposi
 use Rattle.meaning.specs.Texts.{Spoken, refuses}
 use Rattle.meaning.specs.Plans.{Plan, Ask, Say, Act, Asks, Looks, ends, fails, if_done, each, calls}
 use Rattle.meaning.specs.Transcripts.{Went}
-use Rattle.meaning.specs.Copies.{Comes, HasFiles, IsRefused}
+use Rattle.meaning.specs.Copies.{Comes, HasFiles, IsLineRefused}
 use Rattle.meaning.specs.declared.call.Call.{Call}
 use Rattle.meaning.specs.declared.call.Call.TheVariants.{Open, Inbuf, Outbuf, Lookup, Enter, Rename, In, Out, Useti}
 use Rattle.meaning.specs.declared.call.Call.TheVariants.{Useto, Close, Releas, Getsts, Reset, MakeDir, DeleteDir}
@@ -186,12 +186,12 @@ goes_on pack t moment told said new c =
     (e.0, (r.0, e.1 ∙ r.1, r.2))
 
 refused : (files : Files Version) (reply : Reply) (said : Spoken) (new : Service)
-    → (said ≡ refuses reply) × HasFiles files new → IsRefused files said new
+    → (said ≡ refuses reply) × HasFiles files new → IsLineRefused files said new
 refused files reply said new (e, h) = (let is : said.refused ≡ true = ap (λ x. x.refused) e in is, h)
 
 pub failed : (pack : Pack) (files : Files Version) (old : Service) (moment : Moment) (reply : Reply) (said : Spoken)
     (new : Service)
-    → HasFiles files old → Comes pack old (fails moment reply) said new → IsRefused files said new
+    → HasFiles files old → Comes pack old (fails moment reply) said new → IsLineRefused files said new
 failed pack files old moment reply said new h c = refused files reply said new
     (ended pack files old moment (refuses reply) said new h c)
 
@@ -220,13 +220,13 @@ done_steps pack s event reply (Serving t) done (inr none) = let wrong = sym done
 -- An event that has to be done: it is, or the line is refused and the files stay.
 pub one_done : (pack : Pack) (s : State) (moment : Moment) (event : Event) (next : Plan) (said : Spoken) (new : Service)
     → Comes pack (Serving s) (Ask event (if_done moment next)) said new
-    → IsRefused s.files said new
+    → IsLineRefused s.files said new
     ⊎ ((t : State) × Steps pack s event Done t × Comes pack (Serving t) next said new)
 one_done pack s moment event next said new c = by (asked pack (Serving s) event (if_done moment next) said new c)
   where
     by : ((reply : Reply) × (mid : Service) × Answers pack (Serving s) event reply mid
         × Comes pack mid (if_done moment next reply) said new)
-        → IsRefused s.files said new
+        → IsLineRefused s.files said new
         ⊎ ((t : State) × Steps pack s event Done t × Comes pack (Serving t) next said new)
     by (reply, mid, answers, more) = ⊎_elim
         (λ done. let d = done_steps pack s event reply mid done answers in
@@ -256,7 +256,7 @@ split_done pack s (x ∷ xs) ys after (t, steps, rest) =
 pub each_done : (pack : Pack) (s : State) (moment : Moment) (events : List Event) (next : Plan) (said : Spoken)
     (new : Service)
     → AllByRecursion IsQuiet events → Comes pack (Serving s) (each moment events next) said new
-    → IsRefused s.files said new
+    → IsLineRefused s.files said new
     ⊎ ((t : State) × AllDone pack s events t × (t.files ≡ s.files) × Comes pack (Serving t) next said new)
 unfolding each
 each_done pack s moment [] next said new q c = inr (s, refl, refl, c)
@@ -265,9 +265,9 @@ each_done pack s moment (event ∷ events) next said new (here, others) c = ⊎_
     (one_done pack s moment event (each moment events next) said new c)
   where
     behind : (t : State) → Steps pack s event Done t
-        → IsRefused t.files said new
+        → IsLineRefused t.files said new
         ⊎ ((u : State) × AllDone pack t events u × (u.files ≡ t.files) × Comes pack (Serving u) next said new)
-        → IsRefused s.files said new
+        → IsLineRefused s.files said new
         ⊎ ((u : State) × AllDone pack s (event ∷ events) u × (u.files ≡ s.files) × Comes pack (Serving u) next said new)
     behind t steps (inl stopped) =
         inl (stopped.0, subst (λ f. HasFiles f new) (quiet_files pack s event Done t here steps) stopped.1)

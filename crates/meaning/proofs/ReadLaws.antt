@@ -17,8 +17,10 @@ use Rattle.meaning.specs.Runs.{Service, Serving, Steps}
 use Rattle.meaning.specs.Texts.{Spoken, prints, printed}
 use Rattle.meaning.specs.Plans.{Plan, each, finds, lists, takes, goes_to, fetches, list_words, block_address}
 use Rattle.meaning.specs.Plans.{file_words}
-use Rattle.meaning.specs.Plans.{types_blocks, types_last, types_body, reads, examines, blocks_said, until_end, ends}
-use Rattle.meaning.specs.Copies.{Comes, IsReady, IsSpec, AreShort, HasFiles, IsRefused, IsShown, place_of}
+use Rattle.meaning.specs.Plans.{types_blocks, types_last, types_body, reads_file}
+use Rattle.meaning.specs.Plans.{examines, blocks_said, until_end, ends}
+use Rattle.meaning.specs.Copies.{Comes, IsJobReady, HasHalfwordExtension, AreShort}
+use Rattle.meaning.specs.Copies.{HasFiles, IsLineRefused, IsPrinted, place_of}
 use Rattle.meaning.specs.declared.command.Spec.{Spec}
 use Rattle.meaning.specs.declared.encoding.Encoding.{Encoding}
 use Rattle.meaning.specs.declared.call.Event.{Event}
@@ -82,7 +84,7 @@ module _ (pack : Pack) (s : State) (j0 : Job) (there : job_at s 1 ≡ Some j0) (
   blocks_read : (me : ℕ) (place : Place) (v : Version) (said : Spoken) (new : Service) (more k : ℕ)
       (next : List ℕ → Plan) (j : Job) → Reads me place v (k + 1) 128 j → (k + more) * 128 ≤ length v.file.body
       → Comes pack (Serving (at s j)) (types_blocks moment more next) said new
-      → IsRefused s.files said new
+      → IsLineRefused s.files said new
       ⊎ ((j' : Job) × Reads me place v (k + more + 1) 128 j'
       × Comes pack (Serving (at s j')) (next (take (more * 128) (drop (k * 128) v.file.body))) said new)
   unfolding types_blocks
@@ -122,7 +124,7 @@ module _ (pack : Pack) (s : State) (j0 : Job) (there : job_at s 1 ≡ Some j0) (
       (j : Job) → Reads me place v (more + 1) 128 j → length v.file.body ≤ longest → more * 128 < length v.file.body
       → length v.file.body ≤ (more + 1) * 128
       → Comes pack (Serving (at s j)) (types_last moment (more + 1) (size_word (length v.file.body)) next) said new
-      → IsRefused s.files said new
+      → IsLineRefused s.files said new
       ⊎ ((j' : Job) × IsJob me j' × ((n : ℕ) × (channel_at j' 1 ≡ Some (reading place v n)))
       × Comes pack (Serving (at s j')) (next (drop (more * 128) v.file.body)) said new)
   last_read me place v said new more next j is fits low high come =
@@ -177,7 +179,7 @@ module _ (pack : Pack) (s : State) (j0 : Job) (there : job_at s 1 ≡ Some j0) (
       (next : List ℕ → Plan) (j : Job) → Reads me place v 1 128 j → length v.file.body ≤ longest
       → blocks ≡ blocks_of (length v.file.body)
       → Comes pack (Serving (at s j)) (types_body moment blocks (size_word (length v.file.body)) next) said new
-      → IsRefused s.files said new
+      → IsLineRefused s.files said new
       ⊎ ((j' : Job) × IsJob me j' × ((n : ℕ) × (channel_at j' 1 ≡ Some (reading place v n)))
       × Comes pack (Serving (at s j')) (next v.file.body) said new)
   body_read me place v said new zero next j is fits count come =
@@ -224,9 +226,9 @@ module _ (pack : Pack) (s : State) (j0 : Job) (there : job_at s 1 ≡ Some j0) (
           bound more len e = (grind arith, grind arith)
 
 pub reads_are_exact : (pack : Pack) (moment : Moment) (me : ℕ) (s : State) (encoding : Encoding) (spec : Spec)
-    (said : Spoken) (new : Service) → IsReady s me → IsSpec spec → AreShort s.files
-    → Comes pack (Serving s) (reads moment encoding spec) said new
-    → IsShown me s encoding spec said new ⊎ IsRefused s.files said new
+    (said : Spoken) (new : Service) → IsJobReady s me → HasHalfwordExtension spec → AreShort s.files
+    → Comes pack (Serving s) (reads_file moment encoding spec) said new
+    → IsPrinted me s encoding spec said new ⊎ IsLineRefused s.files said new
 reads_are_exact pack moment me s encoding spec said new ready few short come = ⊎_elim inr
     (λ (t, all, same, rest). begun t all rest)
     (each_done pack s moment (finds moment spec ++ lists 128) rests said new
@@ -248,7 +250,7 @@ reads_are_exact pack moment me s encoding spec said new ready few short come = �
     finished : (v : Version) → file_at s.files (place_of me spec) ≡ Some v → (j : Job) → IsJob me j
         → ((n : ℕ) × (channel_at j 1 ≡ Some (reading (place_of me spec) v n)))
         → Comes pack (Serving (at s j)) (closing v.file.body) said new
-        → IsShown me s encoding spec said new ⊎ IsRefused s.files said new
+        → IsPrinted me s encoding spec said new ⊎ IsLineRefused s.files said new
     finished v found j is (n, first) more = ⊎_elim inr (λ (j', same, rest). inl (shown (goes_on pack (at s j') moment
         (prints (printed encoding v.file.body)) said new rest)))
         (until_done pack s j0 ready.logged_in moment me (reading (place_of me spec) v n)
@@ -256,11 +258,11 @@ reads_are_exact pack moment me s encoding spec said new ready few short come = �
       where
         shown : (said ≡ prints (printed encoding v.file.body))
             × ((after : State) × (new ≡ Serving after) × (after.files ≡ s.files))
-            → IsShown me s encoding spec said new
+            → IsPrinted me s encoding spec said new
         shown (e, (after, serves, files)) = ((v, found, e), subst (HasFiles s.files) (sym serves) files)
 
     begun : (t : State) → AllDone pack s (finds moment spec ++ lists 128) t → Comes pack (Serving t) rests said new
-        → IsShown me s encoding spec said new ⊎ IsRefused s.files said new
+        → IsPrinted me s encoding spec said new ⊎ IsLineRefused s.files said new
     begun t all rest =
         let there = ready.logged_in in
         let both = split_done pack (at s j0) (finds moment spec) (lists 128) t

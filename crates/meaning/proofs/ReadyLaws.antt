@@ -37,7 +37,7 @@ use Rattle.meaning.specs.Step.{step, last_date, on_job, on_channel, of_job, of_f
 use Rattle.meaning.specs.Runs.{Answers, Serving}
 use Rattle.meaning.specs.Transcripts.{core_words}
 use Rattle.meaning.specs.declared.area.Area.{Area}
-use Rattle.meaning.specs.Copies.{IsReady, asks_for_login}
+use Rattle.meaning.specs.Copies.{IsJobReady, asks_for_login}
 use Rattle.meaning.specs.declared.call.Call.{Call}
 use Rattle.meaning.specs.declared.call.Call.TheVariants.{Open, Inbuf, Outbuf, Lookup, Enter, Rename, In, Out, Useti}
 use Rattle.meaning.specs.declared.call.Call.TheVariants.{Useto, Close, Releas, Getsts, Reset, MakeDir, DeleteDir}
@@ -312,7 +312,7 @@ module _ (pack : Pack) (serial : ℕ) (s : State) (n : ℕ) (job : Job) (there :
 -- Job 1 stays ready.
 
 keeps_ready : (me : ℕ) (t : State) (job j : Job) → job.ppn ≡ me → length job.core ≡ core_words
-    → length job.channels ≡ 16 → job_at t 1 ≡ Some j → Alike job j → IsReady t me
+    → length job.channels ≡ 16 → job_at t 1 ≡ Some j → Alike job j → IsJobReady t me
 keeps_ready me t job j owner core channels at alike = record {
   job = j;
   logged_in = at;
@@ -321,42 +321,44 @@ keeps_ready me t job j owner core channels at alike = record {
   channels = alike.channels channels;
 }
 
-module _ (pack : Pack) (serial : ℕ) (s : State) (me : ℕ) (ready : IsReady s me) where
-  own_if : (late : Bool) (r : Reply × State) → IsReady r.1 me → IsReady (if late then (DateRange, s) else r).1 me
+module _ (pack : Pack) (serial : ℕ) (s : State) (me : ℕ) (ready : IsJobReady s me) where
+  own_if : (late : Bool) (r : Reply × State) → IsJobReady r.1 me → IsJobReady (if late then (DateRange, s) else r).1 me
   own_if true r h = ready
   own_if false r h = h
 
-  own_job : (row : Job → Reply × State) → IsReady (row ready.job).1 me → IsReady (on_job s (job_at s 1) row).1 me
-  own_job row h = subst (λ o. IsReady (on_job s o row).1 me) (sym ready.logged_in) h
+  own_job : (row : Job → Reply × State) → IsJobReady (row ready.job).1 me → IsJobReady (on_job s (job_at s 1) row).1 me
+  own_job row h = subst (λ o. IsJobReady (on_job s o row).1 me) (sym ready.logged_in) h
 
   own_event : (event : Event) → asks_for_login event ≡ false → job_of event ≡ 1
-      → IsReady (step pack serial s event).1 me
+      → IsJobReady (step pack serial s event).1 me
   own_event (Login n ppn words) other one = let wrong : true ≡ false = other in cc
-  own_event (Deposit n address word) other one = subst (λ k. IsReady (step pack serial s (Deposit k address word)).1 me)
+  own_event (Deposit n address word) other one = subst
+      (λ k. IsJobReady (step pack serial s (Deposit k address word)).1 me)
       (sym one) (own_job (λ job. deposit s 1 job address word)
-      (settled_by (λ r. IsReady r.1 me) (deposit_answer ready.job address)
+      (settled_by (λ r. IsJobReady r.1 me) (deposit_answer ready.job address)
       (with_job s 1 (deposit_done ready.job address word)) (λ r. s)
       (λ is. keeps_ready me (with_job s 1 (deposit_done ready.job address word)) ready.job
       (deposit_done ready.job address word) ready.owner ready.core ready.channels
       (slot-set_same s.jobs 1 (deposit_done ready.job address word) ready.job ready.logged_in)
       (alike_core ready.job (slice_set ready.job.core address word) (length-set ready.job.core address word)))
       (λ differs. ready)))
-  own_event (Examine n address) other one = subst (λ k. IsReady (step pack serial s (Examine k address)).1 me) (sym one)
+  own_event (Examine n address) other one = subst (λ k. IsJobReady (step pack serial s (Examine k address)).1 me)
+      (sym one)
       (own_job (λ job. (examine_answer job address, s)) ready)
   own_event (Calls n call moment) other one =
-      subst (λ k. IsReady (step pack serial s (Calls k call moment)).1 me) (sym one)
+      subst (λ k. IsJobReady (step pack serial s (Calls k call moment)).1 me) (sym one)
       (own_if (nat_lt (last_date pack.layout) moment.date) _ (own_job (λ job. call_of pack serial s 1 job call moment)
       (kept (call_keeps pack serial s 1 ready.job ready.logged_in call moment))))
     where
       kept : (j : Job) × (job_at (call_of pack serial s 1 ready.job call moment).1 1 ≡ Some j) × Alike ready.job j
-          → IsReady (call_of pack serial s 1 ready.job call moment).1 me
+          → IsJobReady (call_of pack serial s 1 ready.job call moment).1 me
       kept (j, at, alike) = keeps_ready me (call_of pack serial s 1 ready.job call moment).1 ready.job j ready.owner
           ready.core ready.channels at alike
 
-  ready_step : (event : Event) → asks_for_login event ≡ false → IsReady (step pack serial s event).1 me
+  ready_step : (event : Event) → asks_for_login event ≡ false → IsJobReady (step pack serial s event).1 me
   ready_step event other = by (job_of event == 1) refl
     where
-      by : (b : Bool) → (job_of event == 1) ≡ b → IsReady (step pack serial s event).1 me
+      by : (b : Bool) → (job_of event == 1) ≡ b → IsJobReady (step pack serial s event).1 me
       by true e = own_event event other (eqb-true (job_of event) 1 e)
       by false e = record {
         job = ready.job;
@@ -368,7 +370,7 @@ module _ (pack : Pack) (serial : ℕ) (s : State) (me : ℕ) (ready : IsReady s 
       }
 
 pub ready_stays : (pack : Pack) (s t : State) (event : Event) (reply : Reply) (me : ℕ) → asks_for_login event ≡ false
-    → IsReady s me → Answers pack (Serving s) event reply (Serving t) → IsReady t me
+    → IsJobReady s me → Answers pack (Serving s) event reply (Serving t) → IsJobReady t me
 ready_stays pack s t event reply me other ready a = ⊎_elim
-    (λ steps. subst (λ (r : Reply × State). IsReady r.1 me) steps.2 (ready_step pack steps.0 s me ready event other))
-    (λ none. subst (λ u. IsReady u me) (sym none.1) ready) a
+    (λ steps. subst (λ (r : Reply × State). IsJobReady r.1 me) steps.2 (ready_step pack steps.0 s me ready event other))
+    (λ none. subst (λ u. IsJobReady u me) (sym none.1) ready) a

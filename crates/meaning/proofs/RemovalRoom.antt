@@ -12,8 +12,9 @@ use Rattle.meaning.specs.Costs.{directory_cost}
 use Rattle.meaning.specs.Published.{Version, file_at, with_file, with_file_in, without_file, without_file_in}
 use Rattle.meaning.specs.Published.{with_protection}
 use Rattle.meaning.specs.Jobs.{Channel, Job, Output, State, channel_at, job_at}
-use Rattle.meaning.specs.Room.{Pack, names_in, entry_count, pending_creations, directories_cost, distinct_cost, current}
-use Rattle.meaning.specs.Room.{held, booked, has_no_room, growth}
+use Rattle.meaning.specs.Room.{Pack, names_in, entry_count}
+use Rattle.meaning.specs.Room.{pending_creations, directories_cost, distinct_cost, current_versions}
+use Rattle.meaning.specs.Room.{held_versions, booked, has_no_room, growth}
 use Rattle.meaning.specs.Outcomes.{clean}
 use Rattle.meaning.specs.Looking.{place_at, has_no_directory}
 use Rattle.meaning.specs.Renaming.{deletes_at, protection_at, crowds, rename_answer, rename_done, files_moved}
@@ -227,5 +228,6 @@ fine_remove s sound n job there e done =
     let z = size-remove nat_cmp_total nat_cmp-IsAntisymmetric s.files owner d.0 d.1 in
     let m = directory_cost_le (size (remove s.files owner)) (size s.files) (omega (arith, z)) in
     let dirs : directories_cost s1 ≤ directories_cost s = omega (arith, a, m) in
-    let costs1 = subst (λ t. distinct_cost (current t ++ held t) ≤ distinct_cost (current s ++ held s)) back costs in
+    let costs1 = subst (λ t. distinct_cost (current_versions t ++ held_versions t) ≤ distinct_cost
+    (current_versions s ++ held_versions s)) back costs in
     subst (λ t. booked t ≤ booked s) (sym back) (omega (arith, dirs, costs1))

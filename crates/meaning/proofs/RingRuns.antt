@@ -11,7 +11,7 @@ use Rattle.words36.specs.Words.{right, join}
 use Rattle.meaning.specs.Cores.{after_writes, lies_outside, first_free}
 use Rattle.meaning.specs.Rings.{setup, with_ring, kept_if, out_ready, out_is_good, out_writes, is_good, is_unused}
 use Rattle.meaning.specs.Rings.{is_marked}
-use Rattle.meaning.specs.Rings.{current, next, target, put_count, last_is_good, buffer_data, ring_words, emptied}
+use Rattle.meaning.specs.Rings.{current, next, target, put_count, last_is_good, buffer_data, ring_words, buffer_emptied}
 use Rattle.meaning.specs.Rings.{last_words, has_last, unmarked, pointer}
 use Rattle.meaning.proofs.CoreWrites.{window, range_window}
 
@@ -124,17 +124,17 @@ module _ (core : List ℕ) (l : length core ≡ 4096) (is : Fresh core) where
   fresh_target : target core header ≡ buffer
   fresh_target = ap (λ b. if b then current core header else next core header) fresh_unused ∙ fresh_current
 
-  fresh_writes : out_writes core header 7 ≡ emptied header 7 buffer
+  fresh_writes : out_writes core header 7 ≡ buffer_emptied header 7 buffer
   unfolding out_writes
   fresh_writes = ap (λ b. (if b then [] else (current core header + 1, put_count core header)
       ∷ (current core header, unmarked (slice_index core (current core header))) ∷ [])
-      ++ emptied header 7 (target core header)) fresh_unused ∙ ap (emptied header 7) fresh_target
+      ++ buffer_emptied header 7 (target core header)) fresh_unused ∙ ap (buffer_emptied header 7) fresh_target
 
   pub fresh_after : Ring 0 (after_writes core (out_writes core header 7))
   fresh_after = subst (λ ws. Ring 0 (after_writes core ws)) (sym fresh_writes) (record {
-    head = read_at core (emptied header 7 buffer) header (omega arith);
-    end = ap right (read_at core (emptied header 7 buffer) (header + 1) (omega arith));
-    link = read_at core (emptied header 7 buffer) buffer (omega arith) ∙ is.link;
+    head = read_at core (buffer_emptied header 7 buffer) header (omega arith);
+    end = ap right (read_at core (buffer_emptied header 7 buffer) (header + 1) (omega arith));
+    link = read_at core (buffer_emptied header 7 buffer) buffer (omega arith) ∙ is.link;
   })
 
 -- And on one that is.
@@ -191,14 +191,14 @@ module _ (core : List ℕ) (l : length core ≡ 4096) (count : ℕ) (few : count
   used_target = ap (λ b. if b then current core header else next core header) used ∙ used_next
 
   abbrev writes_used : List (ℕ × ℕ)
-  writes_used = (buffer + 1, count) ∷ (buffer, unmarked (join 0o201 buffer)) ∷ emptied header 7 buffer
+  writes_used = (buffer + 1, count) ∷ (buffer, unmarked (join 0o201 buffer)) ∷ buffer_emptied header 7 buffer
 
   used_writes : out_writes core header 7 ≡ writes_used
   unfolding out_writes
   used_writes = ap (λ b. (if b then [] else (current core header + 1, put_count core header)
       ∷ (current core header, unmarked (slice_index core (current core header))) ∷ [])
-      ++ emptied header 7 (target core header)) used
-      ∙ ap {A = ℕ × ℕ × ℕ × ℕ} (λ n. (n.0 + 1, n.1) ∷ (n.0, unmarked n.2) ∷ emptied header 7 n.3)
+      ++ buffer_emptied header 7 (target core header)) used
+      ∙ ap {A = ℕ × ℕ × ℕ × ℕ} (λ n. (n.0 + 1, n.1) ∷ (n.0, unmarked n.2) ∷ buffer_emptied header 7 n.3)
       (λ i. (used_current i, used_count i, (ap (slice_index core) used_current ∙ is.link) i, used_target i))
 
   pub used_after : Ring 0 (after_writes core (out_writes core header 7))

@@ -12,7 +12,8 @@ use Rattle.meaning.specs.Costs.{version_cost, directory_cost}
 use Rattle.meaning.specs.Published.{Version, file_in, file_at, with_file, with_file_in, without_file, without_file_in}
 use Rattle.meaning.specs.Jobs.{Input, Output, Channel, Job, State, slot, channel_at, job_at, with_job, with_channel}
 use Rattle.meaning.specs.Room.{Pack, output_of, outputs_of, outputs, is_claimed, pending_creations, names_in}
-use Rattle.meaning.specs.Room.{entry_count, current, version_of, held_by, held, has_serial, distinct_cost}
+use Rattle.meaning.specs.Room.{entry_count, current_versions, version_of}
+use Rattle.meaning.specs.Room.{held_by, held_versions, has_serial, distinct_cost}
 use Rattle.meaning.specs.Room.{directories_cost, booked, space, exceeds_room}
 use Rattle.meaning.specs.Looking.{has_no_directory, is_absent, digit_for_directory, directory_digit_at}
 use Rattle.meaning.specs.Looking.{digit_for_version, digit_at}
@@ -188,7 +189,7 @@ module _ (f : ℕ → ℕ) where
       (λ i. values-map_values name_total re_version d.files i ++ current_re ds i)
       ∙ sym (map-append re_version (values d.files) (flat_map (λ (d : Directory Version). values d.files) ds))
 
-  pub current-re : (s : State) → current (re_state s) ≡ map re_version (current s)
+  pub current-re : (s : State) → current_versions (re_state s) ≡ map re_version (current_versions s)
   current-re s = ap (flat_map (λ (d : Directory Version). values d.files))
       (values-map_values nat_cmp_total (map_directory re_version) s.files) ∙ current_re (values s.files)
 
@@ -222,8 +223,10 @@ module _ (f : ℕ → ℕ) where
   held_re (j ∷ js) = (λ i. held_job_re j i ++ held_re js i)
       ∙ sym (map-append re_version (held_by j) (flat_map held_by js))
 
-  pub versions-re : (s : State) → current (re_state s) ++ held (re_state s) ≡ map re_version (current s ++ held s)
-  versions-re s = (λ i. current-re s i ++ held_re s.jobs i) ∙ sym (map-append re_version (current s) (held s))
+  pub versions-re : (s : State) → current_versions (re_state s) ++ held_versions (re_state s)
+      ≡ map re_version (current_versions s ++ held_versions s)
+  versions-re s = (λ i. current-re s i ++ held_re s.jobs i)
+      ∙ sym (map-append re_version (current_versions s) (held_versions s))
 
   -- What is booked, where different serials stay different.
 
@@ -265,7 +268,8 @@ module _ (f : ℕ → ℕ) where
         (entries s.files)) i
 
     pub booked-re : (s : State) → booked (re_state s) ≡ booked s
-    booked-re s = λ i. (directories_re s i + (ap distinct_cost (versions-re s) ∙ distinct_re (current s ++ held s)) i)
+    booked-re s = λ i. (directories_re s i
+        + (ap distinct_cost (versions-re s) ∙ distinct_re (current_versions s ++ held_versions s)) i)
         + ap (total (λ (o : Output). version_cost (length o.pending.body))) (outputs-re s) i
 
     pub exceeds-re : (pack : Pack) (s : State) (more : ℕ) → exceeds_room pack (re_state s) more

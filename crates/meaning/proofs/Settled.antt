@@ -7,7 +7,7 @@ use Rattle.meaning.specs.Files.{File, Files}
 use Rattle.meaning.specs.Regions.{space_start, log_start}
 use Rattle.meaning.specs.Log.{targets, log_header, AreImages, IsLog, with_puts, IsSettled}
 use Rattle.meaning.specs.Stands.{SettledStands, Stands}
-use Rattle.meaning.specs.Quiet.{IsFree, DifferInFree}
+use Rattle.meaning.specs.Quiet.{IsFreeBlock, DifferInFree}
 use Rattle.meaning.proofs.Lists.{front_same}
 use Rattle.meaning.proofs.MapLaws.{some_same}
 use Rattle.meaning.proofs.DiskMaps.{quiet, stands_same}
@@ -84,7 +84,7 @@ module _ (size : ℕ) (settled old new : Contents) (q : DifferInFree size settle
   over_puts [] n = q n
   over_puts (p ∷ ps) n = elim (eqb n p.block) as (λ c. (cond c (Some p.words) (with_puts ps new n)
       ≡ cond c (Some p.words) (with_puts ps old n))
-      ⊎ IsFree size settled n) [ true ↦ inl refl | false ↦ over_puts ps n ]
+      ⊎ IsFreeBlock size settled n) [ true ↦ inl refl | false ↦ over_puts ps n ]
 
   -- what quiet writes make of the settled contents
   pub settled_quiet : IsSettled size old settled → (after : Contents) × IsSettled size new after

@@ -41,7 +41,7 @@ use Rattle.meaning.specs.Renaming.{deletes_at, protection_at}
 use Rattle.meaning.specs.Making.{make_answer, remove_answer, owner_at, directory_made}
 use Rattle.meaning.specs.Sessions.{login_answer, new_job, deposit_answer, deposit_done, resets}
 use Rattle.meaning.specs.Step.{step, last_date, on_job, on_channel, of_job, of_files, call_of}
-use Rattle.meaning.specs.Runs.{Answers, Run, Serving, Broken, IsStart}
+use Rattle.meaning.specs.Runs.{Answers, AnswersAll, Serving, Broken, IsStart}
 use Rattle.meaning.specs.declared.call.Call.{Call}
 use Rattle.meaning.specs.declared.call.Call.TheVariants.{Open, Inbuf, Outbuf, Lookup, Enter, Rename, In, Out, Useti}
 use Rattle.meaning.specs.declared.call.Call.TheVariants.{Useto, Close, Releas, Getsts, Reset, MakeDir, DeleteDir}
@@ -412,7 +412,7 @@ short_answers pack s t event reply a short = ⊎_elim
     (λ none. subst IsShort (sym none.1) short) a
 
 pub short_run : (pack : Pack) (s t : State) (events : List Event) (replies : List Reply)
-    → Run pack (Serving s) events replies (Serving t) → IsShort s → IsShort t
+    → AnswersAll pack (Serving s) events replies (Serving t) → IsShort s → IsShort t
 short_run pack s t [] [] r short = subst IsShort (sym (serving_same r)) short
 short_run pack s t [] (reply ∷ replies) r short = absurd r
 short_run pack s t (event ∷ events) [] r short = absurd r
@@ -468,6 +468,6 @@ start_short found s few start = record {
 
 pub bodies_stay_short : (pack : Pack) (size : ℕ) (contents : Contents) (found : Files File) (s t : State)
     (events : List Event) (replies : List Reply) → Stands size contents found → IsStart found s
-    → Run pack (Serving s) events replies (Serving t) → IsShort t
+    → AnswersAll pack (Serving s) events replies (Serving t) → IsShort t
 bodies_stay_short pack size contents found s t events replies stands start run =
     short_run pack s t events replies run (start_short found s (standing_short size contents found stands) start)

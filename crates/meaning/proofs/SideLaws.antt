@@ -9,7 +9,8 @@ use Rattle.meaning.specs.Maps.{get, entries, values}
 use Rattle.meaning.specs.Files.{Directory, Place}
 use Rattle.meaning.specs.Published.{Version, same_place, file_at, file_in}
 use Rattle.meaning.specs.Jobs.{Channel, Job, Output, State, slot, job_at}
-use Rattle.meaning.specs.Room.{output_of, outputs_of, outputs, version_of, held_by, held, current, is_claimed}
+use Rattle.meaning.specs.Room.{output_of, outputs_of, outputs, version_of}
+use Rattle.meaning.specs.Room.{held_by, held_versions, current_versions, is_claimed}
 use Rattle.meaning.specs.Sound.{output_for, writes_at, version_for, holds_at, Exists}
 use Rattle.meaning.proofs.MapLists.{each_in_entries, get-holds}
 use Rattle.meaning.proofs.Names.{name_total, name_exact}
@@ -78,7 +79,8 @@ unclaimed s place free n ch o is = output_of_all s (λ o. same_place o.place pla
 -- Versions.
 
 module _ (s : State) (P : Version → Type 0) where
-  all_current : ((place : Place) (v : Version) → file_at s.files place ≡ Some v → P v) → AllByRecursion P (current s)
+  all_current : ((place : Place) (v : Version) → file_at s.files place ≡ Some v → P v)
+      → AllByRecursion P (current_versions s)
   all_current h = all_flat_map P (λ d. values d.files) (values s.files)
       (all_map (λ d. AllByRecursion P (values d.files)) (λ e. e.1) (entries s.files)
       (each_in_entries nat_cmp_total (λ ppn d. AllByRecursion P (values d.files)) s.files
@@ -86,7 +88,8 @@ module _ (s : State) (P : Version → Type 0) where
       (each_in_entries name_total (λ name v. P v) d.files
       (λ name v at. h (record { ppn = ppn; name = name }) v (ap (λ o. file_in o name) is ∙ at))))))
 
-  current_of_all : AllByRecursion P (current s) → (place : Place) (v : Version) → file_at s.files place ≡ Some v → P v
+  current_of_all : AllByRecursion P (current_versions s) → (place : Place) (v : Version) → file_at s.files place
+      ≡ Some v → P v
   current_of_all a place v is = at (get s.files place.ppn) refl is
     where
       at : (d : Option (Directory Version)) → get s.files place.ppn ≡ d → file_in d place.name ≡ Some v → P v
@@ -97,12 +100,12 @@ module _ (s : State) (P : Version → Type 0) where
           (all_of_map (λ d. AllByRecursion P (values d.files)) (λ e. e.1) (entries s.files)
           (all_of_flat_map P (λ d. values d.files) (values s.files) a)) place.ppn d e)) place.name v h
 
-  all_held : ((n ch : ℕ) (v : Version) → holds_at s n ch ≡ Some v → P v) → AllByRecursion P (held s)
+  all_held : ((n ch : ℕ) (v : Version) → holds_at s n ch ≡ Some v → P v) → AllByRecursion P (held_versions s)
   all_held h = all_flat_map P held_by s.jobs (all_slots (λ j. AllByRecursion P (held_by j)) s.jobs tt (λ n job e.
       all_filter_map P version_of job.channels
       (all_items version_of refl P job.channels (λ ch v is. h n ch v (ap (version_for ch) e ∙ is)))))
 
-  held_of_all : AllByRecursion P (held s) → (n ch : ℕ) (v : Version) → holds_at s n ch ≡ Some v → P v
+  held_of_all : AllByRecursion P (held_versions s) → (n ch : ℕ) (v : Version) → holds_at s n ch ≡ Some v → P v
   held_of_all a n ch v is = at (job_at s n) refl is
     where
       at : (j : Option Job) → job_at s n ≡ j → version_for ch j ≡ Some v → P v
@@ -111,10 +114,12 @@ module _ (s : State) (P : Version → Type 0) where
           (all_of_filter_map P version_of job.channels
           (slot_of_all (λ j. AllByRecursion P (held_by j)) s.jobs n job (all_of_flat_map P held_by s.jobs a) e)) h
 
-  pub all_versions : ((v : Version) → Exists s v → P v) → AllByRecursion P (current s ++ held s)
-  all_versions h = all_append P (current s) (held s) (all_current (λ place v is. h v (inl (place, is))))
+  pub all_versions : ((v : Version) → Exists s v → P v) → AllByRecursion P (current_versions s ++ held_versions s)
+  all_versions h = all_append P (current_versions s) (held_versions s)
+      (all_current (λ place v is. h v (inl (place, is))))
       (all_held (λ n ch v is. h v (inr (n, ch, is))))
 
-  pub version_of_all : AllByRecursion P (current s ++ held s) → (v : Version) → Exists s v → P v
-  version_of_all a v there = ⊎_elim (λ at. current_of_all (all_left P (current s) (held s) a) at.0 v at.1)
-      (λ at. held_of_all (all_right P (current s) (held s) a) at.0 at.1 v at.2) there
+  pub version_of_all : AllByRecursion P (current_versions s ++ held_versions s) → (v : Version) → Exists s v → P v
+  version_of_all a v there = ⊎_elim
+      (λ at. current_of_all (all_left P (current_versions s) (held_versions s) a) at.0 v at.1)
+      (λ at. held_of_all (all_right P (current_versions s) (held_versions s) a) at.0 at.1 v at.2) there

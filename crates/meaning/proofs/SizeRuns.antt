@@ -25,7 +25,7 @@ use Rattle.meaning.specs.Texts.{Spoken}
 use Rattle.meaning.specs.Plans.{Plan, examines, fetches, if_told, says_words, blocks_said, last_said, same_words}
 use Rattle.meaning.specs.Plans.{takes_over, counts, sizes, takes, goes_to, deposits, block_address}
 use Rattle.meaning.specs.Plans.{list_words}
-use Rattle.meaning.specs.Copies.{Comes, IsRefused}
+use Rattle.meaning.specs.Copies.{Comes, IsLineRefused}
 use Rattle.meaning.specs.declared.call.Event.TheVariants.{Examine}
 use Rattle.meaning.specs.declared.call.Reply.{Reply}
 use Rattle.meaning.specs.declared.call.Reply.TheVariants.{Done, Value, AddressCheck}
@@ -164,7 +164,7 @@ module _ (pack : Pack) (s : State) (j0 : Job) (there : job_at s 1 ≡ Some j0) (
   takes_over_done : (me : ℕ) (place : Place) (v : Version) (n word : ℕ) (next : List ℕ → Plan) (said : Spoken)
       (new : Service) (j : Job) → IsJob me j → (k : ℕ) → channel_at j 1 ≡ Some (reading place v k) → Lists 128 j.core
       → Comes pack (Serving (at s j)) (takes_over moment n word next) said new
-      → IsRefused s.files said new
+      → IsLineRefused s.files said new
       ⊎ ((j' : Job) × Between me place v j j' × Comes pack (Serving (at s j'))
       (next (laid (take 128 (words_from v.file.body n)) word)) said new)
   takes_over_done me place v n word next said new j is k first lists c = ⊎_elim inl (λ (t, all, same, more).
@@ -231,7 +231,7 @@ module _ (pack : Pack) (s : State) (j0 : Job) (there : job_at s 1 ≡ Some j0) (
       (j : Job) → IsJob me j → (k : ℕ) → channel_at j 1 ≡ Some (reading place v k) → Lists 128 j.core
       → length v.file.body ≤ longest → more * 128 < length v.file.body → length v.file.body ≤ (more + 1) * 128
       → Comes pack (Serving (at s j)) (sizes moment (more + 1) (size_word (length v.file.body)) next) said new
-      → IsRefused s.files said new
+      → IsLineRefused s.files said new
       ⊎ ((j' : Job) × Between me place v j j'
       × Comes pack (Serving (at s j')) (next (length v.file.body - more * 128)) said new)
   sizes_done me place v more next said new j is k first lists fits low high c = by (says_words size) refl c
@@ -260,7 +260,7 @@ module _ (pack : Pack) (s : State) (j0 : Job) (there : job_at s 1 ≡ Some j0) (
 
       by : (b : Bool) → says_words size ≡ b
           → Comes pack (Serving (at s j)) (if b then next (last_said size) else counts moment (more + 1) next) said new
-          → IsRefused s.files said new
+          → IsLineRefused s.files said new
           ⊎ ((j' : Job) × Between me place v j j' × Comes pack (Serving (at s j')) (next (len - more * 128)) said new)
       by true says c = inr (
         j,

@@ -7,7 +7,7 @@ use Rattle.meaning.specs.Maps.{get}
 use Rattle.meaning.specs.Files.{Files, Place}
 use Rattle.meaning.specs.Published.{Version, same_place, file_at}
 use Rattle.meaning.specs.Jobs.{Channel, Job, Output, State, is_create, channel_at, job_at, with_channel, all_closed}
-use Rattle.meaning.specs.Room.{output_of, version_of, is_claimed, current, held}
+use Rattle.meaning.specs.Room.{output_of, version_of, is_claimed, current_versions, held_versions}
 use Rattle.meaning.specs.Runs.{IsFresh}
 use Rattle.meaning.specs.Sound.{output_for, writes_at, version_for, Exists, AreAlike, IsSound}
 use Rattle.meaning.proofs.SlotLaws.{slot-set_cases, slot-empty}
@@ -75,7 +75,7 @@ pub record Goes (s s' : State) (v : Version) (n ch : ℕ) : Type 0 where
 pub fresh_is_new : (s : State) (serial : ℕ) → IsFresh s serial → (w : Version) → Exists s w → w.serial ≡ serial → ⊥
 fresh_is_new s serial fresh w there e =
     let h = version_of_all s (λ v. (v.serial == serial) ≡ false)
-    (none_passes (λ v. v.serial == serial) (current s ++ held s) fresh) w there in
+    (none_passes (λ v. v.serial == serial) (current_versions s ++ held_versions s) fresh) w there in
     let g = eq-eqb w.serial serial e in
     let wrong = sym h ∙ g in cc
 
@@ -170,7 +170,7 @@ module _ (s : State) (v : Version) (n ch : ℕ) (files : Files Version) (job : J
   versions_by : ((k : ℕ) (w : Version) → version_of (channel_at job k) ≡ Some w → Exists s w ⊎ (w ≡ v))
       → ((place : Place) (w : Version) → file_at files place ≡ Some w → Known s w ⊎ (w ≡ v))
       → (w : Version) → Exists after w → Known s w ⊎ (w ≡ v)
-  versions_by holds current w there = ⊎_elim (λ at. current at.0 w at.1)
+  versions_by holds current_versions w there = ⊎_elim (λ at. current_versions at.0 w at.1)
       (λ at. ⊎_elim
       (λ here. ⊎_elim (λ was. inl (known s w was)) (λ new. inr new) (holds at.1 w (ap (version_for at.1) (sym here.0)
       ∙ at.2)))
@@ -183,13 +183,13 @@ module _ (s : State) (v : Version) (n ch : ℕ) (files : Files Version) (job : J
       → ((place : Place) → IsSome (file_at s.files place) → IsSome (file_at files place))
       → ((ppn : ℕ) → IsSome (get s.files ppn) → IsSome (get files ppn))
       → Goes s after v n ch
-  goes_with good current stays keeps = record {
+  goes_with good current_versions stays keeps = record {
     writes = λ m k o h. ⊎_elim
         (λ here. subst (λ q. OldSide s q k o ⊎ NewSide s n ch q k o) (sym here.1)
         (good.writes k o (ap (output_for k) (sym here.0) ∙ h)))
         (λ other. inl (o, ap (output_for k) (sym other) ∙ h, refl, refl)) (slot-set_cases s.jobs n m (Some job));
     versions = versions_by good.versions (λ place w is. ⊎_elim (λ was. inl (known s w was)) (λ new. inr new)
-        (current place w is));
+        (current_versions place w is));
     stays = λ m k o h is. stays o.place is;
     keeps = λ m k o h is. keeps o.place.ppn is;
   }
@@ -203,9 +203,9 @@ module _ (s : State) (v : Version) (n ch : ℕ) (files : Files Version) (job : J
       → ((m k : ℕ) (o : Output) → writes_at s m k ≡ Some o → IsSome (get s.files o.place.ppn)
       → IsSome (get files o.place.ppn))
       → Goes s after v n ch
-  goes_kept sides holds current stays keeps = record {
+  goes_kept sides holds current_versions stays keeps = record {
     writes = λ m k o h. inl (old m k o h);
-    versions = versions_by (λ k w h. inl (holds k w h)) (λ place w is. inl (current place w is));
+    versions = versions_by (λ k w h. inl (holds k w h)) (λ place w is. inl (current_versions place w is));
     stays = λ m k o h is. let was = old m k o h in
         subst (λ q. IsSome (file_at files q)) (sym was.2)
         (stays m k was.0 was.1 (subst (λ q. IsSome (file_at s.files q)) was.2 is));

@@ -6,8 +6,8 @@ use Rattle.std.proofs.lemmas.Bool.{eq-eqb}
 use Rattle.meaning.specs.Files.{File, Files}
 use Rattle.meaning.specs.Published.{Version}
 use Rattle.meaning.specs.Jobs.{State, job_at, slot, no_jobs}
-use Rattle.meaning.specs.Room.{Pack, current, held, held_by}
-use Rattle.meaning.specs.Runs.{Serving, Broken, Answers, Run, AreDistinct, IsStart}
+use Rattle.meaning.specs.Room.{Pack, current_versions, held_versions, held_by}
+use Rattle.meaning.specs.Runs.{Serving, Broken, Answers, AnswersAll, HaveDistinctSerials, IsStart}
 use Rattle.meaning.specs.Sound.{output_for, IsSound}
 use Rattle.meaning.specs.declared.call.Event.{Event}
 use Rattle.meaning.specs.declared.call.Reply.{Reply}
@@ -39,7 +39,7 @@ differ v w e same = let wrong = sym e ∙ eq-eqb w.serial v.serial (sym same) in
 differ_back : (v w : Version) → (w.serial == v.serial) ≡ false → w.serial ≡ v.serial → w ≡ v
 differ_back v w e same = let wrong = sym e ∙ eq-eqb w.serial v.serial same in cc
 
-each_only : (vs : List Version) → AreDistinct vs → AllByRecursion (Only vs) vs
+each_only : (vs : List Version) → HaveDistinctSerials vs → AllByRecursion (Only vs) vs
 each_only [] d = tt
 each_only (v ∷ vs) d =
     let other = none_passes (λ w. w.serial == v.serial) vs d.0 in (
@@ -59,15 +59,17 @@ no_job s e n = ap (λ jobs. slot jobs n) e ∙ slot-empty 65 n
 
 pub start_sound : (found : Files File) (s : State) → IsStart found s → IsSound s
 start_sound found s start =
-    let all : current s ++ held s ≡ current s ++ [] = ap (λ jobs. current s ++ flat_map held_by jobs) start.jobs in
-    let distinct : AreDistinct (current s ++ held s) = subst AreDistinct
-    (sym (all ∙ append_none (current s))) start.serials in
+    let all : current_versions s ++ held_versions s ≡ current_versions s ++ []
+    = ap (λ jobs. current_versions s ++ flat_map held_by jobs) start.jobs in
+    let distinct : HaveDistinctSerials (current_versions s ++ held_versions s) = subst HaveDistinctSerials
+    (sym (all ∙ append_none (current_versions s))) start.serials in
     record {
       single = λ n m ch k o p h g e. let wrong = ap (output_for ch) (sym (no_job s start.jobs n)) ∙ h in cc;
       housed = λ n ch o h. let wrong = ap (output_for ch) (sym (no_job s start.jobs n)) ∙ h in cc;
       present = λ n ch o h e. let wrong = ap (output_for ch) (sym (no_job s start.jobs n)) ∙ h in cc;
       serials = λ v w a b e. alike_same (version_of_all s (λ w. v.serial ≡ w.serial
-          → v ≡ w) (version_of_all s (Only (current s ++ held s)) (each_only (current s ++ held s) distinct) v a)
+          → v ≡ w) (version_of_all s (Only (current_versions s ++ held_versions s))
+          (each_only (current_versions s ++ held_versions s) distinct) v a)
           w b e);
     }
   where
@@ -84,7 +86,7 @@ answers_sound pack s t event reply a sound = ⊎_elim
     (λ none. subst IsSound (sym none.1) sound) a
 
 pub run_sound : (pack : Pack) (s t : State) (events : List Event) (replies : List Reply)
-    → Run pack (Serving s) events replies (Serving t) → IsSound s → IsSound t
+    → AnswersAll pack (Serving s) events replies (Serving t) → IsSound s → IsSound t
 run_sound pack s t [] [] r sound = subst IsSound (sym (serving_same r)) sound
 run_sound pack s t [] (reply ∷ replies) r sound = absurd r
 run_sound pack s t (event ∷ events) [] r sound = absurd r
@@ -94,6 +96,6 @@ run_sound pack s t (event ∷ events) (reply ∷ replies) (Broken, a, r) sound =
     (not_broken (broken_stays pack events replies (Serving t) r))
 
 pub started_run_sound : (pack : Pack) (found : Files File) (s t : State) (events : List Event) (replies : List Reply)
-    → IsStart found s → Run pack (Serving s) events replies (Serving t) → IsSound t
+    → IsStart found s → AnswersAll pack (Serving s) events replies (Serving t) → IsSound t
 started_run_sound pack found s t events replies start run = run_sound pack s t events replies run
     (start_sound found s start)

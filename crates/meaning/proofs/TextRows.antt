@@ -11,11 +11,11 @@ use Rattle.meaning.specs.Room.{Pack, room}
 use Rattle.meaning.specs.Sessions.{list}
 use Rattle.meaning.specs.Step.{step}
 use Rattle.meaning.specs.Lines.{Bytes, TooLong, lines}
-use Rattle.meaning.specs.Texts.{Spoken, joined, silent, prints, day_text, entry_text, listing, row_text, table}
+use Rattle.meaning.specs.Texts.{Spoken, both_said, silent, prints, day_text, entry_text, listing, row_text, table}
 use Rattle.meaning.specs.Plans.{Plan, Ask, Show, Say, each, fetches, finds, lists, counts, copies_blocks, types_blocks}
 use Rattle.meaning.specs.Plans.{begins}
 use Rattle.meaning.specs.Transcripts.{login_said, core_words}
-use Rattle.meaning.specs.Scripts.{written}
+use Rattle.meaning.specs.Scripts.{words_given}
 use Rattle.meaning.specs.declared.entry.Entry.{Entry}
 use Rattle.meaning.specs.declared.command.Spec.{Spec}
 use Rattle.meaning.specs.declared.command.Command.{Command}
@@ -43,7 +43,7 @@ speak pack s command = conduct pack 1000 s (begins at_start ten_twenty command)
 abbrev talk : Pack → State → List Command → Spoken × State
 talk pack s [] = (silent, s)
 talk pack s (command ∷ commands) = let a = speak pack s command in let b = talk pack a.1 commands in
-    (joined a.0 b.0, b.1)
+    (both_said a.0 b.0, b.1)
 
 abbrev text_of : List (List ℕ) → List ℕ
 text_of [] = []
@@ -168,7 +168,7 @@ script =
     ∷ Examine 1 0o500 ∷ own (In 1 0o400)
     ∷ Deposit 1 0o1000 1 ∷ own (In 3 0o400) ∷ Calls 2 Reset at_start ∷ []
 
-scripted : map written (play small 1000 hello script).0
+scripted : map words_given (play small 1000 hello script).0
     ≡ codes "DONE" ∷ codes "DONE" ∷ codes "DONE" ∷ codes "DONE" ∷ codes "DONE" ∷ codes "DONE" ∷ codes "DONE"
     ∷ codes "VALUE 057000007777" ∷ codes "VALUE 777776000000" ∷ codes "DONE" ∷ codes "DONE"
     ∷ codes "VALUE 442131446236" ∷ codes "STOPPED 020017" ∷ codes "ADDRESS" ∷ codes "NOCHANNEL" ∷ codes "NOJOB" ∷ []

@@ -9,11 +9,11 @@ use Rattle.meaning.specs.Runs.{Serving, Steps}
 use Rattle.meaning.specs.Lines.{Line, Bytes, TooLong}
 use Rattle.meaning.specs.Commands.{Says, Means}
 use Rattle.meaning.specs.Scripts.{SaysEvent, MeansEvent}
-use Rattle.meaning.specs.Texts.{Spoken, joined}
+use Rattle.meaning.specs.Texts.{Spoken, both_said}
 use Rattle.meaning.specs.declared.entry.Entry.{Entry}
 use Rattle.meaning.specs.Plans.{Plan, Ask, Show, Say, Act, Asks, Looks, Leads, begins}
 use Rattle.meaning.specs.Transcripts.{login_said, login_who, LogsIn, Acts, Speaks, IsTranscript, Orders, Scripts}
-use Rattle.meaning.specs.Transcripts.{reports, core_words, Served, Went}
+use Rattle.meaning.specs.Transcripts.{reports_reply, core_words, Served, Went}
 use Rattle.meaning.specs.declared.command.Command.{Command}
 use Rattle.meaning.specs.declared.command.Command.TheVariants.{Login as LoginLine, Directory as DirectoryLine}
 use Rattle.meaning.specs.declared.command.Command.TheVariants.{Copy as CopyLine, Rename as RenameLine}
@@ -196,7 +196,7 @@ module _ (pack : Pack) (moment : Moment) where
       (subst (λ z. Speaks moment who z first' here' mid') (sym e) b) p'.1 q'.1 in
       let k = same_transcript lines mid p'.0 q'.0 u w more more' there there' x y h.2 rest
       (subst (λ z. IsTranscript moment z lines more' there' y) (sym h.1) rest') p'.2 q'.2 in
-      (text ∙ (λ i. joined (h.0 i) (k.0 i)) ∙ sym text', k.1, k.2)
+      (text ∙ (λ i. both_said (h.0 i) (k.0 i)) ∙ sym text', k.1, k.2)
 
   -- Lines of a call script.
 
@@ -212,7 +212,7 @@ module _ (pack : Pack) (moment : Moment) where
       let p' = subst (λ z. Served pack s z u) a.1 p in
       let q' = subst (λ z. Served pack t z w) b.1 q in
       let h = related_step pack s t p'.0 q'.0 event a.0 b.0 r p'.1 q'.1 in
-      (a.2 ∙ ap reports h.0 ∙ sym b.2, subst (λ z. Related z w) (sym p'.2) (subst (Related p'.0) (sym q'.2) h.1))
+      (a.2 ∙ ap reports_reply h.0 ∙ sym b.2, subst (λ z. Related z w) (sym p'.2) (subst (Related p'.0) (sym q'.2) h.1))
 
   same_script : (lines : List Line) (s t u w : State) (acts bcts : List Act) (one other : Spoken) → Related s t
       → Scripts moment lines acts one → Scripts moment lines bcts other
@@ -230,7 +230,7 @@ module _ (pack : Pack) (moment : Moment) where
       let h = same_order meant s t p'.0 q'.0 first first' here here' r a
       (subst (λ z. Orders z first' here') (sym e) b) p'.1 q'.1 in
       let k = same_script lines p'.0 q'.0 u w more more' there there' h.1 rest rest' p'.2 q'.2 in
-      (text ∙ (λ i. joined (h.0 i) (k.0 i)) ∙ sym text', k.1)
+      (text ∙ (λ i. both_said (h.0 i) (k.0 i)) ∙ sym text', k.1)
 
 -- From one state.
 

@@ -15,7 +15,7 @@ use Rattle.meaning.specs.Blocks.{head_or_zero}
 use Rattle.meaning.specs.Directories.{Node, numbers, first_of, items, IsSpelled, IsFilled, IsDirectory}
 use Rattle.meaning.specs.Retrieval.{Run, Extension, extension_numbers, first_extension, all_runs, extension_block}
 use Rattle.meaning.specs.Retrieval.{AreExtensions, IsRun, pointer, extension_half}
-use Rattle.meaning.specs.Walks.{Leads, LeadsOn}
+use Rattle.meaning.specs.Walks.{LeadsAlong, LeadsOn}
 use Rattle.meaning.specs.Faults.{walked}
 use Rattle.meaning.proofs.MapLaws.{some_same, some_none}
 use Rattle.meaning.proofs.MapSums.{times-append}
@@ -83,7 +83,7 @@ undamaged_at contents (k ∷ ns) (w ∷ each) n a h none =
 pub walk_of_chain : {E : Type 0} (words : E → List ℕ) → TellsApart words
     → (contents : Contents) (first : ℕ) (nodes chain : List (Node E)) (last : ℕ) → IsSpelled words contents chain
     → first_of chain ≡ first
-    → times 0 (numbers chain) ≡ 0 → Leads words contents first nodes last → (rest : List (Node E))
+    → times 0 (numbers chain) ≡ 0 → LeadsAlong words contents first nodes last → (rest : List (Node E))
     × (chain ≡ nodes ++ rest) × (first_of rest ≡ last)
 walk_of_chain words a contents first [] chain last s f z l = (chain, refl, f ∙ l)
 walk_of_chain words a contents first (node ∷ nodes) [] last s f z l = absurd (let h = l.1 in omega arith)
@@ -115,13 +115,13 @@ module _ {K V : Type 0} {R : K → K → Ordering} (words : K × V → List ℕ)
 
   -- a walk through a directory that stands
   pub walk_of_directory : (first last : ℕ) (nodes : List (Node (K × V))) → first ≡ head_or_zero blocks
-      → Leads words contents first nodes last
+      → LeadsAlong words contents first nodes last
       → (rest : List (Node (K × V))) × (d.nodes ≡ nodes ++ rest) × (first_of rest ≡ last)
   walk_of_directory first last nodes e l = walk_of_chain words apart contents first nodes d.nodes last d.spelled
       (first_is ∙ sym e) (ap (times 0) d.blocks_are ∙ nonzero) l
 
   pub walk_le : (first last : ℕ) (nodes : List (Node (K × V))) → first ≡ head_or_zero blocks
-      → Leads words contents first nodes last → (n : ℕ) → times n (walked nodes last) ≤ times n blocks
+      → LeadsAlong words contents first nodes last → (n : ℕ) → times n (walked nodes last) ≤ times n blocks
   walk_le first zero nodes e l n =
       let w = walk_of_directory first 0 nodes e l in
       let f = ap (times n) (sym d.blocks_are) ∙ ap (λ c. times n (numbers c)) w.1
@@ -142,7 +142,7 @@ module _ {K V : Type 0} {R : K → K → Ordering} (words : K × V → List ℕ)
 
   -- what the walked part has at a key, the directory has
   pub entry_there : IsTotalOrder R → (first last : ℕ) (nodes : List (Node (K × V))) → first ≡ head_or_zero blocks
-      → Leads words contents first nodes last → (k : K) (v : V)
+      → LeadsAlong words contents first nodes last → (k : K) (v : V)
       → find R k (items nodes) ≡ Some v → get m k ≡ Some v
   entry_there o first last nodes e l k v h =
       let w = walk_of_directory first last nodes e l in

@@ -10,7 +10,7 @@ use Rattle.meaning.specs.Regions.{table_blocks, table_start, space_start}
 use Rattle.meaning.specs.Table.{table_bit}
 use Rattle.meaning.specs.Directories.{IsDirectory, master_words, IsMasterEntry, file_words, IsFileEntry}
 use Rattle.meaning.specs.Stands.{StoredFile, StoredDirectory, DiskMap, reaches_in_file, reaches, entry_of}
-use Rattle.meaning.specs.Quiet.{IsFree}
+use Rattle.meaning.specs.Quiet.{IsFreeBlock}
 
 -- What is said of the new contents. Which blocks are meant, a number for each block says: 0 if it is not one of them.
 
@@ -96,7 +96,7 @@ file_removed d name = record { protection = d.protection; quota = d.quota; files
 
 -- These blocks, each of which is free, are written, and no other block changes.
 pub record WritesFree (size : ℕ) (old new : Contents) (blocks : List ℕ) : Type 0 where
-  pub free : (n : ℕ) → 0 < times n blocks → IsFree size old n
+  pub free : (n : ℕ) → 0 < times n blocks → IsFreeBlock size old n
   pub inside : (n : ℕ) → size ≤ n → times n blocks ≡ 0
   pub others : (n : ℕ) → times n blocks ≡ 0 → new n ≡ old n
 

@@ -8,8 +8,8 @@ use Rattle.meaning.specs.declared.command.Command.TheVariants.{Login, Directory,
 use Rattle.meaning.specs.declared.command.Command.TheVariants.{MakeDir}
 
 -- a word and what follows it
-abbrev pub Follows : List ℕ → List ℕ → List ℕ → Type 0
-Follows word argument text = AreFields (word ∷ argument ∷ []) text
+abbrev pub HasArgument : List ℕ → List ℕ → List ℕ → Type 0
+HasArgument word argument text = AreFields (word ∷ argument ∷ []) text
 
 -- PROT between angle brackets: one to three digits
 pub record IsAngled (text : List ℕ) (protection : ℕ) : Type 0 where
@@ -39,7 +39,7 @@ pub record IsProtected (text : List ℕ) (spec : Spec) (protection : ℕ) : Type
   pub spelled : text ≡ before ++ behind
 
 -- [p,n] or [p,n]<PROT>
-pub record IsMade (text : List ℕ) (owner protection : ℕ) : Type 0 where
+pub record IsNewDirectory (text : List ℕ) (owner protection : ℕ) : Type 0 where
   pub before : List ℕ
   pub behind : List ℕ
   pub left : IsBracketed before owner
@@ -47,19 +47,21 @@ pub record IsMade (text : List ℕ) (owner protection : ℕ) : Type 0 where
   pub spelled : text ≡ before ++ behind
 
 abbrev pub IsCommand : List ℕ → Command → Type 0
-IsCommand text (Login owner) = (argument : List ℕ) × Follows (codes "LOGIN") argument text × IsBracketed argument owner
-IsCommand text (Directory None) = AreFields (codes "DIRECTORY" ∷ []) text
-IsCommand text (Directory (Some owner)) = (argument : List ℕ) × Follows (codes "DIRECTORY") argument text
+IsCommand text (Login owner) = (argument : List ℕ) × HasArgument (codes "LOGIN") argument text
     × IsBracketed argument owner
-IsCommand text (Copy to from) = (argument : List ℕ) × Follows (codes "COPY") argument text × AreSpecs argument to from
-IsCommand text (Rename to from) = (argument : List ℕ) × Follows (codes "RENAME") argument text
+IsCommand text (Directory None) = AreFields (codes "DIRECTORY" ∷ []) text
+IsCommand text (Directory (Some owner)) = (argument : List ℕ) × HasArgument (codes "DIRECTORY") argument text
+    × IsBracketed argument owner
+IsCommand text (Copy to from) = (argument : List ℕ) × HasArgument (codes "COPY") argument text
     × AreSpecs argument to from
-IsCommand text (Delete spec) = (argument : List ℕ) × Follows (codes "DELETE") argument text × IsSpec argument spec
-IsCommand text (TypeOut spec) = (argument : List ℕ) × Follows (codes "TYPE") argument text × IsSpec argument spec
-IsCommand text (Protect spec protection) = (argument : List ℕ) × Follows (codes "PROTECT") argument text
+IsCommand text (Rename to from) = (argument : List ℕ) × HasArgument (codes "RENAME") argument text
+    × AreSpecs argument to from
+IsCommand text (Delete spec) = (argument : List ℕ) × HasArgument (codes "DELETE") argument text × IsSpec argument spec
+IsCommand text (TypeOut spec) = (argument : List ℕ) × HasArgument (codes "TYPE") argument text × IsSpec argument spec
+IsCommand text (Protect spec protection) = (argument : List ℕ) × HasArgument (codes "PROTECT") argument text
     × IsProtected argument spec protection
-IsCommand text (MakeDir owner protection) = (argument : List ℕ) × Follows (codes "MAKDIR") argument text
-    × IsMade argument owner protection
+IsCommand text (MakeDir owner protection) = (argument : List ℕ) × HasArgument (codes "MAKDIR") argument text
+    × IsNewDirectory argument owner protection
 
 -- what a text says, where it says anything
 abbrev pub Says : List ℕ → Option Command → Type 0

@@ -10,11 +10,11 @@ use Rattle.meaning.specs.Jobs.{Output, Job, State, job_at}
 use Rattle.meaning.specs.Looking.{own_if_zero}
 use Rattle.meaning.specs.Outputs.{longest}
 use Rattle.meaning.specs.Room.{Pack}
-use Rattle.meaning.specs.Runs.{Service, Serving, Broken, Steps, Answers, Run, IsStart}
+use Rattle.meaning.specs.Runs.{Service, Serving, Broken, Steps, Answers, AnswersAll, IsStart}
 use Rattle.meaning.specs.Sound.{writes_at}
 use Rattle.meaning.specs.Stands.{Stands}
 use Rattle.meaning.specs.Texts.{Spoken, prints, printed}
-use Rattle.meaning.specs.Plans.{Plan, Act, Conducts, ok, copies, reads}
+use Rattle.meaning.specs.Plans.{Plan, Act, Conducts, ok, copies, reads_file}
 use Rattle.meaning.specs.Opening.{dump_mode}
 use Rattle.meaning.specs.Transcripts.{Went, core_words}
 use Rattle.meaning.specs.declared.call.Event.{Event}
@@ -31,7 +31,7 @@ abbrev pub Comes : Pack → Service → Plan → Spoken → Service → Type 0
 Comes pack old plan said new = (acts : List Act) × Conducts plan acts said × Went pack old acts new
 
 -- Job 1 is logged in, with the core that a session gives it.
-pub record IsReady (s : State) (me : ℕ) : Type 0 where
+pub record IsJobReady (s : State) (me : ℕ) : Type 0 where
   pub job : Job
   pub logged_in : job_at s 1 ≡ Some job
   pub owner : job.ppn ≡ me
@@ -43,8 +43,8 @@ abbrev pub place_of : ℕ → Spec → Place
 place_of me spec = record { ppn = own_if_zero (unwrap_or spec.owner 0) me; name = spec.name }
 
 -- an extension is half a word
-abbrev pub IsSpec : Spec → Type 0
-IsSpec spec = spec.name.ext < 2 ^ 18
+abbrev pub HasHalfwordExtension : Spec → Type 0
+HasHalfwordExtension spec = spec.name.ext < 2 ^ 18
 
 -- no body is longer than a file may be
 abbrev pub AreShort : Files Version → Type 0
@@ -61,8 +61,8 @@ HasFiles files Broken = Unit {0}
 HasFiles files (Serving after) = after.files ≡ files
 
 -- the line is refused, and the files are those from before
-abbrev pub IsRefused : Files Version → Spoken → Service → Type 0
-IsRefused files said new = IsTrue said.refused × HasFiles files new
+abbrev pub IsLineRefused : Files Version → Spoken → Service → Type 0
+IsLineRefused files said new = IsTrue said.refused × HasFiles files new
 
 -- a superseding file keeps the protection of the one that was there
 abbrev pub kept_protection : Option Version → ℕ
@@ -80,7 +80,7 @@ made files place mode moment body = record {
 }
 
 -- It is the one change of the files.
-pub record IsMade (files : Files Version) (place : Place) (file : File) (new : Service) : Type 0 where
+pub record IsOneChange (files : Files Version) (place : Place) (file : File) (new : Service) : Type 0 where
   pub serial : ℕ
   pub after : State
   pub serves : new ≡ Serving after
@@ -92,27 +92,27 @@ abbrev pub IsCopied : Moment → ℕ → State → Spec → Spec → Spoken → 
 IsCopied moment me s to from said new =
     (said ≡ ok)
     × ((v : Version) × (file_at s.files (place_of me from) ≡ Some v)
-    × IsMade s.files (place_of me to) (made s.files (place_of me to) dump_mode moment v.file.body) new)
+    × IsOneChange s.files (place_of me to) (made s.files (place_of me to) dump_mode moment v.file.body) new)
 
 abbrev pub CopiesAreExact : Type 0
 CopiesAreExact =
     (pack : Pack) (moment : Moment) (me : ℕ) (s : State) (to from : Spec) (said : Spoken) (new : Service)
-    → IsReady s me → IsSpec to → IsSpec from → AreShort s.files
+    → IsJobReady s me → HasHalfwordExtension to → HasHalfwordExtension from → AreShort s.files
     → Comes pack (Serving s) (copies moment to from) said new
-    → IsCopied moment me s to from said new ⊎ IsRefused s.files said new
+    → IsCopied moment me s to from said new ⊎ IsLineRefused s.files said new
 
 -- A file that is read is printed, or the line is refused; the files stay.
-abbrev pub IsShown : ℕ → State → Encoding → Spec → Spoken → Service → Type 0
-IsShown me s encoding spec said new =
+abbrev pub IsPrinted : ℕ → State → Encoding → Spec → Spoken → Service → Type 0
+IsPrinted me s encoding spec said new =
     ((v : Version) × (file_at s.files (place_of me spec) ≡ Some v) × (said ≡ prints (printed encoding v.file.body)))
     × HasFiles s.files new
 
 abbrev pub ReadsAreExact : Type 0
 ReadsAreExact =
     (pack : Pack) (moment : Moment) (me : ℕ) (s : State) (encoding : Encoding) (spec : Spec) (said : Spoken)
-    (new : Service) → IsReady s me → IsSpec spec → AreShort s.files
-    → Comes pack (Serving s) (reads moment encoding spec) said new
-    → IsShown me s encoding spec said new ⊎ IsRefused s.files said new
+    (new : Service) → IsJobReady s me → HasHalfwordExtension spec → AreShort s.files
+    → Comes pack (Serving s) (reads_file moment encoding spec) said new
+    → IsPrinted me s encoding spec said new ⊎ IsLineRefused s.files said new
 
 -- Errands, for which job 1 logs in.
 
@@ -125,28 +125,28 @@ put_mode Words = dump_mode
 abbrev pub IsPut : Moment → ℕ → State → Encoding → Spec → List ℕ → Spoken → Service → Type 0
 IsPut moment me s encoding spec words said new =
     (said ≡ ok)
-    × IsMade s.files (place_of me spec) (made s.files (place_of me spec) (put_mode encoding) moment words) new
+    × IsOneChange s.files (place_of me spec) (made s.files (place_of me spec) (put_mode encoding) moment words) new
 
 abbrev pub PutsAreExact : Type 0
 PutsAreExact =
     (pack : Pack) (moment : Moment) (me : ℕ) (s : State) (encoding : Encoding) (spec : Spec) (words : List ℕ)
-    (said : Spoken) (new : Service) → 1 < length s.jobs → IsSpec spec
+    (said : Spoken) (new : Service) → 1 < length s.jobs → HasHalfwordExtension spec
     → Comes pack (Serving s) (keeps moment me encoding spec (Some words)) said new
-    → IsPut moment me s encoding spec words said new ⊎ IsRefused s.files said new
+    → IsPut moment me s encoding spec words said new ⊎ IsLineRefused s.files said new
 
 abbrev pub GetsAreExact : Type 0
 GetsAreExact =
     (pack : Pack) (moment : Moment) (me : ℕ) (s : State) (encoding : Encoding) (spec : Spec) (said : Spoken)
-    (new : Service) → 1 < length s.jobs → IsSpec spec → AreShort s.files
+    (new : Service) → 1 < length s.jobs → HasHalfwordExtension spec → AreShort s.files
     → Comes pack (Serving s) (gets moment me encoding spec) said new
-    → IsShown me s encoding spec said new ⊎ IsRefused s.files said new
+    → IsPrinted me s encoding spec said new ⊎ IsLineRefused s.files said new
 
 -- What these laws ask of a state is so of each that a run comes to which began with the files of a disk.
 abbrev pub BodiesStayShort : Type 0
 BodiesStayShort =
     (pack : Pack) (size : ℕ) (contents : Contents) (found : Files File) (s t : State) (events : List Event)
     (replies : List Reply) → Stands size contents found → IsStart found s
-    → Run pack (Serving s) events replies (Serving t) → IsShort t
+    → AnswersAll pack (Serving s) events replies (Serving t) → IsShort t
 
 -- Job 1 is ready once its LOGIN is done, and stays so through whatever else is asked.
 
@@ -159,9 +159,10 @@ asks_for_login (Calls n call moment) = false
 abbrev pub LoginsMakeReady : Type 0
 LoginsMakeReady =
     (pack : Pack) (s t : State) (me : ℕ) → 1 < length s.jobs → Steps pack s (Login 1 me core_words) Done t
-    → IsReady t me
+    → IsJobReady t me
 
 abbrev pub ReadyStays : Type 0
 ReadyStays =
-    (pack : Pack) (s t : State) (event : Event) (reply : Reply) (me : ℕ) → asks_for_login event ≡ false → IsReady s me
-    → Answers pack (Serving s) event reply (Serving t) → IsReady t me
+    (pack : Pack) (s t : State) (event : Event) (reply : Reply) (me : ℕ) → asks_for_login event ≡ false
+    → IsJobReady s me
+    → Answers pack (Serving s) event reply (Serving t) → IsJobReady t me

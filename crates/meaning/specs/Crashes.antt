@@ -8,7 +8,7 @@ use Rattle.meaning.specs.Published.{without_serials}
 use Rattle.meaning.specs.Jobs.{State}
 use Rattle.meaning.specs.Room.{Pack}
 use Rattle.meaning.specs.Step.{step}
-use Rattle.meaning.specs.Runs.{Service, Serving, Broken, Answers, Run}
+use Rattle.meaning.specs.Runs.{Service, Serving, Broken, Answers, AnswersAll}
 use Rattle.meaning.specs.declared.call.Event.{Event}
 use Rattle.meaning.specs.declared.call.Reply.{Reply}
 use Rattle.meaning.specs.declared.call.Reply.TheVariants.{Done, Value, Refused, Stopped, NoChannel, AddressCheck, NoJob}
@@ -49,7 +49,7 @@ GoesOn pack d t s event reply (Serving after) rest = (u : ℕ) × (t ≤ u)
 -- The service gives these replies, and d is the disk after them: from moment t on there was a moment after
 -- each event. Where an event met a fault of the disk both stay possible from then on, and no event makes a third.
 abbrev pub RunsOn : Pack → DiskState → ℕ → Service → List Event → List Reply → Service → Type 0
-RunsOn pack d t Broken events replies new = Run pack Broken events replies new
+RunsOn pack d t Broken events replies new = AnswersAll pack Broken events replies new
 RunsOn pack d t (Serving s) [] [] new = (new ≡ Serving s) × (t ≡ d.clock)
     × ((c : Contents) → MayLeave d c → StandsForState pack s c)
 RunsOn pack d t (Serving s) (event ∷ events) (reply ∷ replies) new =

@@ -12,8 +12,9 @@ use Rattle.words36.specs.declared.names.FileName.{FileName}
 use Rattle.meaning.specs.Costs.{blocks_of}
 use Rattle.meaning.specs.Opening.{disk}
 use Rattle.meaning.specs.Spellings.{Are}
-use Rattle.meaning.specs.Texts.{Spoken, line, silent, joined, complains, refuses, list_said}
-use Rattle.meaning.specs.Plans.{Plan, Show, Say, each, calls, deposits, names, writes, lists, puts, reads, ends, ok}
+use Rattle.meaning.specs.Texts.{Spoken, line, silent, both_said, complains, refuses, list_said}
+use Rattle.meaning.specs.Plans.{Plan, Show, Say, each, calls, deposits}
+use Rattle.meaning.specs.Plans.{names, writes, lists, asks_out, reads_file, ends, ok}
 use Rattle.meaning.specs.Plans.{open_words, new_words, block_address}
 use Rattle.meaning.specs.Transcripts.{core_words}
 use Rattle.meaning.specs.declared.call.Call.TheVariants.{Open, Enter, Outbuf, Close}
@@ -35,7 +36,7 @@ enters owner = Login 1 owner core_words ∷ []
 
 -- A file is got: it is read whole, and then printed.
 abbrev pub gets : Moment → ℕ → Encoding → Spec → Plan
-gets moment owner encoding spec = each moment (enters owner) (reads moment encoding spec)
+gets moment owner encoding spec = each moment (enters owner) (reads_file moment encoding spec)
 
 -- Directories are listed, one after the other, by who may look into all of them.
 
@@ -45,7 +46,7 @@ operator = join 1 2
 unfoldable pub shows_all : Style → List ℕ → Spoken → Plan
 shows_all style [] said = Say said
 shows_all style (owner ∷ owners) said =
-    Show owner (λ answer. shows_all style owners (joined said (list_said style owner answer)))
+    Show owner (λ answer. shows_all style owners (both_said said (list_said style owner answer)))
 
 abbrev pub surveys : Moment → Style → List ℕ → Plan
 surveys moment style owners = each moment (enters operator) (shows_all style owners silent)
@@ -74,30 +75,30 @@ unfit Words = codes "?Bad words"
 -- Addresses in job 1's core: the header of a ring, and the data of its one buffer, which lies where the rings of a job
 -- begin that has logged in.
 
-abbrev pub header_words : ℕ
-header_words = 0o60
+abbrev pub header_address : ℕ
+header_address = 0o60
 
-abbrev pub buffer_data : ℕ
-buffer_data = 0o143
+abbrev pub data_address : ℕ
+data_address = 0o143
 
 -- The new file is entered on channel 2: for characters in mode 0, with a ring of one buffer that an OUT brings into
 -- use, else in dump mode.
 abbrev pub creates : Moment → Encoding → Spec → List Event
 creates moment Characters spec =
-    deposits open_words (0 ∷ disk ∷ join header_words 0 ∷ []) ++ calls moment (Open 2 open_words)
-    ∷ (names new_words spec 0 ++ calls moment (Enter 2 new_words) ∷ calls moment (Outbuf 2 1) ∷ puts moment ∷ [])
+    deposits open_words (0 ∷ disk ∷ join header_address 0 ∷ []) ++ calls moment (Open 2 open_words)
+    ∷ (names new_words spec 0 ++ calls moment (Enter 2 new_words) ∷ calls moment (Outbuf 2 1) ∷ asks_out moment ∷ [])
 creates moment Words spec = writes moment spec
 
 -- So many words are the next that are put: the header's byte pointer is at the last character of the last of them, or
 -- the command list names them.
 abbrev pub announces : Moment → Encoding → ℕ → List Event
 announces moment Characters count =
-    Deposit 1 (header_words + 1) (join 0o010700 (buffer_data - 1 + count)) ∷ puts moment ∷ []
-announces moment Words count = lists count ++ puts moment ∷ []
+    Deposit 1 (header_address + 1) (join 0o010700 (data_address - 1 + count)) ∷ asks_out moment ∷ []
+announces moment Words count = lists count ++ asks_out moment ∷ []
 
 -- where they stand in core
 abbrev pub part_address : Encoding → ℕ
-part_address Characters = buffer_data
+part_address Characters = data_address
 part_address Words = block_address
 
 abbrev pub fills : Moment → Encoding → List ℕ → List Event

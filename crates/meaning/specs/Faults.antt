@@ -22,7 +22,7 @@ use Rattle.meaning.specs.Directories.{FileEntry, file_words, IsFileEntry}
 use Rattle.meaning.specs.Retrieval.{Prime, Run, run_blocks, IsRun, Extension, all_runs, extension_block, prime_block}
 use Rattle.meaning.specs.Retrieval.{IsPrime, IsRetrieved}
 use Rattle.meaning.specs.Stands.{DiskMap, reaches, place_of, quota_limit, IsMapped}
-use Rattle.meaning.specs.Walks.{Leads, LeadsOn, IsMasterWalk, IsDirectoryWalk, IsFileNamed, IsPrimeRead}
+use Rattle.meaning.specs.Walks.{LeadsAlong, LeadsOn, IsMasterWalk, IsDirectoryWalk, IsFileNamed, IsPrimeRead}
 
 -- the free space, in which all but the fixed regions lies
 pub record InSpace (size n : ℕ) : Type 0 where
@@ -240,7 +240,7 @@ pub record IsDirectoryRead (layout : ℕ) (contents : Contents) (entries : List 
   pub word : ℕ
   pub first : ℕ
   pub entry : find nat_cmp e.0 entries ≡ Some (word, first)
-  pub walk : Leads file_words contents first e.1.nodes e.1.last
+  pub walk : LeadsAlong file_words contents first e.1.nodes e.1.last
   pub once : EachOnce name_cmp e.1.files
   pub files : AllByRecursion (IsFileRead layout contents e.0 (items e.1.nodes)) e.1.files
 

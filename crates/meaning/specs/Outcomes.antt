@@ -29,7 +29,7 @@ refused_at job e (Refused code) = record job { core = with_right job.core (e + 1
 refused_at job e reply = job
 
 -- what an answer leaves of the channel itself, where its row says what it is once the call is done
-abbrev pub left_in : Channel → Reply → Channel → Channel
-left_in c Done done = done
-left_in c (Stopped status) done = record c { status = status }
-left_in c reply done = c
+abbrev pub channel_left_by : Channel → Reply → Channel → Channel
+channel_left_by c Done done = done
+channel_left_by c (Stopped status) done = record c { status = status }
+channel_left_by c reply done = c

@@ -61,16 +61,17 @@ names address spec protection = deposits address (spec.name.name ∷ join spec.n
     ∷ unwrap_or spec.owner 0 ∷ [])
 
 -- a channel is opened in dump mode
-abbrev pub opens : Moment → ℕ → List Event
-opens moment channel = deposits open_words (dump_mode ∷ disk ∷ 0 ∷ []) ++ calls moment (Open channel open_words) ∷ []
+abbrev pub asks_open : Moment → ℕ → List Event
+asks_open moment channel = deposits open_words (dump_mode ∷ disk ∷ 0 ∷ []) ++ calls moment (Open channel open_words)
+    ∷ []
 
 -- the file is looked up on channel 1
 abbrev pub finds : Moment → Spec → List Event
-finds moment spec = opens moment 1 ++ names file_words spec 0 ++ calls moment (Lookup 1 file_words) ∷ []
+finds moment spec = asks_open moment 1 ++ names file_words spec 0 ++ calls moment (Lookup 1 file_words) ∷ []
 
 -- the new file is entered on channel 2
 abbrev pub writes : Moment → Spec → List Event
-writes moment spec = opens moment 2 ++ names new_words spec 0 ++ calls moment (Enter 2 new_words) ∷ []
+writes moment spec = asks_open moment 2 ++ names new_words spec 0 ++ calls moment (Enter 2 new_words) ∷ []
 
 -- the command list names so many words of the block
 abbrev pub lists : ℕ → List Event
@@ -79,16 +80,16 @@ lists count = deposits list_words (join ((2 ^ 18 - count) % 2 ^ 18) (block_addre
 abbrev pub takes : Moment → Event
 takes moment = calls moment (In 1 list_words)
 
-abbrev pub puts : Moment → Event
-puts moment = calls moment (Out 2 list_words)
+abbrev pub asks_out : Moment → Event
+asks_out moment = calls moment (Out 2 list_words)
 
 -- block n is the next that is taken
 abbrev pub goes_to : Moment → ℕ → Event
 goes_to moment n = calls moment (Useti 1 n)
 
 -- The new name and place, with the protection that LOOKUP has put into the third word.
-abbrev pub renames : Moment → Spec → Spec → List Event
-renames moment to from =
+abbrev pub asks_rename : Moment → Spec → Spec → List Event
+asks_rename moment to from =
     finds moment from ++ Deposit 1 file_words to.name.name ∷ Deposit 1 (file_words + 1) (join to.name.ext 0)
     ∷ Deposit 1 (file_words + 3) (unwrap_or to.owner 0)
     ∷ calls moment (Rename 1 file_words) ∷ []
@@ -100,8 +101,8 @@ abbrev pub protects : Moment → Spec → ℕ → List Event
 protects moment spec protection = finds moment spec ++ names file_words spec protection
     ++ calls moment (Rename 1 file_words) ∷ []
 
-abbrev pub makes : Moment → ℕ → ℕ → List Event
-makes moment owner protection = deposits file_words (owner ∷ protection * 2 ^ 27 ∷ [])
+abbrev pub asks_make_dir : Moment → ℕ → ℕ → List Event
+asks_make_dir moment owner protection = deposits file_words (owner ∷ protection * 2 ^ 27 ∷ [])
     ++ calls moment (MakeDir file_words) ∷ []
 
 -- Plans.
@@ -195,11 +196,12 @@ ok = prints (line (codes "OK"))
 
 unfoldable pub copies_blocks : Moment → ℕ → Plan → Plan
 copies_blocks moment zero next = next
-copies_blocks moment (suc more) next = each moment (takes moment ∷ puts moment ∷ []) (copies_blocks moment more next)
+copies_blocks moment (suc more) next = each moment (takes moment ∷ asks_out moment ∷ [])
+    (copies_blocks moment more next)
 
 abbrev pub copies_last : Moment → ℕ → ℕ → Plan → Plan
 copies_last moment n size next = sizes moment n size
-    (λ count. each moment (lists count ++ goes_to moment n ∷ takes moment ∷ puts moment ∷ []) next)
+    (λ count. each moment (lists count ++ goes_to moment n ∷ takes moment ∷ asks_out moment ∷ []) next)
 
 abbrev pub copies_body : Moment → ℕ → ℕ → Plan → Plan
 copies_body moment zero size next = next
@@ -233,25 +235,25 @@ types_body moment (suc more) size next = types_blocks moment more
     (λ words. types_last moment (suc more) size (λ others. next (words ++ others)))
 
 -- a file is read whole, and then printed
-abbrev pub reads : Moment → Encoding → Spec → Plan
-reads moment encoding spec =
+abbrev pub reads_file : Moment → Encoding → Spec → Plan
+reads_file moment encoding spec =
     each moment (finds moment spec ++ lists 128)
     (examines moment (file_words + 3) (λ size. types_body moment (blocks_said size) size
     (λ words. until_end moment (ends moment (prints (printed encoding words))))))
 
 abbrev pub types : Moment → Spec → Plan
-types moment spec = reads moment Characters spec
+types moment spec = reads_file moment Characters spec
 
 -- what a line plans, of a session that is logged in as `me`
 abbrev pub begins : Moment → ℕ → Command → Plan
 begins moment me (LoginLine owner) = Say (prints [])
 begins moment me (DirectoryLine owner) = shows (unwrap_or owner me)
 begins moment me (CopyLine to from) = copies moment to from
-begins moment me (RenameLine to from) = each moment (renames moment to from) (ends moment ok)
+begins moment me (RenameLine to from) = each moment (asks_rename moment to from) (ends moment ok)
 begins moment me (DeleteLine spec) = each moment (deletes moment spec) (ends moment ok)
 begins moment me (TypeLine spec) = types moment spec
 begins moment me (ProtectLine spec protection) = each moment (protects moment spec protection) (ends moment ok)
-begins moment me (MakeLine owner protection) = each moment (makes moment owner protection) (ends moment ok)
+begins moment me (MakeLine owner protection) = each moment (asks_make_dir moment owner protection) (ends moment ok)
 
 -- What is asked of the service, with the answer.
 pub data Act : Type 0 where

@@ -7,13 +7,13 @@ use Rattle.meaning.specs.Log.{IsSettled}
 use Rattle.meaning.specs.Table.{table_bit}
 
 -- the block is free in these settled contents
-pub record IsFree (size : ℕ) (settled : Contents) (n : ℕ) : Type 0 where
+pub record IsFreeBlock (size : ℕ) (settled : Contents) (n : ℕ) : Type 0 where
   pub in_space : space_start size ≤ n
   pub clear : table_bit size settled n ≡ 0
 
 -- two contents differ in free blocks alone
 abbrev pub DifferInFree : ℕ → Contents → Contents → Contents → Type 0
-DifferInFree size settled old new = (n : ℕ) → (new n ≡ old n) ⊎ IsFree size settled n
+DifferInFree size settled old new = (n : ℕ) → (new n ≡ old n) ⊎ IsFreeBlock size settled n
 
 -- two contents agree but for gate and log
 abbrev pub SameOutsideLog : ℕ → Contents → Contents → Type 0
@@ -21,4 +21,4 @@ SameOutsideLog size old new = (n : ℕ) → (n ≡ 1) ⊎ (n ≡ 2) ⊎ (table_s
 
 -- A write to this block is quiet: it is free in whatever a crash may leave, settled.
 abbrev pub IsQuiet : DiskState → ℕ → Type 0
-IsQuiet s n = (c settled : Contents) → MayLeave s c → IsSettled s.size c settled → IsFree s.size settled n
+IsQuiet s n = (c settled : Contents) → MayLeave s c → IsSettled s.size c settled → IsFreeBlock s.size settled n

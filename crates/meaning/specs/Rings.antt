@@ -131,8 +131,8 @@ unfoldable pub in_ready : List ℕ → ℕ → ℕ → Option (List ℕ)
 in_ready core header size = kept_if (in_is_good header) (with_ring core header size)
 
 -- the buffer that was the current one is no longer in use
-abbrev pub left_behind : List ℕ → ℕ → List (ℕ × ℕ)
-left_behind core header =
+abbrev pub buffer_left : List ℕ → ℕ → List (ℕ × ℕ)
+buffer_left core header =
     if is_unused core header then []
     else (current core header, unmarked (slice_index core (current core header))) ∷ []
 
@@ -143,7 +143,7 @@ filled core header size status a words =
     ∷ placed header (a ∷ pointer size (a + 1) ∷ length words * bytes_in_word size ∷ [])
 
 unfoldable pub in_writes : List ℕ → ℕ → ℕ → ℕ → List ℕ → List (ℕ × ℕ)
-in_writes core header size status words = left_behind core header
+in_writes core header size status words = buffer_left core header
     ++ filled core header size status (target core header) words
 
 -- OUT. On a ring that isn't in use yet it puts nothing, and gives the first buffer to be filled.
@@ -181,13 +181,13 @@ put_behind core header =
     else (current core header + 1, put_count core header)
     ∷ (current core header, unmarked (slice_index core (current core header))) ∷ []
 
-abbrev pub emptied : ℕ → ℕ → ℕ → List (ℕ × ℕ)
-emptied header size a =
+abbrev pub buffer_emptied : ℕ → ℕ → ℕ → List (ℕ × ℕ)
+buffer_emptied header size a =
     placed (a + 2) (replicate data_words 0) ++ (a + 1, 0)
     ∷ placed header (a ∷ pointer size (a + 1) ∷ data_words * bytes_in_word size ∷ [])
 
 unfoldable pub out_writes : List ℕ → ℕ → ℕ → List (ℕ × ℕ)
-out_writes core header size = put_behind core header ++ emptied header size (target core header)
+out_writes core header size = put_behind core header ++ buffer_emptied header size (target core header)
 
 -- CLOSE of an output side.
 

@@ -46,8 +46,8 @@ entry_count s ppn = names_in (get s.files ppn) + pending_creations s ppn
 
 -- Versions: those that are current, and those that channels hold.
 
-abbrev pub current : State → List Version
-current s = flat_map (λ d. values d.files) (values s.files)
+abbrev pub current_versions : State → List Version
+current_versions s = flat_map (λ d. values d.files) (values s.files)
 
 abbrev pub version_of : Option Channel → Option Version
 version_of None = None
@@ -57,8 +57,8 @@ abbrev pub held_by : Option Job → List Version
 held_by None = []
 held_by (Some job) = filter_map version_of job.channels
 
-abbrev pub held : State → List Version
-held s = flat_map held_by s.jobs
+abbrev pub held_versions : State → List Version
+held_versions s = flat_map held_by s.jobs
 
 abbrev pub has_serial : ℕ → List Version → Bool
 has_serial serial versions = list_any (λ v. v.serial == serial) versions
@@ -80,7 +80,7 @@ abbrev pub pending_cost : State → ℕ
 pending_cost s = total (λ o. version_cost (length o.pending.body)) (outputs s)
 
 abbrev pub booked : State → ℕ
-booked s = directories_cost s + distinct_cost (current s ++ held s) + pending_cost s
+booked s = directories_cost s + distinct_cost (current_versions s ++ held_versions s) + pending_cost s
 
 -- the blocks beyond the fixed regions
 abbrev pub space : Pack → ℕ

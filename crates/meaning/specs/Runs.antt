@@ -4,7 +4,7 @@ use Rattle.std.specs.Prelude.{Some, None, Result, Err}
 use Rattle.meaning.specs.Files.{File, Files}
 use Rattle.meaning.specs.Published.{Version, without_serials}
 use Rattle.meaning.specs.Jobs.{Channel, Job, State, channel_at, job_at, no_jobs}
-use Rattle.meaning.specs.Room.{Pack, current, held, has_serial}
+use Rattle.meaning.specs.Room.{Pack, current_versions, held_versions, has_serial}
 use Rattle.meaning.specs.Closing.{publishes}
 use Rattle.meaning.specs.Sessions.{list}
 use Rattle.meaning.specs.Step.{step}
@@ -20,7 +20,7 @@ use Rattle.meaning.specs.declared.call.Reply.TheVariants.{NoMemory, Device, Fail
 
 -- a serial that no version has that is current or held
 abbrev pub IsFresh : State → ℕ → Type 0
-IsFresh s serial = IsFalse (has_serial serial (current s ++ held s))
+IsFresh s serial = IsFalse (has_serial serial (current_versions s ++ held_versions s))
 
 -- The machine may give this reply and go on to this state.
 abbrev pub Steps : Pack → State → Event → Reply → State → Type 0
@@ -111,12 +111,12 @@ Answers pack (Serving s) event reply (Serving after) =
     ⊎ ((reply ≡ NoMemory) × (after ≡ s) × IsFalse (is_decided pack s event) × IsTrue (takes_memory s event))
 
 -- The service may give these replies to these events, and be so after them.
-abbrev pub Run : Pack → Service → List Event → List Reply → Service → Type 0
-Run pack old [] [] new = new ≡ old
-Run pack old (event ∷ events) (reply ∷ replies) new = (mid : Service) × Answers pack old event reply mid
-    × Run pack mid events replies new
-Run pack old [] (reply ∷ replies) new = ⊥
-Run pack old (event ∷ events) [] new = ⊥
+abbrev pub AnswersAll : Pack → Service → List Event → List Reply → Service → Type 0
+AnswersAll pack old [] [] new = new ≡ old
+AnswersAll pack old (event ∷ events) (reply ∷ replies) new = (mid : Service) × Answers pack old event reply mid
+    × AnswersAll pack mid events replies new
+AnswersAll pack old [] (reply ∷ replies) new = ⊥
+AnswersAll pack old (event ∷ events) [] new = ⊥
 
 abbrev pub IsNoJob : Result (List Entry) Reply → Type 0
 IsNoJob answer = answer ≡ Err NoJob
@@ -131,12 +131,12 @@ Lists (Serving s) n owner answer (Serving after) = (after ≡ s)
 -- A start.
 
 -- all have serials of their own
-abbrev pub AreDistinct : List Version → Type 0
-AreDistinct [] = Unit {0}
-AreDistinct (v ∷ vs) = IsFalse (has_serial v.serial vs) × AreDistinct vs
+abbrev pub HaveDistinctSerials : List Version → Type 0
+HaveDistinctSerials [] = Unit {0}
+HaveDistinctSerials (v ∷ vs) = IsFalse (has_serial v.serial vs) × HaveDistinctSerials vs
 
 -- the files that were found, with any serials of their own, and no job
 pub record IsStart (found : Files File) (s : State) : Type 0 where
   pub files : without_serials s.files ≡ found
-  pub serials : AreDistinct (current s)
+  pub serials : HaveDistinctSerials (current_versions s)
   pub jobs : s.jobs ≡ no_jobs

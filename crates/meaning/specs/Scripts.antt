@@ -92,18 +92,18 @@ MeansEvent TooLong moment said = said ≡ None
 abbrev pub octal_in : ℕ → ℕ → List ℕ
 octal_in places n = replicate (places - length (digits 8 false n)) 48 ++ digits 8 false n
 
-abbrev pub written : Reply → List ℕ
-written Done = codes "DONE"
-written (Value word) = codes "VALUE " ++ octal_in 12 word
-written (Refused code) = codes "REFUSED " ++ digits 8 false code
-written (Stopped status) = codes "STOPPED " ++ octal_in 6 status
-written NoChannel = codes "NOCHANNEL"
-written AddressCheck = codes "ADDRESS"
-written NoJob = codes "NOJOB"
-written NoMemory = codes "NOMEMORY"
-written Device = codes "DEVICE"
-written Failed = codes "FAILED"
-written DateRange = codes "DATE"
+abbrev pub words_given : Reply → List ℕ
+words_given Done = codes "DONE"
+words_given (Value word) = codes "VALUE " ++ octal_in 12 word
+words_given (Refused code) = codes "REFUSED " ++ digits 8 false code
+words_given (Stopped status) = codes "STOPPED " ++ octal_in 6 status
+words_given NoChannel = codes "NOCHANNEL"
+words_given AddressCheck = codes "ADDRESS"
+words_given NoJob = codes "NOJOB"
+words_given NoMemory = codes "NOMEMORY"
+words_given Device = codes "DEVICE"
+words_given Failed = codes "FAILED"
+words_given DateRange = codes "DATE"
 
 -- for a line that is none of the grammar
 abbrev pub wrong : List ℕ

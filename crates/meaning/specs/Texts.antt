@@ -26,8 +26,8 @@ pub record Spoken : Type 0 where
   pub refused : Bool
   pub broke : Bool
 
-abbrev pub joined : Spoken → Spoken → Spoken
-joined a b = record { text = a.text ++ b.text; refused = a.refused || b.refused; broke = a.broke || b.broke }
+abbrev pub both_said : Spoken → Spoken → Spoken
+both_said a b = record { text = a.text ++ b.text; refused = a.refused || b.refused; broke = a.broke || b.broke }
 
 abbrev pub silent : Spoken
 silent = record { text = []; refused = false; broke = false }

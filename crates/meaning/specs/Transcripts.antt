@@ -7,8 +7,8 @@ use Rattle.meaning.specs.Sessions.{list}
 use Rattle.meaning.specs.Runs.{Service, Answers, Lists, Steps}
 use Rattle.meaning.specs.Lines.{Line, lines}
 use Rattle.meaning.specs.Commands.{Means}
-use Rattle.meaning.specs.Scripts.{MeansEvent, written, wrong}
-use Rattle.meaning.specs.Texts.{Spoken, joined, silent, prints, complains, refuses, greeting, is_broken, line}
+use Rattle.meaning.specs.Scripts.{MeansEvent, words_given, wrong}
+use Rattle.meaning.specs.Texts.{Spoken, both_said, silent, prints, complains, refuses, greeting, is_broken, line}
 use Rattle.meaning.specs.Plans.{Act, Asks, Looks, Conducts, begins, calls}
 use Rattle.meaning.specs.declared.command.Command.{Command}
 use Rattle.meaning.specs.declared.command.Command.TheVariants.{Login as LoginLine}
@@ -56,44 +56,44 @@ IsTranscript moment who (line ∷ lines) acts said then_who =
     (meant : Option Command) × Means line meant × (first : List Act) × (more : List Act) × (here : Spoken)
     × (there : Spoken) × (mid : Option ℕ)
     × Speaks moment who meant first here mid × IsTranscript moment mid lines more there then_who
-    × (acts ≡ first ++ more) × (said ≡ joined here there)
+    × (acts ≡ first ++ more) × (said ≡ both_said here there)
 
 -- Lines of a call script.
 
-abbrev pub is_good : Reply → Bool
-is_good Done = true
-is_good (Value word) = true
-is_good (Refused code) = false
-is_good (Stopped status) = false
-is_good NoChannel = false
-is_good AddressCheck = false
-is_good NoJob = false
-is_good NoMemory = false
-is_good Device = false
-is_good Failed = false
-is_good DateRange = false
+abbrev pub is_success : Reply → Bool
+is_success Done = true
+is_success (Value word) = true
+is_success (Refused code) = false
+is_success (Stopped status) = false
+is_success NoChannel = false
+is_success AddressCheck = false
+is_success NoJob = false
+is_success NoMemory = false
+is_success Device = false
+is_success Failed = false
+is_success DateRange = false
 
 abbrev pub refused_unless : Bool → Bool
 refused_unless true = false
 refused_unless false = true
 
-abbrev pub reports : Reply → Spoken
-reports reply = record {
-  text = line (written reply);
-  refused = refused_unless (is_good reply);
+abbrev pub reports_reply : Reply → Spoken
+reports_reply reply = record {
+  text = line (words_given reply);
+  refused = refused_unless (is_success reply);
   broke = is_broken reply;
 }
 
 abbrev pub Orders : Option Event → List Act → Spoken → Type 0
 Orders None acts said = (acts ≡ []) × (said ≡ complains wrong)
-Orders (Some event) acts said = (reply : Reply) × (acts ≡ Asks event reply ∷ []) × (said ≡ reports reply)
+Orders (Some event) acts said = (reply : Reply) × (acts ≡ Asks event reply ∷ []) × (said ≡ reports_reply reply)
 
 abbrev pub Scripts : Moment → List Line → List Act → Spoken → Type 0
 Scripts moment [] acts said = (acts ≡ []) × (said ≡ silent)
 Scripts moment (line ∷ lines) acts said =
     (meant : Option Event) × MeansEvent line moment meant × (first : List Act) × (more : List Act) × (here : Spoken)
     × (there : Spoken)
-    × Orders meant first here × Scripts moment lines more there × (acts ≡ first ++ more) × (said ≡ joined here there)
+    × Orders meant first here × Scripts moment lines more there × (acts ≡ first ++ more) × (said ≡ both_said here there)
 
 -- What becomes of the service meanwhile.
 

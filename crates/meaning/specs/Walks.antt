@@ -12,11 +12,11 @@ use Rattle.meaning.specs.Directories.{Node, items, directory_block, MasterEntry,
 use Rattle.meaning.specs.Retrieval.{Prime, Run, IsRun, Extension, prime_block, extension_block, IsPrime}
 
 -- From the block `first` these blocks of a chain stand, each naming the next, and the last of them names `last`.
-abbrev pub Leads : {E : Type 0} → (E → List ℕ) → Contents → ℕ → List (Node E) → ℕ → Type 0
-Leads words contents first [] last = first ≡ last
-Leads words contents first (node ∷ nodes) last =
+abbrev pub LeadsAlong : {E : Type 0} → (E → List ℕ) → Contents → ℕ → List (Node E) → ℕ → Type 0
+LeadsAlong words contents first [] last = first ≡ last
+LeadsAlong words contents first (node ∷ nodes) last =
     (node.0 ≡ first) × (0 < first) × (next : ℕ) × (contents first ≡ Some (directory_block words next node.1))
-    × Leads words contents next nodes last
+    × LeadsAlong words contents next nodes last
 
 -- The same for extensions.
 abbrev pub LeadsOn : Contents → ℕ → List Extension → ℕ → Type 0
@@ -30,7 +30,7 @@ pub record IsMasterWalk (size : ℕ) (contents : Contents) (layout : ℕ) (nodes
     (last : ℕ) : Type 0 where
   pub master : ℕ
   pub home : IsHome size contents (record { layout = layout; master = master })
-  pub walk : Leads master_words contents master nodes last
+  pub walk : LeadsAlong master_words contents master nodes last
 
 -- The master directory, as far as it was walked, has this directory, with its word and its first block.
 pub record IsDirectoryNamed (size : ℕ) (contents : Contents) (layout ppn word first : ℕ) : Type 0 where
@@ -45,7 +45,7 @@ pub record IsDirectoryWalk (size : ℕ) (contents : Contents) (layout ppn : ℕ)
   pub word : ℕ
   pub first : ℕ
   pub named : IsDirectoryNamed size contents layout ppn word first
-  pub walk : Leads file_words contents first nodes last
+  pub walk : LeadsAlong file_words contents first nodes last
 
 -- The directory of this place, as far as it was walked, has its name, with this prime block.
 pub record IsFileNamed (size : ℕ) (contents : Contents) (layout : ℕ) (place : Place) (prime : ℕ) : Type 0 where

@@ -15,7 +15,7 @@ ghost use Rattle.meaning.specs.Looking.{place_at};
 ghost use Rattle.meaning.specs.Published.{Version, file_at, with_protection, without_serials};
 ghost use Rattle.meaning.specs.Renaming.{deletes_at, protection_at};
 ghost use Rattle.meaning.specs.Room.{Pack, booked, room};
-ghost use Rattle.meaning.specs.Runs.{Service, Serving, Broken, Answers, IsFresh, IsStart, Run, StepsAll};
+ghost use Rattle.meaning.specs.Runs.{Service, Serving, Broken, Answers, IsFresh, IsStart, AnswersAll, StepsAll};
 ghost use Rattle.meaning.specs.Sessions.{list};
 ghost use Rattle.meaning.specs.Sound.{holds_at, IsSound};
 ghost use Rattle.meaning.specs.Splices.{splice, length_after, block_start};
@@ -53,7 +53,7 @@ pub fn reading_holds_still()
     ensures found { (pack : Pack) (s s' t u : State) (n ch e a : ℕ) (first last : Moment) (events : List Event)
         (replies : List Reply)
         → Answers pack (Serving s) (Calls n (Lookup ch e) first) Done (Serving s')
-        → Run pack (Serving s') events replies (Serving t) → SpareAll n ch events
+        → AnswersAll pack (Serving s') events replies (Serving t) → SpareAll n ch events
         → Answers pack (Serving t) (Calls n (In ch a) last) Done (Serving u) → (v : Version) × FoundBy s n e v
         × MovesWordsOf t u n ch a v }
 {}
@@ -62,8 +62,8 @@ pub fn reading_holds_still()
 pub fn runs_go_on()
     ensures { (pack : Pack) (old mid new : Service) (events : List Event) (replies : List Reply) (event : Event)
         (reply : Reply)
-        → Run pack old events replies mid → Answers pack mid event reply new
-        → Run pack old (events ++ event ∷ []) (replies ++ reply ∷ []) new }
+        → AnswersAll pack old events replies mid → Answers pack mid event reply new
+        → AnswersAll pack old (events ++ event ∷ []) (replies ++ reply ∷ []) new }
 {}
 
 /// What isn't done changes almost nothing: a refusal's code stands in the block that the call named, a
@@ -81,7 +81,7 @@ pub fn undone_changes_nothing()
 /// at most one version.
 pub fn states_are_sound()
     ensures started { (pack : Pack) (found : Files File) (s t : State) (events : List Event) (replies : List Reply)
-        → IsStart found s → Run pack (Serving s) events replies (Serving t) → IsSound t }
+        → IsStart found s → AnswersAll pack (Serving s) events replies (Serving t) → IsSound t }
     ensures on { (pack : Pack) (serial : ℕ) (s : State) (event : Event) → IsFresh s serial → IsSound s
         → IsSound (step pack serial s event).1 }
 {}
@@ -178,5 +178,5 @@ pub fn moments_go_on<D: Disk>(old: &D, new: &D)
         → RunsOn pack (D.state old.now) t first events replies Broken
         → RunsOn pack (D.state old.now) t first (events ++ event ∷ []) (replies ++ Failed ∷ []) Broken }
     ensures is_run { (pack : Pack) (t : ℕ) (first last : Service) (events : List Event) (replies : List Reply)
-        → RunsOn pack (D.state old.now) t first events replies last → Run pack first events replies last }
+        → RunsOn pack (D.state old.now) t first events replies last → AnswersAll pack first events replies last }
 {}

@@ -10,7 +10,7 @@ use Rattle.meaning.specs.Maps.{total}
 use Rattle.meaning.specs.Published.{Version}
 use Rattle.meaning.specs.Jobs as machine
 use Rattle.meaning.specs.Jobs.{State, slot, job_at, with_job}
-use Rattle.meaning.specs.Room.{Pack, current, held, has_serial}
+use Rattle.meaning.specs.Room.{Pack, current_versions, held_versions, has_serial}
 use Rattle.meaning.specs.Runs.{Service, Serving, Broken, Answers, IsFresh, Steps, is_plain, takes_memory}
 use Rattle.meaning.specs.Outcomes.{settled}
 use Rattle.meaning.specs.Sessions.{login_answer}
@@ -24,7 +24,7 @@ use Rattle.meaning.specs.declared.call.Reply.TheVariants.{Done, Value, Refused, 
 use Rattle.meaning.specs.declared.call.Reply.TheVariants.{NoMemory, Device, Failed, DateRange}
 use Rattle.meaning.proofs.SoundEvents.{sound_step}
 use Rattle.volume.specs.Live.{VolumeCore}
-use Rattle.monitor.specs.Dropping.{Leaves}
+use Rattle.monitor.specs.Dropping.{OnlyDrops}
 use Rattle.monitor.specs.Serving.{pack_of, IsState, Serves, AreKeyed, AreReading}
 use Rattle.monitor.specs.Sides.{UnderKeys, job_of, jobs_of, state_of, new_job}
 use Rattle.monitor.specs.declared.job.Job.{Job}
@@ -45,10 +45,10 @@ none_has [] k less = refl
 none_has (v ∷ vs) k less = cc (differs v.serial k (omega (arith, less)), none_has vs k (omega (arith, less)))
 
 abbrev pub next_serial : State → ℕ
-next_serial s = summed (current s ++ held s) + 1
+next_serial s = summed (current_versions s ++ held_versions s) + 1
 
 pub is_fresh : (s : State) → IsFresh s (next_serial s)
-is_fresh s = none_has (current s ++ held s) (next_serial s) (omega arith)
+is_fresh s = none_has (current_versions s ++ held_versions s) (next_serial s) (omega arith)
 
 -- An event that chooses no serial.
 pub steps_on : (pack : Pack) (s : State) (event : Event) (reply : Reply) (after : State)
@@ -128,7 +128,7 @@ state_is s w jobs is = λ i. record s { jobs = is i }
 -- An event that leaves the disk and the files as they were, and at most drops what was being written, and lets go what
 -- was read.
 module _ (d : DiskState) (map map' : VolumeCore) (failed : Bool) (jobs jobs' : List (Option Job))
-    (keyed : AreKeyed map'.pending jobs') (reading : AreReading map'.live jobs') (leaves : Leaves map map') where
+    (keyed : AreKeyed map'.pending jobs') (reading : AreReading map'.live jobs') (leaves : OnlyDrops map map') where
   pub same_files : (s : State) (state : IsState d map jobs s) → IsSound (state_of s.files state.under jobs')
       → IsState d map' jobs' (state_of s.files state.under jobs')
   same_files s state sound = record {
@@ -277,7 +277,7 @@ module _ (pack : Pack) (d : DiskState) (map map' : VolumeCore) (failed : Bool) (
       )
 
   pub login_answered : (reply : Reply) → failed ≡ false → AreKeyed map.pending jobs → AreKeyed map'.pending jobs'
-      → AreReading map.live jobs → AreReading map'.live jobs' → Leaves map map'
+      → AreReading map.live jobs → AreReading map'.live jobs' → OnlyDrops map map'
       → (reply ≡ login_answer n words) ⊎ ((reply ≡ NoMemory) × (login_answer n words ≡ Done))
       → (reply ≡ Done → jobs' ≡ slice_set jobs n (Some (new_job ppn words)))
       → ((reply ≡ Done → ⊥) → (jobs' ≡ jobs) × (map' ≡ map)) → (old : Service) → Serves d map failed jobs old

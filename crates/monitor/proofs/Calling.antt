@@ -8,7 +8,7 @@ use Rattle.meaning.proofs.SlotLaws.{set-slot}
 use Rattle.volume.specs.Live.{pending_at}
 use Rattle.volume.specs.declared.live.LiveVersion.{LiveVersion}
 use Rattle.volume.specs.declared.pending.PendingVersion.{PendingVersion}
-use Rattle.monitor.specs.Rows.{Keeps, KeepsReading, IsOldOrNew}
+use Rattle.monitor.specs.Rows.{KeepsSides, KeepsReading, IsOldOrNew}
 use Rattle.monitor.specs.Serving.{IsSide, IsReader, HasReaders}
 use Rattle.monitor.specs.Sides.{UnderKeys, side_of, reader_of, channel_of, job_of}
 use Rattle.monitor.specs.declared.channel.Channel.{Channel}
@@ -40,7 +40,7 @@ old_or_new : (pending : List (Option PendingVersion)) (key : ℕ) (p : PendingVe
     → IsOldOrNew (pending_at pending key) p
 old_or_new pending key p at = inr (p, at, refl)
 
-pub keeps_same : (pending : List (Option PendingVersion)) (job : Job) → Keeps pending pending job job
+pub keeps_same : (pending : List (Option PendingVersion)) (job : Job) → KeepsSides pending pending job job
 keeps_same pending job = record { once = λ key. refl; known = old_or_new pending; each = λ all. all }
 
 -- a channel is another one, which writes the same version or none
@@ -49,7 +49,7 @@ pub keeps_channel : (pending : List (Option PendingVersion)) (job : Job) (number
     ≡ count key (option_to_list (side_of (slot job.channels number))))
     → (AllByRecursion (IsSide pending) (filter_map side_of job.channels)
     → AllByRecursion (IsSide pending) (option_to_list (side_of x)))
-    → Keeps pending pending job (record job { channels = slice_set job.channels number x })
+    → KeepsSides pending pending job (record job { channels = slice_set job.channels number x })
 keeps_channel pending job number x same side = record {
   once = λ key.
       let set = count-channel key job.channels number x (λ e. same key
@@ -92,7 +92,7 @@ reads_channel live job number c same reader = record {
 -- Core doesn't matter to what is written and read.
 
 pub keeps_core : (pending pending' : List (Option PendingVersion)) (job job' : Job) (core : List ℕ)
-    → Keeps pending pending' job job' → Keeps pending pending' job (record job' { core = core })
+    → KeepsSides pending pending' job job' → KeepsSides pending pending' job (record job' { core = core })
 keeps_core pending pending' job job' core k = record { once = k.once; known = k.known; each = k.each }
 
 pub reads_core : (live live' : List (Option LiveVersion)) (job job' : Job) (core : List ℕ)

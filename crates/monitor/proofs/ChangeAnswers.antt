@@ -29,7 +29,7 @@ use Rattle.meaning.proofs.Names.{name_total, name_exact}
 use Rattle.volume.specs.Claims.{claims}
 use Rattle.volume.specs.Known.{Known}
 use Rattle.volume.specs.Live.{VolumeCore}
-use Rattle.volume.specs.Rest.{IsSound}
+use Rattle.volume.specs.Rest.{IsSoundCore}
 use Rattle.volume.proofs.Answering.{Holds, rest_holds, all_at_place}
 use Rattle.volume.proofs.Lookups.{first_place}
 use Rattle.monitor.specs.Changing.{may_become, is_other, changes_file, allowed_change, asked_protection, change_answer}
@@ -161,7 +161,8 @@ file_shown (Some d) name x is = get-map_values name_total (λ (v : Version). v.f
 nonzero : (n : ℕ) → 0 < n → (n == 0) ≡ false
 nonzero n some = grind (arith, nat_tests)
 
-pub change_answered : (d : DiskState) (map : VolumeCore) (s : State) → IsKnown d map s → IsSound d map false → d.honest
+pub change_answered : (d : DiskState) (map : VolumeCore) (s : State) → IsKnown d map s → IsSoundCore d map false
+    → d.honest
     → (job : machine.Job) (e ppn : ℕ) (name : FileName)
     → IsChangeAnswer (allowed_change (found_in (get (without_serials s.files) ppn) name) job.ppn ppn (name.name == 0)
     (asked_protection job e) (claims map.pending (place_of ppn name))) (change_answer s job e (place_of ppn name))
@@ -177,7 +178,8 @@ change_answered d map s known sound honest job e ppn name =
     x.file (ap (λ o. named_in o name) (shown_at s.files ppn) ∙ file_shown (get s.files ppn) name x is)))))
 
 -- The same of what is found, and asked for.
-pub found_answered : (d : DiskState) (map : VolumeCore) (s : State) → IsKnown d map s → IsSound d map false → d.honest
+pub found_answered : (d : DiskState) (map : VolumeCore) (s : State) → IsKnown d map s → IsSoundCore d map false
+    → d.honest
     → (job : machine.Job) (e ppn : ℕ) (name : FileName) (who word : ℕ) (protection : Option ℕ) (found : Found)
     (claimed : Bool) (result : Result (Unit {0}) ErrorCode)
     → result ≡ allowed_change found who ppn (word == 0) protection claimed

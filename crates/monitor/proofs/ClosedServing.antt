@@ -14,7 +14,7 @@ use Rattle.volume.specs.Live.{VolumeCore, pending_at}
 use Rattle.volume.specs.Rest.{RestsAt}
 use Rattle.monitor.specs.Closing.{both_closed, rings_closed, closed_in, left_open}
 use Rattle.monitor.specs.Events.{IsIdle}
-use Rattle.monitor.specs.Promises.{IsReady, ServesAlways}
+use Rattle.monitor.specs.Promises.{IsCallReady, ServesAlways}
 use Rattle.monitor.specs.Publishing.{last_at, PublishesBy, StillStands}
 use Rattle.monitor.specs.Renewing.{LetsGo, HoldsPublished}
 use Rattle.monitor.specs.Rows.{ClosesSide}
@@ -36,7 +36,7 @@ use Rattle.monitor.proofs.Untouched.{untouched_quiet}
 
 -- The version of an output side of a job that may call: it is there, and its side starts at a block with a number.
 
-module _ {d : DiskState} {c : VolumeCore} {failed : Bool} {job : Job} (ready : IsReady d c failed job) (number : ℕ)
+module _ {d : DiskState} {c : VolumeCore} {failed : Bool} {job : Job} (ready : IsCallReady d c failed job) (number : ℕ)
     (channel : Channel) (there : slot job.channels number ≡ Some channel) (o : Output)
     (side : channel.output ≡ Some o) where
   pub side_live : IsSome (pending_at c.pending o.pending.key)
@@ -53,7 +53,7 @@ module _ {d : DiskState} {c : VolumeCore} {failed : Bool} {job : Job} (ready : I
 module _ {D : Type 0} (state : D → DiskState) (only_now : (disk : D) (contents : Contents) → (state disk).honest
     → (state disk).left_since (state disk).clock contents → MayLeave (state disk) contents) (disk disk' : D)
     {c b c' : VolumeCore} {failed failed' : Bool} {job job' : Job} {number bits : ℕ} {channel : Channel} {o : Output}
-    {reply : Reply} (ready : IsReady (state disk) c failed job) (closes : ClosesSide job number bits channel o)
+    {reply : Reply} (ready : IsCallReady (state disk) c failed job) (closes : ClosesSide job number bits channel o)
     (by : PublishesBy (state disk) (state disk') c b failed failed' channel o (last_at job.core channel) reply)
     (idle : IsIdle reply → (disk' ≡ disk) × (c' ≡ c) × (failed' ≡ failed))
     (kept : (reply ≡ Done → ⊥) → job' ≡ left_open job number channel reply) where

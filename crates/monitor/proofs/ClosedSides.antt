@@ -13,7 +13,7 @@ use Rattle.meaning.specs.Jobs.{State, slot}
 use Rattle.meaning.specs.Maps.{get, insert}
 use Rattle.meaning.specs.Outputs.{finds_no_place}
 use Rattle.meaning.specs.Published.{Version, without_serials, file_in, file_at, with_file, with_file_in}
-use Rattle.meaning.specs.Runs.{AreDistinct}
+use Rattle.meaning.specs.Runs.{HaveDistinctSerials}
 use Rattle.meaning.specs.Stands.{Stands, place_of}
 use Rattle.meaning.specs.Step.{step}
 use Rattle.meaning.specs.declared.call.Call.TheVariants.{Close, Releas}
@@ -26,12 +26,12 @@ use Rattle.meaning.proofs.PlaceLaws.{some_is}
 use Rattle.retrieval.specs.declared.prime.Prime.{Prime}
 use Rattle.volume.specs.Live.{VolumeCore, pending_at, IsWholeCore}
 use Rattle.volume.specs.Pins.{IsPinAnswer}
-use Rattle.volume.specs.Rest.{RestsAt, IsSound}
+use Rattle.volume.specs.Rest.{RestsAt, IsSoundCore}
 use Rattle.volume.specs.declared.handles.Pin.{Pin}
 use Rattle.volume.specs.declared.live.LiveVersion.{LiveVersion}
 use Rattle.volume.specs.declared.pending.PendingVersion.{PendingVersion}
 use Rattle.monitor.specs.Closing.{both_closed, output_closed, rings_closed, closed_in, left_open}
-use Rattle.monitor.specs.Dropping.{Leaves}
+use Rattle.monitor.specs.Dropping.{OnlyDrops}
 use Rattle.monitor.specs.Events.{IsIdle}
 use Rattle.monitor.specs.Publishing.{last_at, HasPublished, IsPublishing, PublishesBy, IsPublishRow, CrashesAsRow}
 use Rattle.monitor.specs.Publishing.{StillStands}
@@ -94,7 +94,7 @@ kept_by false x input is = absurd (some_none (sym is))
 -- An input side that stays holds what is published where a side was renewed, and the disk left alone.
 pub holds_published : {D : Type 0} (state : D → DiskState) (mid new : D) (c b c' : VolumeCore) (failed : Bool) (key : ℕ)
     (job job' : Job) (number : ℕ) (channel : Channel) (input renewed : Input) (prime : Prime) → new ≡ mid
-    → IsSound (state mid) b failed → ((is : Renews b c' input renewed prime.ppn prime.file prime.protection)
+    → IsSoundCore (state mid) b failed → ((is : Renews b c' input renewed prime.ppn prime.file prime.protection)
     × ((state new).honest → (files : Files File) → RestsAt (state mid) files
     → IsPinAnswer (state mid).contents is.between.live prime.file (Ok is.held.pin) (get files prime.ppn)))
     → ((p : PendingVersion) → pending_at c.pending key ≡ Some p → prime ≡ p.prime)
@@ -139,7 +139,7 @@ module _ {d d' : DiskState} {c b : VolumeCore} {failed failed' : Bool} {reply : 
   key = o.pending.key
 
   -- A crash.
-  module _ (sound : IsSound d c failed) (alive : failed ≡ false) (idle : IsIdle reply → d'.honest
+  module _ (sound : IsSoundCore d c failed) (alive : failed ≡ false) (idle : IsIdle reply → d'.honest
       → (f : Files File) → RestsAt d f → LeavesOnly d d' (λ contents. Stands d.size contents f)) where
     pub close_crashes : (bits : ℕ) → keeps_output bits ≡ false → discards bits ≡ false
         → CrashesAsRow d d' c job (Close number bits)
@@ -164,9 +164,9 @@ module _ {d d' : DiskState} {c b : VolumeCore} {failed failed' : Bool} {reply : 
 
     -- The machine's row.
     module _ (unchanged : IsIdle reply → (jobs : List (Option Job)) (s : State) → IsState d c jobs s
-        → IsState d' c' jobs s) (sound : IsSound d c failed) (alive : failed ≡ false) where
+        → IsState d' c' jobs s) (sound : IsSoundCore d c failed) (alive : failed ≡ false) where
       -- where versions are let go
-      module _ (leaves : reply ≡ Done → Leaves b c') where
+      module _ (leaves : reply ≡ Done → OnlyDrops b c') where
         pub closed_row : (bits : ℕ) → keeps_output bits ≡ false → discards bits ≡ false
             → (if keeps_input bits then channel.input else None) ≡ None
             → (reply ≡ Done
@@ -247,7 +247,7 @@ module _ {d d' : DiskState} {c b : VolumeCore} {failed failed' : Bool} {reply : 
               let name = sym (h.place p.0 p.1).1 in
               (state.versions key p.0 p.1).place ∙ (λ i. place_of (owner i) (name i))
 
-          module _ (rests : RestsAt d' (without_serials files')) (distinct : AreDistinct (versions_in files'))
+          module _ (rests : RestsAt d' (without_serials files')) (distinct : HaveDistinctSerials (versions_in files'))
               (reads : AreRead d' b files' w.read) where
             answer : IsPinAnswer d'.contents h.renews.between.live h.file (Ok h.renewed.pin)
                 (get (without_serials files') h.ppn)

@@ -22,7 +22,7 @@ use Rattle.volume.specs.declared.pending.PendingVersion.{PendingVersion}
 use Rattle.monitor.specs.Closing.{rings_closed, closed_in}
 use Rattle.monitor.specs.Dropping.{Closes}
 use Rattle.monitor.specs.Readers.{readers_of}
-use Rattle.monitor.specs.Rows.{IsRow, Keeps, KeepsReading, publishes_at}
+use Rattle.monitor.specs.Rows.{IsRow, KeepsSides, KeepsReading, publishes_at}
 use Rattle.monitor.specs.Serving.{present, IsSide, IsReader}
 use Rattle.monitor.specs.Sides.{UnderKeys, side_of, sides_in, keys_of, reader_of, readers_in, pins_of, output_of}
 use Rattle.monitor.specs.Sides.{input_of, channel_of, job_of}
@@ -197,8 +197,8 @@ module _ (c c' : VolumeCore) (job job' : Job) (number : ℕ) (open_as : Channel)
   pub keeps_closed : ((key : ℕ) → count key (option_to_list (side_of x)) + times key keys
       ≡ count key (option_to_list open_as.output))
       → (AllByRecursion (IsSide c'.pending) (option_to_list open_as.output)
-      → AllByRecursion (IsSide c'.pending) (option_to_list (side_of x))) → Keeps c.pending c'.pending job job'
-  keeps_closed parts side = subst (Keeps c.pending c'.pending job) (sym set) (record {
+      → AllByRecursion (IsSide c'.pending) (option_to_list (side_of x))) → KeepsSides c.pending c'.pending job job'
+  keeps_closed parts side = subst (KeepsSides c.pending c'.pending job) (sym set) (record {
     once = λ key.
         let gone = closed.gone key in
         let moved = count-channel key job.channels number x (λ e. absurd (none_some (sym e ∙ there))) in
@@ -306,7 +306,7 @@ module _ (job : Job) (number : ℕ) (c : Channel) (there : slot job.channels num
         ≡ output_dropped c.output bits) (releases : i ≡ input_released c.input bits)
         (set : job' ≡ record job { core = core; channels = slice_set job.channels number (Some (closed_as c bits)) })
         (closed : Closes a b (keys_of (option_to_list o)) (pins_of (option_to_list i))) where
-      pub close_keeps : Keeps a.pending b.pending job job'
+      pub close_keeps : KeepsSides a.pending b.pending job job'
       close_keeps =
           keeps_closed a b job job' number c there (Some (closed_as c bits)) core set (keys_of (option_to_list o))
           (pins_of (option_to_list i)) closed
@@ -352,7 +352,7 @@ module _ (a b : VolumeCore) (job job' : Job) (number : ℕ) (c : Channel) (there
     ≡ Some c) (unpublished : publishes_at (slot job.channels number) 0 ≡ false)
     (core : List ℕ) (set : job' ≡ record job { core = core; channels = slice_set job.channels number None })
     (closed : Closes a b [] (pins_of (option_to_list c.input))) where
-  pub release_keeps : Keeps a.pending b.pending job job'
+  pub release_keeps : KeepsSides a.pending b.pending job job'
   release_keeps =
       keeps_closed a b job job' number c there None core set [] (pins_of (option_to_list c.input)) closed
       (λ key. by key c.output (sym (ap (λ o. publishes_at o 0) there) ∙ unpublished)) (λ all. tt)

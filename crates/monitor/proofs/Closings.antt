@@ -13,10 +13,10 @@ use Rattle.meaning.specs.declared.call.Reply.TheVariants.{Done, Value, Refused, 
 use Rattle.meaning.specs.declared.call.Reply.TheVariants.{NoMemory, Device, Failed, DateRange}
 use Rattle.meaning.proofs.MapLaws.{some_same}
 use Rattle.volume.specs.Live.{VolumeCore}
-use Rattle.monitor.specs.Dropping.{Leaves}
+use Rattle.monitor.specs.Dropping.{OnlyDrops}
 use Rattle.monitor.specs.Events.{CallCrashes, IsIdle}
 use Rattle.monitor.specs.Publishing.{IsPublishing, IsPublishRow, CrashesAsRow, StillStands}
-use Rattle.monitor.specs.Rows.{ClosesSide, IsRow, Keeps, KeepsReading}
+use Rattle.monitor.specs.Rows.{ClosesSide, IsRow, KeepsSides, KeepsReading}
 use Rattle.monitor.specs.Serving.{pack_of, Serves, AreKeyed, ArePlaced, AreReading}
 use Rattle.monitor.specs.declared.channel.Channel.{Channel}
 use Rattle.monitor.specs.declared.output.Output.{Output}
@@ -106,7 +106,7 @@ module _ (d d' : DiskState) (c c' : VolumeCore) (failed failed' : Bool) (channel
 module _ (d : DiskState) (c c' : VolumeCore) (failed : Bool) (jobs jobs' : List (Option Job)) (n : ℕ)
     (job job' : Job) (call : Call) (moment : Moment) (alive : failed ≡ false) (timely : moment.date ≤ 4095)
     (there : slot jobs n ≡ Some job) (set : jobs' ≡ slice_set jobs n (Some job'))
-    (keeps : Keeps c.pending c'.pending job job') (reads : KeepsReading c.live c'.live job job') where
+    (keeps : KeepsSides c.pending c'.pending job job') (reads : KeepsReading c.live c'.live job job') where
   pub dropping_keyed : AreKeyed c.pending jobs → AreKeyed c'.pending jobs'
   dropping_keyed keyed = subst (AreKeyed c'.pending) (sym set)
       (keeps_keyed c.pending c'.pending jobs n job job' keyed there keeps)
@@ -115,7 +115,7 @@ module _ (d : DiskState) (c c' : VolumeCore) (failed : Bool) (jobs jobs' : List 
   dropping_reading reading = subst (AreReading c'.live) (sym set)
       (keeps_reading c.live c'.live jobs n job job' reading there reads)
 
-  pub dropping_answered : (reply : Reply) → AreKeyed c.pending jobs → AreReading c.live jobs → Leaves c c'
+  pub dropping_answered : (reply : Reply) → AreKeyed c.pending jobs → AreReading c.live jobs → OnlyDrops c c'
       → IsRow job job' call reply → (old : Service) → Serves d c failed jobs old
       → (new : Service) × Serves d c' failed jobs' new × Answers (pack_of d) old (Calls n call moment) reply new
   dropping_answered reply keyed reading leaves is =

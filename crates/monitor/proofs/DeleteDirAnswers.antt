@@ -26,9 +26,9 @@ use Rattle.volume.specs.Known.{KnownDirectory}
 use Rattle.volume.specs.Live.{VolumeCore, creates}
 use Rattle.volume.specs.Places.{prime_at}
 use Rattle.volume.specs.RemovingDirectories.{directory_removed}
-use Rattle.volume.specs.Rest.{IsSound, RestsAt, StandsForEither, KeepsRead, KeepsEachWritten}
+use Rattle.volume.specs.Rest.{IsSoundCore, RestsAt, StandsForOneOf, KeepsRead, KeepsEachWritten}
 use Rattle.volume.proofs.Answering.{Holds, rest_holds}
-use Rattle.monitor.specs.DeleteDirRows.{IsKeptBy, IsFree, IsDeleteDir}
+use Rattle.monitor.specs.DeleteDirRows.{IsKeptBy, IsRemovable, IsDeleteDir}
 use Rattle.monitor.specs.DirectoryRows.{asked_owner}
 use Rattle.monitor.specs.Events.{CallCrashes, IsIdle}
 use Rattle.monitor.specs.Refusals.{with_code}
@@ -80,7 +80,7 @@ idle_same d c Disks Cores job job' e DateRange outcome idle = absurd outcome
 module _ {D : Type 0} (state_in : D → DiskState) (disk disk' : D) (c c' : VolumeCore) (jobs jobs' : List (Option Job))
     (n : ℕ) (job job' : Job) (e : ℕ) (moment : Moment)
     (there : slot jobs n ≡ Some job) (set : jobs' ≡ slice_set jobs n (Some job')) (timely : moment.date
-    ≤ 4095) (sound : IsSound (state_in disk) c false) where
+    ≤ 4095) (sound : IsSoundCore (state_in disk) c false) where
   abbrev d : DiskState
   d = state_in disk
 
@@ -98,7 +98,7 @@ module _ {D : Type 0} (state_in : D → DiskState) (disk disk' : D) (c c' : Volu
 
   -- the directory may be deleted
   abbrev MayGo : Type 0
-  MayGo = (lies_outside job.core e 2 ≡ false) × IsFree d c job.ppn owner
+  MayGo = (lies_outside job.core e 2 ≡ false) × IsRemovable d c job.ppn owner
 
   -- The steps of the machine, by its rows.
   module _ (honest : d.honest) (s : State) (state : IsState d c jobs s) where
@@ -173,14 +173,14 @@ module _ {D : Type 0} (state_in : D → DiskState) (disk disk' : D) (c c' : Volu
   -- Crashes.
   module _ (was : d'.honest → d.honest) (only_now : d.honest → (x : Contents) → d.left_since d.clock x → MayLeave d x)
       (crash : d'.honest → (f : Files File) → RestsAt d f
-      → LeavesOnly d d' (StandsForEither d.size f (directory_removed f owner))) where
+      → LeavesOnly d d' (StandsForOneOf d.size f (directory_removed f owner))) where
     unmoved_crashes : Same → CallCrashes d d' c jobs n (DeleteDir e) moment
     unmoved_crashes same = subst (λ x. CallCrashes d (state_in x) c jobs n (DeleteDir e) moment) (sym same.0)
         (idle_crashes d c jobs n (DeleteDir e) moment only_now)
 
     removed_crashes : job' ≡ job → MayGo → CallCrashes d d' c jobs n (DeleteDir e) moment
     removed_crashes same may honest s state =
-        leaves_weaker d d' (StandsForEither d.size (without_serials s.files) _) _
+        leaves_weaker d d' (StandsForOneOf d.size (without_serials s.files) _) _
         (crash honest (without_serials s.files) state.files)
         (λ contents. ⊎_elim (λ old. inl old)
         (λ new. inr (

@@ -26,7 +26,7 @@ use Rattle.volume.specs.Rest.{RestsAt}
 use Rattle.volume.proofs.Answering.{Holds, all_at_place}
 use Rattle.volume.proofs.Lookups.{first_place}
 use Rattle.volume.proofs.MakingHeld.{element_at}
-use Rattle.monitor.specs.DeleteDirRows.{IsNowhere, IsThere, is_strange, IsKeptBy, IsFree}
+use Rattle.monitor.specs.DeleteDirRows.{IsNowhere, IsThere, is_strange, IsKeptBy, IsRemovable}
 use Rattle.monitor.specs.Sides.{UnderKeys, job_of, state_of}
 use Rattle.monitor.specs.declared.job.Job.{Job}
 use Rattle.monitor.proofs.Growths.{Matches, matches, shown_at}
@@ -102,7 +102,7 @@ module _ (d : DiskState) (c : VolumeCore) (files : Files Version) (w : UnderKeys
         by (Some x) is = refl
 
     -- a directory that may be deleted has no file
-    pub empty_one : (ppn : ℕ) → IsFree d c ppn owner
+    pub empty_one : (ppn : ℕ) → IsRemovable d c ppn owner
         → (v : Directory Version) × (get files owner ≡ Some v) × (size v.files ≡ 0)
     empty_one ppn (there, own, bare) = by (get files owner) refl
       where
@@ -146,7 +146,7 @@ module _ (d : DiskState) (c : VolumeCore) (files : Files Version) (w : UnderKeys
           let filled = some_entries (entry_count t owner) (counts_some has) in
           (λ i. pick (inside i) (found i) (own i) (filled i)) ∙ ap Refused (sym full)
 
-      pub may_delete : outside ≡ false → IsFree d c job.ppn owner → answer ≡ Done
+      pub may_delete : outside ≡ false → IsRemovable d c job.ppn owner → answer ≡ Done
       may_delete inside (there, own, bare) =
           let found = is_one there in
           let none : (entry_count t owner == 0) ≡ true =

@@ -11,7 +11,7 @@ use Rattle.meaning.specs.Making.{remove_answer}
 use Rattle.meaning.specs.Maps.{get, remove, empty, size, values}
 use Rattle.meaning.specs.Outcomes.{settled, refused_at}
 use Rattle.meaning.specs.Published.{Version, without_serials, file_in, file_at}
-use Rattle.meaning.specs.Runs.{AreDistinct}
+use Rattle.meaning.specs.Runs.{HaveDistinctSerials}
 use Rattle.meaning.specs.Sound as meaning
 use Rattle.meaning.specs.Step.{step, of_files}
 use Rattle.meaning.specs.declared.call.Call.TheVariants.{DeleteDir}
@@ -123,7 +123,7 @@ module _ (d d' : DiskState) (c c' : VolumeCore) (jobs jobs' : List (Option Job))
       → IsState d' c' jobs' (state_of (remove s.files owner) state.under jobs')
   removed_state still = record {
     files = subst (RestsAt d') (sym (shown_removed s.files owner)) rests;
-    serials = subst AreDistinct (sym (versions_removed s.files owner v there bare)) state.serials;
+    serials = subst HaveDistinctSerials (sym (versions_removed s.files owner v there bare)) state.serials;
     under = state.under;
     versions = λ key p at.
         let is = state.versions key p (was key p at) in

@@ -22,7 +22,7 @@ use Rattle.volume.specs.Live.{VolumeCore, pending_at, creates, is_creation}
 use Rattle.volume.specs.Publishing.{IsPlaced}
 use Rattle.volume.specs.Queries.{protection_answer}
 use Rattle.volume.specs.RemovingDirectories.{directory_removed, HasEntries}
-use Rattle.volume.specs.Rest.{IsSound, RestsAt, StandsForEither}
+use Rattle.volume.specs.Rest.{IsSoundCore, RestsAt, StandsForOneOf}
 use Rattle.volume.specs.declared.error.CallError.{CallError}
 use Rattle.volume.specs.declared.pending.PendingVersion.{PendingVersion}
 use Rattle.volume.proofs.Answering.{directory_none, rest_holds, all_at_place}
@@ -33,15 +33,15 @@ use Rattle.monitor.specs.Serving.{ArePlaced}
 
 -- The directory that is deleted is the one asked for.
 module _ (d d' : DiskState) (owner asked : ℕ) (whose : owner ≡ asked) (f : Files File) where
-  pub crash_asked : LeavesOnly d d' (StandsForEither d.size f (directory_removed f owner))
-      → LeavesOnly d d' (StandsForEither d.size f (directory_removed f asked))
-  crash_asked leaves = subst (λ n. LeavesOnly d d' (StandsForEither d.size f (directory_removed f n))) whose leaves
+  pub crash_asked : LeavesOnly d d' (StandsForOneOf d.size f (directory_removed f owner))
+      → LeavesOnly d d' (StandsForOneOf d.size f (directory_removed f asked))
+  crash_asked leaves = subst (λ n. LeavesOnly d d' (StandsForOneOf d.size f (directory_removed f n))) whose leaves
 
   pub done_asked : RestsAt d' (directory_removed f owner) → RestsAt d' (directory_removed f asked)
   done_asked rests = subst (λ n. RestsAt d' (directory_removed f n)) whose rests
 
 -- No file has a directory that core hasn't, and none has one whose number is none.
-module _ (d : DiskState) (c : VolumeCore) (failed : Bool) (sound : IsSound d c failed) (alive : failed ≡ false)
+module _ (d : DiskState) (c : VolumeCore) (failed : Bool) (sound : IsSoundCore d c failed) (alive : failed ≡ false)
     (owner : ℕ) where
   pub nowhere_known : find nat_cmp owner c.known.master.entries ≡ None → IsNowhere d owner
   nowhere_known none honest f rests = directory_none d c.known f (rest_holds d c failed sound honest alive f rests)

@@ -7,7 +7,7 @@ use Rattle.meaning.specs.Files.{File, Files, Directory, Place, map_directory}
 use Rattle.meaning.specs.Maps.{get, insert, remove, values, map_values}
 use Rattle.meaning.specs.Published.{Version, without_serials, file_in, file_at, without_file, without_file_in}
 use Rattle.meaning.specs.Room.{has_serial}
-use Rattle.meaning.specs.Runs.{AreDistinct}
+use Rattle.meaning.specs.Runs.{HaveDistinctSerials}
 use Rattle.meaning.proofs.MapLaws.{same_or_other, get-insert_same, get-insert_other, get-remove_other}
 use Rattle.meaning.proofs.MapLists.{map_values-insert, map_values-remove}
 use Rattle.meaning.proofs.MapSums.{sum-insert_over, sum-remove, sum-values}
@@ -86,7 +86,8 @@ module _ (files : Files Version) (place : Place) (x : Version) (at : file_at fil
       let now = sum-values (with_serial k) new.files in
       omega arith
 
-  pub distinct_left : AreDistinct (versions_in files) → AreDistinct (versions_in (without_file files place))
+  pub distinct_left : HaveDistinctSerials (versions_in files)
+      → HaveDistinctSerials (versions_in (without_file files place))
   distinct_left distinct = few_distinct (versions_in (without_file files place))
       (λ k. let left = copies_left k in let few = distinct_few (versions_in files) distinct k in omega arith)
 
@@ -99,7 +100,7 @@ module _ (files : Files Version) (place : Place) (x : Version) (at : file_at fil
       copies_none (versions_in (without_file files place)) k (omega arith)
 
   -- and that of the file is none's any more
-  pub serial_gone : AreDistinct (versions_in files)
+  pub serial_gone : HaveDistinctSerials (versions_in files)
       → has_serial x.serial (versions_in (without_file files place)) ≡ false
   serial_gone distinct =
       let left = copies_left x.serial in

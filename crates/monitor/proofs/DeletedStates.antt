@@ -27,7 +27,7 @@ use Rattle.volume.specs.Removing.{files_removed, RemovesFile}
 use Rattle.volume.specs.Rest.{RestsAt, KeepsRead, KeepsEachWritten}
 use Rattle.volume.specs.declared.live.LiveVersion.{LiveVersion}
 use Rattle.volume.specs.declared.pending.PendingVersion.{PendingVersion}
-use Rattle.monitor.specs.Dropping.{Leaves}
+use Rattle.monitor.specs.Dropping.{OnlyDrops}
 use Rattle.monitor.specs.Serving.{AreKeyed, ArePlaced, AreReading, IsState}
 use Rattle.monitor.specs.Sides.{UnderKeys, state_of}
 use Rattle.monitor.specs.declared.job.Job.{Job}
@@ -124,7 +124,7 @@ module _ (d d' : DiskState) (c b c' : VolumeCore) (jobs : List (Option Job)) (n 
       (at : file_at s.files place ≡ Some x) (free : claims c.pending place ≡ false)
       (rests : RestsAt d' (files_removed (without_serials s.files) ppn name))
       (readers : KeepsRead d.contents d'.contents c) (writers : KeepsEachWritten d.contents d'.contents c)
-      (leaves : Leaves b c') where
+      (leaves : OnlyDrops b c') where
     abbrev w : UnderKeys
     w = state.under
 

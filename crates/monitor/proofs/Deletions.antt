@@ -34,7 +34,7 @@ use Rattle.volume.specs.Claims.{claims}
 use Rattle.volume.specs.Known.{KnownDirectory}
 use Rattle.volume.specs.Live.{VolumeCore}
 use Rattle.volume.specs.Removing.{files_removed, RemovesFile}
-use Rattle.volume.specs.Rest.{IsSound, RestsAt, StandsForEither, KeepsRead, KeepsEachWritten}
+use Rattle.volume.specs.Rest.{IsSoundCore, RestsAt, StandsForOneOf, KeepsRead, KeepsEachWritten}
 use Rattle.volume.specs.declared.error.CallError.{CallError}
 use Rattle.volume.specs.declared.error.CallError.TheVariants.{Refused, Device, Failed, NoMemory}
 use Rattle.volume.specs.declared.live.LiveVersion.{LiveVersion}
@@ -70,7 +70,7 @@ use Rattle.monitor.proofs.RenameRows.{row_done}
 pub record Deletes (d d' : DiskState) (c b : VolumeCore) (Same : Type 0) (failed failed' : Bool) (ppn : ℕ)
     (name : FileName) (result : Result (Unit {0}) CallError) : Type 0 where
   pub crash : d'.honest → (f : Files File) → RestsAt d f
-      → LeavesOnly d d' (StandsForEither d.size f (files_removed f ppn name))
+      → LeavesOnly d d' (StandsForOneOf d.size f (files_removed f ppn name))
   pub done : d'.honest → (f : Files File) → RestsAt d f → OnOk result (RestsAt d' (files_removed f ppn name))
   pub removed : OnOk result ((key : ℕ) × (v : LiveVersion) × (puts : List Put)
       × RemovesFile d.size c b ppn name key v puts)
@@ -91,7 +91,7 @@ pub record Deletes (d d' : DiskState) (c b : VolumeCore) (Same : Type 0) (failed
   pub same : SameDisk d d'
 
 -- A file that is there is not refused.
-not_refused : (d : DiskState) (c : VolumeCore) (s : State) → IsSound d c false
+not_refused : (d : DiskState) (c : VolumeCore) (s : State) → IsSoundCore d c false
     → Holds d c.known (without_serials s.files) → (ppn : ℕ) (name : FileName) (x : Version)
     → file_at s.files (place_of ppn name) ≡ Some x
     → (result : Result (Unit {0}) CallError) (code : ErrorCode)
@@ -117,7 +117,7 @@ module _ {D : Type 0} (state : D → DiskState) (only_now : (disk : D) (contents
     (c b c' : VolumeCore) (failed failed' : Bool) (alive : failed ≡ false) (job : Job) (number e : ℕ)
     (channel : Channel) (input : Input) (is_open : slot job.channels number ≡ Some channel)
     (side : channel.input ≡ Some input) (free : channel.output ≡ None) (inside : lies_outside job.core e 4 ≡ false)
-    (zero : slice_index job.core e ≡ 0) (sound : IsSound (state disk) c false) (placed : ArePlaced c)
+    (zero : slice_index job.core e ≡ 0) (sound : IsSoundCore (state disk) c false) (placed : ArePlaced c)
     (unclaimed : claims c.pending (place_of input.ppn input.file) ≡ false)
     (may : (state disk).honest → (s : State) → IsKnown (state disk) c s → (w : UnderKeys)
     → change_answer s (job_of w job) e (place_of input.ppn input.file) ≡ replies.Done)
@@ -187,7 +187,7 @@ module _ {D : Type 0} (state : D → DiskState) (only_now : (disk : D) (contents
 
   crashes : CallCrashes d d' c jobs n (Rename number e) moment
   crashes honest s state_s =
-      leaves_weaker d d' (StandsForEither d.size (without_serials s.files) _) _
+      leaves_weaker d d' (StandsForOneOf d.size (without_serials s.files) _) _
       (is.crash honest (without_serials s.files) state_s.files)
       (λ contents. ⊎_elim (λ was. inl was)
       (λ new. inr (

@@ -13,9 +13,9 @@ use Rattle.volume.specs.Known.{Known}
 use Rattle.volume.specs.Live.{VolumeCore, pending_at, is_creation}
 use Rattle.volume.specs.Live.{slot as version_at}
 use Rattle.volume.specs.declared.pending.PendingVersion.{PendingVersion}
-use Rattle.monitor.specs.Dropping.{Leaves, Closes}
+use Rattle.monitor.specs.Dropping.{OnlyDrops, Closes}
 use Rattle.monitor.specs.Readers.{readers_of}
-use Rattle.monitor.specs.Rows.{Keeps}
+use Rattle.monitor.specs.Rows.{KeepsSides}
 use Rattle.monitor.specs.Serving.{present, IsSide, AreKeyed}
 use Rattle.monitor.specs.Sides.{side_of, sides_in, sides, keys_of, reader_of, pins_of, reset_job}
 use Rattle.monitor.specs.declared.channel.Channel.{Channel}
@@ -36,7 +36,7 @@ same_or_not {P} k key same other = by (k == key) refl
 
 -- What there is stays.
 
-pub leaves_none : (c : VolumeCore) → Leaves c c
+pub leaves_none : (c : VolumeCore) → OnlyDrops c c
 leaves_none c = record {
   stay = λ key p at. at;
   live = λ key v at. (v.readers, omega arith, at);
@@ -44,7 +44,7 @@ leaves_none c = record {
   known = refl;
 }
 
-pub leaves_on : (a b c : VolumeCore) → Leaves a b → Leaves b c → Leaves a c
+pub leaves_on : (a b c : VolumeCore) → OnlyDrops a b → OnlyDrops b c → OnlyDrops a c
 leaves_on a b c first second = record {
   stay = λ key p at. first.stay key p (second.stay key p at);
   live = λ key v at.
@@ -186,7 +186,7 @@ job_keyed pending jobs n x keyed same = record {
 
 -- The job of a slot is another one, and versions have come and gone with its output sides.
 pub keeps_keyed : (pending pending' : List (Option PendingVersion)) (jobs : List (Option Job)) (n : ℕ) (job job' : Job)
-    → AreKeyed pending jobs → slot jobs n ≡ Some job → Keeps pending pending' job job'
+    → AreKeyed pending jobs → slot jobs n ≡ Some job → KeepsSides pending pending' job job'
     → AreKeyed pending' (slice_set jobs n (Some job'))
 keeps_keyed pending pending' jobs n job job' keyed there keeps = record {
   once = λ key.

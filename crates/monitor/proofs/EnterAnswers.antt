@@ -14,7 +14,7 @@ use Rattle.meaning.specs.declared.call.Reply.{Reply}
 use Rattle.meaning.specs.declared.call.Reply.TheVariants.{Done}
 use Rattle.retrieval.specs.declared.prime.Prime.{Prime}
 use Rattle.volume.specs.Live.{VolumeCore}
-use Rattle.volume.specs.Rest.{IsSound, RestsAt}
+use Rattle.volume.specs.Rest.{IsSoundCore, RestsAt}
 use Rattle.monitor.specs.Entering.{IsEntering, IsEnterAnswer}
 use Rattle.monitor.specs.Finding.{IsKnown, found_in, protection_for}
 use Rattle.monitor.specs.Serving.{pack_of, AreKeyed, AreReading, Serves}
@@ -51,7 +51,7 @@ module _ (d d' : DiskState) (map map' : VolumeCore) (jobs jobs' : List (Option J
       (other_reading d map false jobs jobs' n job job' ch e moment reply there set k.1 not keyed reading))
       (is_done reply)
 
-  pub enter_answered : (failed : Bool) → failed ≡ false → IsSound d map false → d.honest → d'.honest
+  pub enter_answered : (failed : Bool) → failed ≡ false → IsSoundCore d map false → d.honest → d'.honest
       → moment.date ≤ 4095
       → ((s : State) → IsKnown d map s → (w : UnderKeys)
       → IsEnterAnswer (pack_of d) s (job_of w job) (job_of w job') (channel_at (job_of w job) ch) e reply)

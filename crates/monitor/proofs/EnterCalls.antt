@@ -27,14 +27,14 @@ use Rattle.retrieval.specs.declared.prime.Prime.{Prime}
 use Rattle.volume.specs.Beginning.{begun, no_words, is_absent}
 use Rattle.volume.specs.Live.{VolumeCore, pending_at, is_creation}
 use Rattle.volume.specs.Places.{prime_at}
-use Rattle.volume.specs.Rest.{IsSound, RestsAt}
+use Rattle.volume.specs.Rest.{IsSoundCore, RestsAt}
 use Rattle.volume.specs.declared.pending.PendingVersion.{PendingVersion}
 use Rattle.volume.proofs.Answering.{rest_holds}
 use Rattle.volume.proofs.Beginnings.{named_none, begun_bare}
 use Rattle.monitor.specs.Entering.{IsEntering, IsEnterAnswer}
 use Rattle.monitor.specs.Entering as entering
 use Rattle.monitor.specs.Finding.{IsKnown, found_file, found_in, protection_for, file_begun}
-use Rattle.monitor.specs.Rows.{Keeps}
+use Rattle.monitor.specs.Rows.{KeepsSides}
 use Rattle.monitor.specs.Serving.{pack_of, present, IsSide, AreKeyed, IsWriting, AreReading, IsState, Serves}
 use Rattle.monitor.specs.Sides.{Writing, UnderKeys, side_of, kind_of, input_of, output_of, channel_of, job_of, state_of}
 use Rattle.monitor.specs.declared.channel.Channel.{Channel}
@@ -98,10 +98,10 @@ module _ (d : DiskState) (map map' : VolumeCore) (jobs jobs' : List (Option Job)
   abbrev out : Output
   out = record { pending = record { key = key }; kind = enters.kind; next = 1 }
 
-  keeps : Keeps map.pending map'.pending job job'
-  keeps = subst (Keeps map.pending map'.pending job) (sym enters.job_is) (record {
+  keeps : KeepsSides map.pending map'.pending job job'
+  keeps = subst (KeepsSides map.pending map'.pending job) (sym enters.job_is) (record {
     once = λ k.
-        let moved = count-channel k job.channels ch (Some (entering.entered c key enters.kind))
+        let moved = count-channel k job.channels ch (Some (entering.side_entered c key enters.kind))
         (λ none. absurd (none_some (sym none ∙ enters.there))) in
         let was = ap (λ o. count k (option_to_list (side_of o))) enters.there
         ∙ ap (λ o. count k (option_to_list o)) enters.free in
@@ -109,14 +109,15 @@ module _ (d : DiskState) (map map' : VolumeCore) (jobs jobs' : List (Option Job)
         omega arith;
     known = λ k p at. same_or_not k key (λ same. inl (ap (pending_at map.pending) same ∙ enters.begun.vacant))
         (λ apart. inr (p, sym (enters.begun.others k apart) ∙ at, refl));
-    each = λ all. each-channel (IsSide map'.pending) job.channels ch (Some (entering.entered c key enters.kind)) all (
-      record {
-        starts = omega arith;
-        kind = λ p at. ap is_creation (some_same (sym at ∙ enters.begun.here)) ∙ enters.begun.is_new
-            ∙ creates_new (is_none enters.begun.old) ∙ ap (λ k. is_create (kind_of k)) (sym enters.kind_is);
-      },
-      tt,
-    );
+    each = λ all. each-channel (IsSide map'.pending) job.channels ch
+        (Some (entering.side_entered c key enters.kind)) all (
+          record {
+            starts = omega arith;
+            kind = λ p at. ap is_creation (some_same (sym at ∙ enters.begun.here)) ∙ enters.begun.is_new
+                ∙ creates_new (is_none enters.begun.old) ∙ ap (λ k. is_create (kind_of k)) (sym enters.kind_is);
+          },
+          tt,
+        );
   })
     where
       more : (k : ℕ) → present (pending_at map'.pending k) ≡ present (pending_at map.pending k) + times k (key ∷ [])
@@ -136,7 +137,7 @@ module _ (d : DiskState) (map map' : VolumeCore) (jobs jobs' : List (Option Job)
   enter_reading = subst (AreReading map'.live) (sym set) (keeps_reading map.live map'.live jobs n job job' reading there
       (reading_entered map map' job job' ch e moment c key prime enters))
 
-  module _ (sound : IsSound d map false) (honest : d.honest) (timely : moment.date ≤ 4095)
+  module _ (sound : IsSoundCore d map false) (honest : d.honest) (timely : moment.date ≤ 4095)
       (row : (s : State) → IsKnown d map s → (w : UnderKeys)
       → IsEnterAnswer (pack_of d) s (job_of w job) (job_of w job') (channel_at (job_of w job) ch) e Done)
       (protection : (files : Files File) → RestsAt d files
@@ -228,10 +229,10 @@ module _ (d : DiskState) (map map' : VolumeCore) (jobs jobs' : List (Option Job)
           ∙ ap (λ (x : Writing). (
             Done,
             with_channel (record (job_of w job) { core = with_attributes 1 job.core e x.file }) ch
-                (Some (channel_of w (entering.entered c key enters.kind))),
+                (Some (channel_of w (entering.side_entered c key enters.kind))),
           )) (with_same state.under key new_writing)
           ∙ ap (λ j. (Done, j)) (channel_set w (record job { core = with_attributes 1 job.core e (file_begun prime) })
-          ch (Some (entering.entered c key enters.kind)) ∙ ap (job_of w) (sym enters.job_is)))
+          ch (Some (entering.side_entered c key enters.kind)) ∙ ap (job_of w) (sym enters.job_is)))
           ∙ ap (λ x. (Done, x)) (job_set s.files w jobs n job' ∙ ap (state_of s.files w) (sym set))
 
       -- what is written under the new key

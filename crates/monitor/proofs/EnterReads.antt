@@ -7,7 +7,7 @@ use Rattle.meaning.proofs.MapLaws.{some_none}
 use Rattle.retrieval.specs.declared.prime.Prime.{Prime}
 use Rattle.volume.specs.Live.{VolumeCore}
 use Rattle.volume.specs.declared.live.LiveVersion.{LiveVersion}
-use Rattle.monitor.specs.Entering.{IsEntering, entered}
+use Rattle.monitor.specs.Entering.{IsEntering, side_entered}
 use Rattle.monitor.specs.Rows.{KeepsReading}
 use Rattle.monitor.specs.Serving.{IsReader}
 use Rattle.monitor.specs.Sides.{reader_of}
@@ -58,4 +58,4 @@ pub reading_entered : (map map' : VolumeCore) (job job' : Job) (number e : ℕ) 
 reading_entered map map' job job' number e moment c key prime enters =
     subst (λ vs. KeepsReading map.live vs job job') (sym enters.begun.live)
     (subst (KeepsReading map.live map.live job) (sym enters.job_is)
-    (reading_unread map.live job _ number c (entered c key enters.kind) enters.there enters.unread enters.unread))
+    (reading_unread map.live job _ number c (side_entered c key enters.kind) enters.there enters.unread enters.unread))

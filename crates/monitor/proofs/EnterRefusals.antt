@@ -16,7 +16,7 @@ use Rattle.meaning.specs.declared.call.Event.TheVariants.{Call as Calls}
 use Rattle.meaning.specs.declared.call.Reply.{Reply}
 use Rattle.meaning.specs.declared.call.Reply.TheVariants.{Done}
 use Rattle.volume.specs.Live.{VolumeCore}
-use Rattle.volume.specs.Rest.{IsSound}
+use Rattle.volume.specs.Rest.{IsSoundCore}
 use Rattle.monitor.specs.Entering.{IsEnterAnswer}
 use Rattle.monitor.specs.Finding.{IsKnown}
 use Rattle.monitor.specs.Serving.{pack_of, AreKeyed, AreReading, IsState, Serves}
@@ -44,7 +44,7 @@ module _ (d : DiskState) (map : VolumeCore) (failed : Bool) (jobs jobs' : List (
   other_reading = subst (AreReading map.live) (sym set)
       (keeps_reading map.live map.live jobs n job job' reading there (reading_same map map job job' refl kept))
 
-  module _ (sound : IsSound d map false) (honest : d.honest) (timely : moment.date ≤ 4095)
+  module _ (sound : IsSoundCore d map false) (honest : d.honest) (timely : moment.date ≤ 4095)
       (row : (s : State) → IsKnown d map s → (w : UnderKeys)
       → IsEnterAnswer (pack_of d) s (job_of w job) (job_of w job') (channel_at (job_of w job) ch) e reply)
       (s : State) (state : IsState d map jobs s) where

@@ -32,7 +32,7 @@ use Rattle.retrieval.specs.declared.prime.Prime.{Prime}
 use Rattle.volume.specs.Beginning.{begin_cost, entries_with, is_absent, IsBeginRefusal, IsDirectoryOf}
 use Rattle.volume.specs.Known.{KnownDirectory, Before, IsNamed, IsWholeDirectory}
 use Rattle.volume.specs.Live.{VolumeCore, is_create}
-use Rattle.volume.specs.Rest.{IsSound}
+use Rattle.volume.specs.Rest.{IsSoundCore}
 use Rattle.volume.specs.declared.error.CallError.{CallError}
 use Rattle.volume.specs.declared.error.CallError.TheVariants as errors
 use Rattle.volume.specs.declared.pending.Kind.{Kind as VersionKind}
@@ -98,7 +98,7 @@ kind_is name who owner is_zero claimed D kind ok (Some v) at =
           (sym (ap (λ f. allowed (found_file D.protection f) who owner is_zero claimed) shown) ∙ ok),
     )
 
-module _ (d : DiskState) (map : VolumeCore) (s : State) (known : IsKnown d map s) (sound : IsSound d map false)
+module _ (d : DiskState) (map : VolumeCore) (s : State) (known : IsKnown d map s) (sound : IsSoundCore d map false)
     (honest : d.honest) where
   holds : Holds d map.known (without_serials s.files)
   holds = rest_holds d map false sound honest refl (without_serials s.files) known.files

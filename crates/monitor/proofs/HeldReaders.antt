@@ -9,10 +9,10 @@ use Rattle.std.proofs.lemmas.List.{map-append}
 use Rattle.meaning.specs.Jobs.{State}
 use Rattle.meaning.specs.Maps.{times}
 use Rattle.meaning.specs.Published.{Version, with_protection}
-use Rattle.meaning.specs.Room.{held_by, held, version_of, current, has_serial}
+use Rattle.meaning.specs.Room.{held_by, held_versions, version_of, current_versions, has_serial}
 use Rattle.meaning.specs.Runs.{IsFresh}
 use Rattle.meaning.proofs.MapSums.{times_other}
-use Rattle.monitor.specs.Readers.{IsReadAs}
+use Rattle.monitor.specs.Readers.{IsHeldAs}
 use Rattle.monitor.specs.Sides.{UnderKeys, reader_of, readers_in, readers, pins_of, input_of, channel_of, job_of}
 use Rattle.monitor.specs.Sides.{jobs_of}
 use Rattle.monitor.specs.declared.channel.Channel.{Channel}
@@ -51,7 +51,7 @@ module _ (under : UnderKeys) where
   held_are (j ∷ jobs) = (λ i. job_holds j i ++ held_are jobs i) ∙ sym (joined (readers_in j) (readers jobs))
 
   -- but for their protection they are the versions under the keys
-  pub shown_as : (is : List Input) → AllZip IsReadAs (shown is) (map under.read (pins_of is))
+  pub shown_as : (is : List Input) → AllZip IsHeldAs (shown is) (map under.read (pins_of is))
   shown_as [] = tt
   shown_as (i ∷ is) = (record { serial = refl; words = refl }, shown_as is)
 
@@ -87,10 +87,11 @@ has_pinned read key (p ∷ pins) some = by ((read p).serial == (read key).serial
 pub fresh_read : (s : State) (under : UnderKeys) (jobs : List (Option Job)) → s.jobs ≡ jobs_of under jobs → (serial : ℕ)
     → IsFresh s serial → (key : ℕ) → 0 < times key (pins_of (readers jobs)) → serial ≡ (under.read key).serial → ⊥
 fresh_read s under jobs are serial fresh key some same =
-    let held_is : held s ≡ shown under (readers jobs) = ap (flat_map held_by) are ∙ held_are under jobs in
+    let held_is : held_versions s ≡ shown under (readers jobs) = ap (flat_map held_by) are ∙ held_are under jobs in
     let has = has_pinned under.read key (pins_of (readers jobs)) some in
     let none : has_serial serial (map under.read (pins_of (readers jobs)))
     ≡ false = sym (shown_serials under serial (readers jobs))
-    ∙ subst (λ vs. has_serial serial vs ≡ false) held_is (has_last serial (current s) (held s) fresh) in
+    ∙ subst (λ vs. has_serial serial vs ≡ false) held_is
+    (has_last serial (current_versions s) (held_versions s) fresh) in
     both_ways (has_serial serial (map under.read (pins_of (readers jobs)))) none
     (subst (λ k. has_serial k (map under.read (pins_of (readers jobs))) ≡ true) (sym same) has)

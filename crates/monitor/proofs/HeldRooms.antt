@@ -13,7 +13,7 @@ use Rattle.meaning.proofs.MapSums.{times_head, times_other}
 use Rattle.volume.specs.Live.{slot, held_cost}
 use Rattle.volume.specs.declared.live.LiveVersion.{LiveVersion}
 use Rattle.volume.proofs.LiveTotals.{total_updated}
-use Rattle.monitor.specs.Readers.{readers_of, ArePinned, AreBooked, IsReadAs}
+use Rattle.monitor.specs.Readers.{readers_of, ArePinned, AreBooked, IsHeldAs}
 use Rattle.monitor.proofs.Dropped.{same_or_not}
 use Rattle.monitor.proofs.SideSums.{emptied_at, emptied_other}
 
@@ -234,13 +234,13 @@ held_once live now read pins pinned booked =
 
 -- Versions with the same serials and as many words cost the same.
 
-same_serials : (n : ℕ) (vs ws : List Version) → AllZip IsReadAs vs ws → has_serial n vs ≡ has_serial n ws
+same_serials : (n : ℕ) (vs ws : List Version) → AllZip IsHeldAs vs ws → has_serial n vs ≡ has_serial n ws
 same_serials n [] [] same = refl
 same_serials n [] (w ∷ ws) same = absurd same
 same_serials n (v ∷ vs) [] same = absurd same
 same_serials n (v ∷ vs) (w ∷ ws) same = λ i. (same.0.serial i == n) || same_serials n vs ws same.1 i
 
-same_costs : (vs ws : List Version) → AllZip IsReadAs vs ws → distinct_cost vs ≡ distinct_cost ws
+same_costs : (vs ws : List Version) → AllZip IsHeldAs vs ws → distinct_cost vs ≡ distinct_cost ws
 same_costs [] [] same = refl
 same_costs [] (w ∷ ws) same = absurd same
 same_costs (v ∷ vs) [] same = absurd same
@@ -248,13 +248,13 @@ same_costs (v ∷ vs) (w ∷ ws) same =
     let here = ap (λ n. has_serial n vs) same.0.serial ∙ same_serials w.serial vs ws same.1 in
     λ i. unless (here i) (version_cost (same.0.words i)) + same_costs vs ws same.1 i
 
-behind : (now vs ws : List Version) → AllZip IsReadAs vs ws → AllZip IsReadAs (now ++ vs) (now ++ ws)
+behind : (now vs ws : List Version) → AllZip IsHeldAs vs ws → AllZip IsHeldAs (now ++ vs) (now ++ ws)
 behind [] vs ws same = same
 behind (x ∷ xs) vs ws same = (record { serial = refl; words = refl }, behind xs vs ws same)
 
 -- So it is with versions that are not quite those under the keys.
 pub held_as_once : (live : List (Option LiveVersion)) (now : List Version) (read : ℕ
-    → Version) (pins : List ℕ) (held : List Version) → AllZip IsReadAs held (map read pins)
+    → Version) (pins : List ℕ) (held : List Version) → AllZip IsHeldAs held (map read pins)
     → ArePinned live pins → AreBooked live now read
     → distinct_cost (now ++ held) ≡ distinct_cost now + total held_cost live
 held_as_once live now read pins held same pinned booked = same_costs (now ++ held) (now ++ map read pins)

@@ -7,7 +7,7 @@ use Rattle.meaning.specs.Files.{Files, Directory, Place}
 use Rattle.meaning.specs.Maps.{get, insert, values}
 use Rattle.meaning.specs.Published.{Version, file_at, with_file, with_file_in}
 use Rattle.meaning.specs.Room.{has_serial}
-use Rattle.meaning.specs.Runs.{AreDistinct}
+use Rattle.meaning.specs.Runs.{HaveDistinctSerials}
 use Rattle.meaning.proofs.MapLaws.{some_same, same_or_other}
 use Rattle.meaning.proofs.MapSums.{sum-values, sum-insert_over, at-le-sum, two-le-sum}
 use Rattle.meaning.proofs.Names.{name_total, name_exact}
@@ -90,7 +90,7 @@ not_there files place x k at none same =
     let zero = none_copies (versions_in files) k none in
     omega arith
 
-module _ (files : Files Version) (distinct : AreDistinct (versions_in files)) where
+module _ (files : Files Version) (distinct : HaveDistinctSerials (versions_in files)) where
   -- where serials are distinct, one place has it
   pub one_at : (p q : Place) (x y : Version) → file_at files p ≡ Some x → file_at files q ≡ Some y → x.serial ≡ y.serial
       → p ≡ q

@@ -40,52 +40,47 @@ dealt_enough (area ∷ areas) words =
     (ap (λ writes. placed area.first (take area.count words) ++ writes) (dealt_enough areas (drop area.count words)))
 
 -- areas that have words each, and none together
-no_area : (areas : List Area) → All (λ area. 0 < area.count) areas → word_count areas ≡ 0 → areas ≡ []
+pub no_area : (areas : List Area) → All (λ area. 0 < area.count) areas → word_count areas ≡ 0 → areas ≡ []
 no_area [] some none = refl
 no_area (area ∷ areas) some none =
     let first : 0 < area.count = All-head (λ area. 0 < area.count) area areas some in
     absurd (omega (arith, first, none))
 
-module _ (listed : Option (List Area)) (found : List Area) (is : listed ≡ Some found) where
-  -- a list that names no words has no area
-  pub names_none : All (λ area. 0 < area.count) found → word_count found ≡ 0 → listed ≡ Some []
-  names_none some none = is ∙ ap Some (no_area found some none)
+-- A list names the same areas whoever asks.
+pub same_areas : (listed : Option (List Area)) (found areas : List Area) → listed ≡ Some found → listed ≡ Some areas
+    → found ≡ areas
+same_areas listed found areas is at = some_same (sym is ∙ at)
 
-  module _ (areas : List Area) (at : listed ≡ Some areas) where
-    same_areas : found ≡ areas
-    same_areas = some_same (sym is ∙ at)
+module _ (areas : List Area) where
+  -- nothing is dealt out to no area
+  pub none_dealt : (core words : List ℕ) → All (λ area. 0 < area.count) areas → word_count areas ≡ 0
+      → core ≡ after_writes core (dealt areas words)
+  none_dealt core words some none =
+      ap (λ xs. after_writes core (dealt xs words)) (sym (no_area areas some none))
 
-    -- nothing is dealt out to no area
-    pub none_dealt : (core words : List ℕ) → All (λ area. 0 < area.count) found → word_count found ≡ 0
-        → core ≡ after_writes core (dealt areas words)
-    none_dealt core words some none =
-        ap (λ xs. after_writes core (dealt xs words)) (sym (no_area found some none) ∙ same_areas)
+  -- what was read is all that can be dealt out
+  pub all_dealt : (core core' words read : List ℕ) → read ≡ take (word_count areas) words
+      → core' ≡ after_writes core (dealt areas read) → core' ≡ after_writes core (dealt areas words)
+  all_dealt core core' words read front moved =
+      moved ∙ ap (λ xs. after_writes core (dealt areas xs)) front
+      ∙ ap (after_writes core) (dealt_enough areas words)
 
-    -- what was read is all that can be dealt out
-    pub all_dealt : (core core' words read : List ℕ) → read ≡ take (word_count found) words
-        → core' ≡ after_writes core (dealt found read) → core' ≡ after_writes core (dealt areas words)
-    all_dealt core core' words read front moved =
-        moved ∙ ap (λ xs. after_writes core (dealt found xs)) front
-        ∙ ap (after_writes core) (dealt_enough found words)
-        ∙ ap (λ xs. after_writes core (dealt xs words)) same_areas
+  -- as many words as the areas and the body have
+  pub as_many : (body : List ℕ) (words block n : ℕ) → length body ≡ words
+      → n ≡ min (word_count areas) (words - block_start block)
+      → n ≡ min (word_count areas) (length (words_from body block))
+  as_many body words block n long is =
+      is ∙ ap (λ m. min (word_count areas) (m - block_start block)) (sym long)
+      ∙ ap (min (word_count areas)) (sym (length-drop (block_start block) body))
 
-    -- as many words as the areas and the body have
-    pub as_many : (body : List ℕ) (words block n : ℕ) → length body ≡ words
-        → n ≡ min (word_count found) (words - block_start block)
-        → n ≡ min (word_count areas) (length (words_from body block))
-    as_many body words block n long is =
-        is ∙ ap (λ m. min (word_count found) (m - block_start block)) (sym long)
-        ∙ ap (min (word_count found)) (sym (length-drop (block_start block) body))
-        ∙ ap (λ xs. min (word_count xs) (length (words_from body block))) same_areas
+  pub no_more : (words block n : ℕ) → n ≡ min (word_count areas) (words - block_start block) → n ≤ word_count areas
+  no_more words block n is = omega (arith, is)
 
-    pub no_more : (words block n : ℕ) → n ≡ min (word_count found) (words - block_start block) → n ≤ word_count areas
-    no_more words block n is = subst (λ xs. n ≤ word_count xs) same_areas (omega (arith, is))
-
-    -- a list that names words, and a body that ends before the block
-    pub ends_before : (body : List ℕ) (words block : ℕ) → length body ≡ words → 0 < word_count found
-        → min (word_count found) (words - block_start block) ≡ 0
-        → (0 < word_count areas) × (words_from body block ≡ [])
-    ends_before body words block long some none = (
-      subst (λ xs. 0 < word_count xs) same_areas some,
-      drop_all (block_start block) body (omega (arith, long, some, none)),
-    )
+  -- areas that have words, and a body that ends before the block
+  pub ends_before : (body : List ℕ) (words block : ℕ) → length body ≡ words → 0 < word_count areas
+      → min (word_count areas) (words - block_start block) ≡ 0
+      → (0 < word_count areas) × (words_from body block ≡ [])
+  ends_before body words block long some none = (
+    some,
+    drop_all (block_start block) body (omega (arith, long, some, none)),
+  )

@@ -11,7 +11,7 @@ use Rattle.volume.specs.declared.live.LiveVersion.{LiveVersion}
 use Rattle.monitor.specs.Changing.{input_closed, with_input_closed}
 use Rattle.monitor.specs.Dropping.{Closes}
 use Rattle.monitor.specs.Readers.{readers_of}
-use Rattle.monitor.specs.Rows.{Keeps, KeepsReading}
+use Rattle.monitor.specs.Rows.{KeepsSides, KeepsReading}
 use Rattle.monitor.specs.Sides.{reader_of, readers_in, pins_of}
 use Rattle.monitor.specs.declared.channel.Channel.{Channel}
 use Rattle.monitor.specs.declared.input.Input.{Input}
@@ -40,7 +40,7 @@ module _ (job : Job) (number : ℕ) (channel : Channel) (there : slot job.channe
   module _ (c between c' : VolumeCore) (same : between.pending ≡ c.pending)
       (readers : (key : ℕ) → readers_of (version_at between.live key) ≡ readers_of (version_at c.live key))
       (closed : Closes between c' [] pins) (pending : c'.pending ≡ between.pending) where
-    keeps : Keeps between.pending c'.pending job (with_input_closed job number channel)
+    keeps : KeepsSides between.pending c'.pending job (with_input_closed job number channel)
     keeps = keeps_closed between c' job (with_input_closed job number channel) number channel there
         (Some (input_closed channel)) job.core refl [] pins closed (λ key. omega arith) (λ all. all)
 
@@ -55,7 +55,7 @@ module _ (job : Job) (number : ℕ) (channel : Channel) (there : slot job.channe
     input_behind = record {
       pending = pending;
       known = closed.leaves.known;
-      keeps = subst (λ ps. Keeps ps c'.pending job (with_input_closed job number channel)) same keeps;
+      keeps = subst (λ ps. KeepsSides ps c'.pending job (with_input_closed job number channel)) same keeps;
       reads = record {
         once = λ key. let before = readers key in let moved = reads.once key in omega arith;
         each = reads.each;

@@ -6,7 +6,7 @@ use Rattle.meaning.specs.Jobs.{State}
 use Rattle.meaning.specs.Published.{without_serials, same_place}
 use Rattle.meaning.specs.Room.{outputs, is_claimed}
 use Rattle.volume.specs.Live.{VolumeCore}
-use Rattle.volume.specs.Rest.{IsSound}
+use Rattle.volume.specs.Rest.{IsSoundCore}
 use Rattle.volume.proofs.Answering as volume
 use Rattle.volume.specs.Claims.{claims_at, claims}
 use Rattle.monitor.specs.Finding.{IsKnown}
@@ -22,7 +22,7 @@ module _ (d : DiskState) (map : VolumeCore) (jobs : List (Option Job)) (s : Stat
       (sum_is d map jobs s state (λ o. one_if (same_place o.place place)) (λ v. one_if (claims_at place v)) refl
       (λ o p at side. ap (λ l. one_if (same_place l place)) (state.versions o.pending.key p at).place))
 
-  pub known : IsSound d map false → d.honest → IsKnown d map s
+  pub known : IsSoundCore d map false → d.honest → IsKnown d map s
   known sound honest =
       let holds = volume.rest_holds d map false sound honest refl (without_serials s.files) state.files in
       record {

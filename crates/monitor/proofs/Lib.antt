@@ -15,6 +15,7 @@ pub mod Slots
 pub mod Resetting
 pub mod Starts
 pub mod CoreWords
+pub mod Depositing
 pub mod Calling
 pub mod Opens
 pub mod RingsMade

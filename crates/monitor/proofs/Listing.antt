@@ -17,7 +17,7 @@ use Rattle.meaning.specs.declared.call.Reply.{Reply}
 use Rattle.meaning.specs.declared.call.Reply.TheVariants as replies
 use Rattle.meaning.proofs.Names.{name_total}
 use Rattle.meaning.proofs.MapLists.{get-map_values, entries-map_values, keys-map_values}
-use Rattle.volume.specs.Queries.{line, protection_answer, IsListRefusal}
+use Rattle.volume.specs.Queries.{line, protection_answer, IsListError}
 use Rattle.volume.specs.declared.error.CallError.{CallError}
 use Rattle.volume.specs.declared.error.CallError.TheVariants.{Refused, Device, NoMemory, Failed}
 use Rattle.monitor.specs.Lists.{reply_of}
@@ -120,7 +120,7 @@ module _ (s : State) (jobs : List (Option Job)) (n owner : ℕ) (job : Job) (job
 
     -- The directory is there and may be listed, and the volume hasn't failed: then only memory was wanting.
     pub unlisted : (error : CallError) (reply : Reply) → may_look (directory_digit protection job.ppn owner) ≡ true
-        → IsListRefusal error → reply ≡ reply_of error
+        → IsListError error → reply ≡ reply_of error
         → (error ≡ Refused NoDirectory → get (without_serials s.files) owner ≡ None) → (error ≡ Failed → ⊥)
         → IsAnswer (Err reply) (list s n owner)
     unlisted (Refused code) reply may only is none serves = absurd (has_one (none (ap Refused only)))

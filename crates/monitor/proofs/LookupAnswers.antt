@@ -28,7 +28,7 @@ use Rattle.volume.specs.Known.{Known}
 use Rattle.volume.specs.Live.{as_known, VolumeCore, slot}
 use Rattle.volume.specs.Pins.{IsVersionOf, IsFilePinned, IsPinAnswer}
 use Rattle.volume.specs.Queries.{protection_answer, IsShown, IsFileAnswer, IsLookAnswer}
-use Rattle.volume.specs.Rest.{IsSound}
+use Rattle.volume.specs.Rest.{IsSoundCore}
 use Rattle.volume.specs.declared.error.CallError.{CallError}
 use Rattle.volume.specs.declared.file_facts.FileFacts.{FileFacts}
 use Rattle.volume.specs.declared.handles.Pin.{Pin}
@@ -164,7 +164,7 @@ not_refused contents live name error None file answer is = some_none (sym is)
 not_refused contents live name error (Some d) file answer is = let there = subst
     (IsFilePinned contents live (Err error)) is answer in cc there.1
 
-module _ (d : DiskState) (map : VolumeCore) (s : State) (known : IsKnown d map s) (sound : IsSound d map false)
+module _ (d : DiskState) (map : VolumeCore) (s : State) (known : IsKnown d map s) (sound : IsSoundCore d map false)
     (honest : d.honest) (w : UnderKeys) (job : Job) (c : machine.Channel) (e : ℕ) (free : c.output
     ≡ None) (inside : lies_outside job.core e 4 ≡ false) where
   answer_is : (place : Place) → lookup_answer s (job_of w job) c e place

@@ -23,9 +23,9 @@ use Rattle.meaning.specs.declared.call.Reply.TheVariants.{Done}
 use Rattle.meaning.proofs.MapSums.{times_head}
 use Rattle.meaning.proofs.SlotLaws.{filter_map-set}
 use Rattle.volume.specs.Live.{VolumeCore, pending_at}
-use Rattle.volume.specs.Rest.{IsSound}
+use Rattle.volume.specs.Rest.{IsSoundCore}
 use Rattle.monitor.specs.Finding.{IsKnown}
-use Rattle.monitor.specs.LookingUp.{looking, IsLookingUp, IsFound, IsLookupRow}
+use Rattle.monitor.specs.LookingUp.{looking, IsLookingUp, IsLookedUp, IsLookupRow}
 use Rattle.monitor.specs.Readers.{readers_of, AreRead}
 use Rattle.monitor.specs.Rows.{KeepsReading}
 use Rattle.monitor.specs.Serving.{pack_of, AreKeyed, AreReading, IsState, Serves}
@@ -106,8 +106,8 @@ module _ (d : DiskState) (map between map' : VolumeCore) (jobs jobs' : List (Opt
     (there : slot jobs n ≡ Some job) (set : jobs' ≡ slice_set jobs n (Some job'))
     (looks : IsLookingUp map between map' job job' ch e c input) (keyed : AreKeyed map'.pending jobs')
     (reading : AreReading map'.live jobs') where
-  module _ (sound : IsSound d map false) (timely : moment.date ≤ 4095) (s : State) (state : IsState d map jobs s)
-      (known : IsKnown d map s) (found : IsFound d.contents between.live s job job' e input)
+  module _ (sound : IsSoundCore d map false) (timely : moment.date ≤ 4095) (s : State) (state : IsState d map jobs s)
+      (known : IsKnown d map s) (found : IsLookedUp d.contents between.live s job job' e input)
       (row : (s : State) → IsKnown d map s → (w : UnderKeys)
       → IsLookupRow s (job_of w job) (job_of w job') (channel_at (job_of w job) ch) e Done) where
     abbrev key : ℕ
@@ -259,7 +259,7 @@ module _ (d d' : DiskState) (map map' : VolumeCore) (jobs jobs' : List (Option J
     (keeps : KeepsReading map.live map'.live job job')
     (looked : reply ≡ Done → (c : Channel) × (input : Input) × (between : VolumeCore)
     × IsLookingUp map between map' job job' ch e c input × (d'.honest → (s : State) → IsKnown d map s
-    → IsFound d.contents between.live s job job' e input))
+    → IsLookedUp d.contents between.live s job job' e input))
     (kept : (reply ≡ Done → ⊥) → (map' ≡ map) × (job' ≡ record job { core = job'.core })) where
   -- what is written stays with its output sides
   sides_same : sides_in (Some job') ≡ sides_in (Some job)
@@ -277,7 +277,7 @@ module _ (d d' : DiskState) (map map' : VolumeCore) (jobs jobs' : List (Option J
   lookup_reading = subst (AreReading map'.live) (sym set)
       (keeps_reading map.live map'.live jobs n job job' reading there keeps)
 
-  pub lookup_answered : (failed : Bool) → failed ≡ false → IsSound d map false → d'.honest → moment.date ≤ 4095
+  pub lookup_answered : (failed : Bool) → failed ≡ false → IsSoundCore d map false → d'.honest → moment.date ≤ 4095
       → ((s : State) → IsState d map jobs s → IsKnown d map s)
       → ((s : State) → IsKnown d map s → (w : UnderKeys)
       → IsLookupRow s (job_of w job) (job_of w job') (channel_at (job_of w job) ch) e reply)

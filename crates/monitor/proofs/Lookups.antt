@@ -24,7 +24,7 @@ use Rattle.volume.specs.declared.file_facts.FileFacts.{FileFacts}
 use Rattle.volume.specs.declared.live.LiveVersion.{LiveVersion}
 use Rattle.volume.proofs.Publications.{placed_on}
 use Rattle.monitor.specs.Inputs.{HasShortFacts, IsInputOf}
-use Rattle.monitor.specs.LookingUp.{looking, IsHolding, IsLookingUp, IsFound, IsLookupRow}
+use Rattle.monitor.specs.LookingUp.{looking, IsHolding, IsLookingUp, IsLookedUp, IsLookupRow}
 use Rattle.monitor.specs.Readers.{readers_of}
 use Rattle.monitor.specs.Rows.{KeepsReading}
 use Rattle.monitor.specs.Serving.{IsReader, ArePlaced}
@@ -111,7 +111,7 @@ pub is_found : (contents : Contents) (live : List (Option LiveVersion)) (s : Sta
     → IsInputOf contents live s (job_of w job) e input facts
     → ((file : File) → IsShown file facts → HasShortFacts file
     → job'.core ≡ after_writes (with_attributes 1 job.core e file) ((e + 3, size_word (length file.body)) ∷ []))
-    → IsFound contents live s job job' e input
+    → IsLookedUp contents live s job job' e input
 is_found contents live s w job job' e input facts place is put = record {
   version = is.version;
   there = ap (file_at s.files) place ∙ is.there;

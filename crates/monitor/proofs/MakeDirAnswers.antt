@@ -23,11 +23,12 @@ use Rattle.meaning.proofs.SlotLaws.{set-slot}
 use Rattle.volume.specs.Live.{VolumeCore}
 use Rattle.volume.specs.Making.{files_made}
 use Rattle.volume.specs.Places.{prime_at}
-use Rattle.volume.specs.Rest.{IsSound, RestsAt, StandsForEither, KeepsRead, KeepsEachWritten}
-use Rattle.monitor.specs.DirectoryRows.{asked_owner, asked_protection, early_answer, IsAbsent, IsCrowded, IsRefusedBy}
+use Rattle.volume.specs.Rest.{IsSoundCore, RestsAt, StandsForOneOf, KeepsRead, KeepsEachWritten}
+use Rattle.monitor.specs.DirectoryRows.{asked_owner, directory_protection_asked, early_answer}
+use Rattle.monitor.specs.DirectoryRows.{IsAbsent, IsCrowded, IsRefusedBy}
 use Rattle.monitor.specs.DirectoryRows.{IsMakeDir}
 use Rattle.monitor.specs.Events.{CallCrashes, IsIdle}
-use Rattle.monitor.specs.Rows.{Keeps, KeepsReading}
+use Rattle.monitor.specs.Rows.{KeepsSides, KeepsReading}
 use Rattle.monitor.specs.Serving.{pack_of, AreKeyed, AreReading, IsState, Serves}
 use Rattle.monitor.specs.Sides.{state_of}
 use Rattle.monitor.specs.declared.job.Job.{Job}
@@ -80,7 +81,7 @@ idle_same size c Disks Cores job job' e DateRange outcome idle = absurd outcome
 module _ {D : Type 0} (state_in : D → DiskState) (disk disk' : D) (c c' : VolumeCore) (jobs jobs' : List (Option Job))
     (n : ℕ) (job job' : Job) (e : ℕ) (moment : Moment)
     (there : slot jobs n ≡ Some job) (set : jobs' ≡ slice_set jobs n (Some job')) (timely : moment.date
-    ≤ 4095) (sound : IsSound (state_in disk) c false) where
+    ≤ 4095) (sound : IsSoundCore (state_in disk) c false) where
   abbrev d : DiskState
   d = state_in disk
 
@@ -92,7 +93,7 @@ module _ {D : Type 0} (state_in : D → DiskState) (disk disk' : D) (c c' : Volu
 
   -- The sides of channels.
 
-  pub made_keyed : AreKeyed c.pending jobs → Keeps c.pending c'.pending job job' → AreKeyed c'.pending jobs'
+  pub made_keyed : AreKeyed c.pending jobs → KeepsSides c.pending c'.pending job job' → AreKeyed c'.pending jobs'
   made_keyed keyed keeps = subst (AreKeyed c'.pending) (sym set)
       (keeps_keyed c.pending c'.pending jobs n job job' keyed there keeps)
 
@@ -158,7 +159,7 @@ module _ {D : Type 0} (state_in : D → DiskState) (disk disk' : D) (c c' : Volu
   module _ (was : d'.honest → d.honest) (only_now : d.honest → (x : Contents) → d.left_since d.clock x → MayLeave d x)
       (crash : d'.honest → (f : Files File) → RestsAt d f
       → LeavesOnly d d'
-      (StandsForEither d.size f (files_made f (asked_owner job.core e) (asked_protection job.core e)))) where
+      (StandsForOneOf d.size f (files_made f (asked_owner job.core e) (directory_protection_asked job.core e)))) where
     unmoved_crashes : Same → CallCrashes d d' c jobs n (MakeDir e) moment
     unmoved_crashes same = subst (λ x. CallCrashes d (state_in x) c jobs n (MakeDir e) moment) (sym same.0)
         (idle_crashes d c jobs n (MakeDir e) moment only_now)
@@ -166,7 +167,7 @@ module _ {D : Type 0} (state_in : D → DiskState) (disk disk' : D) (c c' : Volu
     made_crashes : job' ≡ job → early_answer job.ppn job.core e ≡ Done → IsAbsent c (asked_owner job.core e)
         → (IsCrowded d.size c → ⊥) → CallCrashes d d' c jobs n (MakeDir e) moment
     made_crashes same early absent fits honest s state =
-        leaves_weaker d d' (StandsForEither d.size (without_serials s.files) _) _
+        leaves_weaker d d' (StandsForOneOf d.size (without_serials s.files) _) _
         (crash honest (without_serials s.files) state.files)
         (λ contents. ⊎_elim (λ was. inl was)
         (λ new. inr (
@@ -225,7 +226,7 @@ module _ {D : Type 0} (state_in : D → DiskState) (disk disk' : D) (c c' : Volu
       pub make_dir_answered : (reply : Reply) → IsMakeDir d.size c Same job job' e reply → IsTrue failed'
           ↔ (reply ≡ Device)
           → ((f : Files File) → RestsAt d f → reply ≡ Done
-          → RestsAt d' (files_made f (asked_owner job.core e) (asked_protection job.core e))) → Leads reply
+          → RestsAt d' (files_made f (asked_owner job.core e) (directory_protection_asked job.core e))) → Leads reply
       make_dir_answered Done (job_is, early, absent, fits) fails done =
           in_state d c failed jobs (λ old. (new : Service) × Serves d' c' failed' jobs' new
           × Answers (pack_of d) old (Calls n (MakeDir e) moment) Done new) serves

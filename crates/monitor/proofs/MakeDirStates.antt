@@ -14,7 +14,7 @@ use Rattle.meaning.specs.Maps.{get, insert, empty}
 use Rattle.meaning.specs.Outcomes.{settled, refused_at}
 use Rattle.meaning.specs.Published.{Version, without_serials, file_in, file_at}
 use Rattle.meaning.specs.Room.{booked}
-use Rattle.meaning.specs.Runs.{AreDistinct, is_plain}
+use Rattle.meaning.specs.Runs.{HaveDistinctSerials, is_plain}
 use Rattle.meaning.specs.Sound as meaning
 use Rattle.meaning.specs.Step.{step, of_files}
 use Rattle.meaning.specs.declared.call.Call.TheVariants.{MakeDir}
@@ -25,10 +25,11 @@ use Rattle.meaning.proofs.MapLaws.{same_or_other, get-empty, get-insert_same, ge
 use Rattle.volume.specs.Live.{VolumeCore, pending_at, IsWholeCore}
 use Rattle.volume.specs.Making.{files_made}
 use Rattle.volume.specs.Places.{prime_at}
-use Rattle.volume.specs.Rest.{IsSound, RestsAt, KeepsRead, KeepsEachWritten}
+use Rattle.volume.specs.Rest.{IsSoundCore, RestsAt, KeepsRead, KeepsEachWritten}
 use Rattle.volume.specs.declared.pending.PendingVersion.{PendingVersion}
 use Rattle.volume.proofs.Answering.{Holds, rest_holds}
-use Rattle.monitor.specs.DirectoryRows.{asked_owner, asked_protection, early_answer, IsAbsent, IsCrowded, IsRefusedBy}
+use Rattle.monitor.specs.DirectoryRows.{asked_owner, directory_protection_asked, early_answer}
+use Rattle.monitor.specs.DirectoryRows.{IsAbsent, IsCrowded, IsRefusedBy}
 use Rattle.monitor.specs.Serving.{pack_of, AreKeyed, AreReading, IsState}
 use Rattle.monitor.specs.Sides.{UnderKeys, job_of, state_of}
 use Rattle.monitor.specs.declared.job.Job.{Job}
@@ -115,7 +116,7 @@ made_elsewhere files owner v q bare none =
     (same_or_other nat_cmp_total nat_cmp-IsAntisymmetric q.ppn owner)
 
 -- The state that the monitor stands for.
-module _ (d : DiskState) (c : VolumeCore) (jobs : List (Option Job)) (job : Job) (e : ℕ) (sound : IsSound d c false)
+module _ (d : DiskState) (c : VolumeCore) (jobs : List (Option Job)) (job : Job) (e : ℕ) (sound : IsSoundCore d c false)
     (honest : d.honest) (s : State) (state : IsState d c jobs s) where
   abbrev pub before : State
   before = state_of s.files state.under jobs
@@ -134,15 +135,16 @@ module _ (d : DiskState) (c : VolumeCore) (jobs : List (Option Job)) (job : Job)
   files' = insert s.files (asked_owner job.core e) (directory_made (job_of state.under job) e)
 
   pub shown : without_serials files'
-      ≡ files_made (without_serials s.files) (asked_owner job.core e) (asked_protection job.core e)
-  shown = shown_made s.files (asked_owner job.core e) (asked_protection job.core e)
+      ≡ files_made (without_serials s.files) (asked_owner job.core e) (directory_protection_asked job.core e)
+  shown = shown_made s.files (asked_owner job.core e) (directory_protection_asked job.core e)
 
   -- The directory is made.
   module _ (d' : DiskState) (c' : VolumeCore) (jobs' : List (Option Job)) (keyed : AreKeyed c'.pending jobs')
       (reading : AreReading c'.live jobs') (live : c'.live ≡ c.live) (pending : c'.pending ≡ c.pending)
       (primes : (ppn : ℕ) (name : FileName) (m : ℕ) → prime_at c ppn name ≡ Some m → prime_at c' ppn name
       ≡ Some m) (readers : KeepsRead d.contents d'.contents c) (writers : KeepsEachWritten d.contents d'.contents c)
-      (rests : RestsAt d' (files_made (without_serials s.files) (asked_owner job.core e) (asked_protection job.core e)))
+      (rests : RestsAt d' (files_made (without_serials s.files) (asked_owner job.core e)
+      (directory_protection_asked job.core e)))
       (absent : IsAbsent c (asked_owner job.core e)) where
     was : (key : ℕ) (p : PendingVersion) → pending_at c'.pending key ≡ Some p → pending_at c.pending key ≡ Some p
     was key p at = ap (λ ps. pending_at ps key) (sym pending) ∙ at
@@ -151,7 +153,7 @@ module _ (d : DiskState) (c : VolumeCore) (jobs : List (Option Job)) (job : Job)
         → IsState d' c' jobs' (state_of files' state.under jobs')
     made_state still = record {
       files = subst (RestsAt d') (sym shown) rests;
-      serials = subst AreDistinct (sym (versions_made s.files (asked_owner job.core e)
+      serials = subst HaveDistinctSerials (sym (versions_made s.files (asked_owner job.core e)
           (directory_made (job_of state.under job) e) none_in
           (none_there d c s.files held (asked_owner job.core e) absent))) state.serials;
       under = state.under;

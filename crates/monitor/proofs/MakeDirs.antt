@@ -3,30 +3,30 @@ use Rattle.std.proofs.Common.{◌≡◌, ℕ, List, Option, refl, sym, subst, in
 use Rattle.blockdisk.specs.Disk.{DiskState, LeavesOnly}
 use Rattle.meaning.specs.Files.{File, Files}
 use Rattle.volume.specs.Making.{files_made}
-use Rattle.volume.specs.Rest.{RestsAt, StandsForEither}
+use Rattle.volume.specs.Rest.{RestsAt, StandsForOneOf}
 use Rattle.volume.specs.declared.pending.PendingVersion.{PendingVersion}
-use Rattle.monitor.specs.DirectoryRows.{asked_owner, asked_protection}
-use Rattle.monitor.specs.Rows.{Keeps}
+use Rattle.monitor.specs.DirectoryRows.{asked_owner, directory_protection_asked}
+use Rattle.monitor.specs.Rows.{KeepsSides}
 use Rattle.monitor.specs.declared.job.Job.{Job}
 
 -- The directory that is made is the one asked for.
 module _ (d d' : DiskState) (core : List ℕ) (e owner protection : ℕ) (whose : owner ≡ asked_owner core e)
-    (protects : protection ≡ asked_protection core e) (f : Files File) where
+    (protects : protection ≡ directory_protection_asked core e) (f : Files File) where
   abbrev asked : Files File
-  asked = files_made f (asked_owner core e) (asked_protection core e)
+  asked = files_made f (asked_owner core e) (directory_protection_asked core e)
 
   files_are : files_made f owner protection ≡ asked
   files_are i = files_made f (whose i) (protects i)
 
-  pub crash_asked : LeavesOnly d d' (StandsForEither d.size f (files_made f owner protection))
-      → LeavesOnly d d' (StandsForEither d.size f asked)
-  crash_asked leaves = subst (λ g. LeavesOnly d d' (StandsForEither d.size f g)) files_are leaves
+  pub crash_asked : LeavesOnly d d' (StandsForOneOf d.size f (files_made f owner protection))
+      → LeavesOnly d d' (StandsForOneOf d.size f asked)
+  crash_asked leaves = subst (λ g. LeavesOnly d d' (StandsForOneOf d.size f g)) files_are leaves
 
   pub done_asked : RestsAt d' (files_made f owner protection) → RestsAt d' asked
   done_asked rests = subst (RestsAt d') files_are rests
 
 -- a job whose core is another one writes what it wrote
 pub keeps_core : (pending pending' : List (Option PendingVersion)) (job : Job) (core : List ℕ) → pending' ≡ pending
-    → Keeps pending pending' job (record job { core = core })
-keeps_core pending pending' job core same = subst (λ ps. Keeps pending ps job (record job { core = core }))
+    → KeepsSides pending pending' job (record job { core = core })
+keeps_core pending pending' job core same = subst (λ ps. KeepsSides pending ps job (record job { core = core }))
     (sym same) (record { once = λ key. refl; known = λ key p at. inr (p, at, refl); each = λ all. all })

@@ -4,7 +4,7 @@ use Rattle.blockdisk.specs.Disk.{DiskState, LeavesOnly}
 use Rattle.meaning.specs.Crashes.{StandsForEither}
 use Rattle.meaning.specs.Jobs.{State}
 use Rattle.meaning.specs.Room.{Pack}
-use Rattle.meaning.specs.Runs.{Service, Serving, Broken, Answers, Run}
+use Rattle.meaning.specs.Runs.{Service, Serving, Broken, Answers, AnswersAll}
 use Rattle.meaning.specs.declared.call.Event.{Event}
 use Rattle.meaning.specs.declared.call.Reply.{Reply}
 use Rattle.meaning.specs.declared.call.Reply.TheVariants.{Failed}
@@ -20,7 +20,7 @@ last_more old (service ∷ services) after = last_more service services after
 module _ (pack : Pack) where
   -- a run by way of services is a run
   pub through_run : (old : Service) (events : List Event) (replies : List Reply) (services : List Service)
-      → RunsThrough pack old events replies services → Run pack old events replies (last_of old services)
+      → RunsThrough pack old events replies services → AnswersAll pack old events replies (last_of old services)
   through_run old [] [] [] r = refl
   through_run old [] [] (after ∷ services) r = absurd r
   through_run old [] (reply ∷ replies) services r = absurd r

@@ -31,7 +31,7 @@ use Rattle.volume.specs.Beginning.{entries_with, IsDirectoryOf}
 use Rattle.volume.specs.Known.{KnownDirectory}
 use Rattle.volume.specs.Live.{VolumeCore}
 use Rattle.volume.specs.Moving.{HasFile, HasNoRoom}
-use Rattle.volume.specs.Rest.{IsSound}
+use Rattle.volume.specs.Rest.{IsSoundCore}
 use Rattle.volume.specs.declared.error.CallError.{CallError}
 use Rattle.volume.specs.declared.error.CallError.TheVariants.{Refused}
 use Rattle.volume.proofs.Answering.{Holds, rest_holds}
@@ -213,7 +213,7 @@ all_three false false c is = (refl, refl, is)
 above : (n : ℕ) → (n == 0) ≡ false → 0 < n
 above n is = grind (arith, nat_tests)
 
-module _ (d : DiskState) (c : VolumeCore) (s : State) (known : IsKnown d c s) (sound : IsSound d c false)
+module _ (d : DiskState) (c : VolumeCore) (s : State) (known : IsKnown d c s) (sound : IsSoundCore d c false)
     (honest : d.honest) (job : machine.Job) (e : ℕ) (ppn : ℕ) (name : FileName) (to_ppn : ℕ) (to : FileName)
     (place : place_of to_ppn to ≡ place_at job e) (moves : deletes_at job e ≡ false)
     (changes : change_answer s job e (place_of ppn name) ≡ replies.Done)

@@ -34,7 +34,7 @@ use Rattle.volume.specs.Live.{VolumeCore}
 use Rattle.volume.specs.Live.{slot as version_at}
 use Rattle.volume.specs.Moving as volume
 use Rattle.volume.specs.Moving.{MovesWithin, MovesAcross}
-use Rattle.volume.specs.Rest.{IsSound, RestsAt, StandsForEither, KeepsRead, KeepsEachWritten}
+use Rattle.volume.specs.Rest.{IsSoundCore, RestsAt, StandsForOneOf, KeepsRead, KeepsEachWritten}
 use Rattle.volume.specs.declared.error.CallError.{CallError}
 use Rattle.volume.specs.declared.error.CallError.TheVariants.{Refused, Device, Failed, NoMemory}
 use Rattle.volume.specs.declared.live.LiveVersion.{LiveVersion}
@@ -69,7 +69,7 @@ use Rattle.monitor.proofs.RenameWanting.{wanting_serves, rename_serves, rename_u
 pub record Moves (d d' : DiskState) (c b : VolumeCore) (Same : Type 0) (failed' : Bool) (ppn : ℕ) (name : FileName)
     (to_ppn : ℕ) (to : FileName) (protection : ℕ) (answer : Result (Unit {0}) CallError) : Type 0 where
   pub crash : d'.honest → (f : Files File) → RestsAt d f
-      → LeavesOnly d d' (StandsForEither d.size f (volume.files_moved f ppn name to_ppn to protection))
+      → LeavesOnly d d' (StandsForOneOf d.size f (volume.files_moved f ppn name to_ppn to protection))
   pub done : d'.honest → (f : Files File) → RestsAt d f
       → OnOk answer (RestsAt d' (volume.files_moved f ppn name to_ppn to protection))
   pub within : to_ppn ≡ ppn → OnOk answer ((key : ℕ) × (v : LiveVersion) × (words : List ℕ) × (puts : List Put)
@@ -122,7 +122,8 @@ module _ {D : Type 0} (state : D → DiskState) (only_now : (disk : D) (contents
     (core b : VolumeCore) (failed' : Bool) (job : Job) (number e : ℕ) (channel : Channel)
     (is_open : slot job.channels number ≡ Some channel) (input : Input) (side : channel.input ≡ Some input)
     (free : channel.output ≡ None) (inside : lies_outside job.core e 4 ≡ false) (named : slice_index job.core e ≡ 0 → ⊥)
-    (sound : IsSound (state disk) core false) (placed : ArePlaced core) (to_ppn : ℕ) (to : FileName) (protection : ℕ)
+    (sound : IsSoundCore (state disk) core false) (placed : ArePlaced core) (to_ppn : ℕ) (to : FileName)
+    (protection : ℕ)
     (place : (w : UnderKeys) → place_of to_ppn to ≡ place_at (job_of w job) e)
     (protects : protection ≡ slice_index job.core (e + 2) / 2 ^ 27)
     (unclaimed : claims core.pending (place_of input.ppn input.file) ≡ false)
@@ -207,7 +208,7 @@ module _ {D : Type 0} (state : D → DiskState) (only_now : (disk : D) (contents
         → CallCrashes d d' core jobs n (Rename number e) moment
     crashes answer says fits honest' s is =
         let honest = says.same.was_honest honest' in
-        leaves_weaker d d' (StandsForEither d.size (without_serials s.files) _) _
+        leaves_weaker d d' (StandsForOneOf d.size (without_serials s.files) _) _
         (says.crash honest' (without_serials s.files) is.files)
         (λ contents. ⊎_elim (λ was. inl was)
         (λ put. inr (

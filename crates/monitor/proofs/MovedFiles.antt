@@ -11,7 +11,7 @@ use Rattle.meaning.specs.Published.{Version, without_serials, file_in, file_at, 
 use Rattle.meaning.specs.Published.{without_file_in, with_protection}
 use Rattle.meaning.specs.Renaming.{files_moved}
 use Rattle.meaning.specs.Room.{has_serial}
-use Rattle.meaning.specs.Runs.{AreDistinct}
+use Rattle.meaning.specs.Runs.{HaveDistinctSerials}
 use Rattle.meaning.proofs.MapLaws.{same_or_other, get-insert_same, get-removed}
 use Rattle.meaning.proofs.MapLists.{get-map_values}
 use Rattle.meaning.proofs.MapSums.{sum-values, sum-insert_new, sum-insert_over}
@@ -139,7 +139,7 @@ module _ (files : Files Version) (old new : Place) (protection : ℕ) (x : Versi
         let gone = copies_left files old x at k in
         omega arith
 
-    pub distinct_moved : AreDistinct (versions_in files) → AreDistinct (versions_in moved)
+    pub distinct_moved : HaveDistinctSerials (versions_in files) → HaveDistinctSerials (versions_in moved)
     distinct_moved distinct = few_distinct (versions_in moved)
         (λ k. let few = distinct_few (versions_in files) distinct k in let same = copies_moved k in omega arith)
 

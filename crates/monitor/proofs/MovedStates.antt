@@ -17,7 +17,7 @@ use Rattle.volume.specs.Moving as volume
 use Rattle.volume.specs.Rest.{RestsAt, KeepsRead, KeepsEachWritten}
 use Rattle.volume.specs.declared.pending.PendingVersion.{PendingVersion}
 use Rattle.volume.proofs.RenamedPlaces.{unclaimed_place}
-use Rattle.monitor.specs.Dropping.{Leaves}
+use Rattle.monitor.specs.Dropping.{OnlyDrops}
 use Rattle.monitor.specs.Readers.{readers_of}
 use Rattle.monitor.specs.Serving.{AreKeyed, ArePlaced, AreReading, IsState}
 use Rattle.monitor.specs.Sides.{UnderKeys, state_of}
@@ -82,7 +82,7 @@ module _ (c b c' : VolumeCore) (jobs : List (Option Job)) (n : ℕ) (job job' : 
         (absent : new ≢ old → file_at s.files new ≡ None)
         (rests : RestsAt d' (volume.files_moved (without_serials s.files) ppn name to_ppn to protection))
         (readers : KeepsRead d.contents d'.contents c) (writers : KeepsEachWritten d.contents d'.contents c)
-        (leaves : Leaves b c') where
+        (leaves : OnlyDrops b c') where
       abbrev w : UnderKeys
       w = state.under
 

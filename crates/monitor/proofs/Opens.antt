@@ -17,7 +17,7 @@ use Rattle.meaning.specs.declared.call.Reply.TheVariants.{Done, Refused, Stopped
 use Rattle.meaning.proofs.MapLaws.{some_none}
 use Rattle.retrieval.specs.Modes.{mode_number}
 use Rattle.retrieval.specs.declared.mode.Mode.{Mode}
-use Rattle.monitor.specs.Rows.{IsRow, Keeps, KeepsReading, improper_at, opened_at, rings_opened}
+use Rattle.monitor.specs.Rows.{IsRow, KeepsSides, KeepsReading, improper_at, opened_at, rings_opened}
 use Rattle.monitor.specs.Sides.{UnderKeys, side_of, reader_of, channel_of, job_of}
 use Rattle.monitor.specs.declared.channel.Channel.{Channel}
 use Rattle.monitor.specs.declared.job.Job.{Job}
@@ -105,7 +105,7 @@ module _ (job : Job) (number a : ℕ) where
 -- a channel that is opened writes nothing
 pub keeps_opened : (pending : List (Option PendingVersion)) (job : Job) (number : ℕ) (c : Channel)
     → is_some (slot job.channels number) ≡ false → c.output ≡ None
-    → Keeps pending pending job (record job { channels = slice_set job.channels number (Some c) })
+    → KeepsSides pending pending job (record job { channels = slice_set job.channels number (Some c) })
 keeps_opened pending job number c free none =
     keeps_channel pending job number (Some c) (λ key. ap (λ o. count key (option_to_list o)) none
     ∙ by key (slot job.channels number) free)

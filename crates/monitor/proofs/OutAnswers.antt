@@ -16,11 +16,11 @@ use Rattle.meaning.specs.declared.call.Reply.TheVariants.{Done, Value, Refused, 
 use Rattle.meaning.specs.declared.call.Reply.TheVariants.{NoMemory, Device, Failed, DateRange}
 use Rattle.meaning.proofs.SlotLaws.{set-slot}
 use Rattle.volume.specs.Live.{VolumeCore, pending_at}
-use Rattle.volume.specs.Rest.{IsSound, RestsAt, KeepsRead}
+use Rattle.volume.specs.Rest.{IsSoundCore, RestsAt, KeepsRead}
 use Rattle.volume.specs.declared.pending.PendingVersion.{PendingVersion}
 use Rattle.monitor.specs.Putting.{IsOut, IsOther, IsOtherSide, HasOutgoing}
 use Rattle.monitor.specs.Putting as putting
-use Rattle.monitor.specs.Rows.{IsRow, Keeps, KeepsReading}
+use Rattle.monitor.specs.Rows.{IsRow, KeepsSides, KeepsReading}
 use Rattle.monitor.specs.Serving.{pack_of, AreKeyed, AreReading, IsState, Serves}
 use Rattle.monitor.specs.declared.channel.Channel.{Channel}
 use Rattle.monitor.specs.declared.output.Output.{Output}
@@ -54,8 +54,8 @@ module _ {D : Type 0} (state_in : D → DiskState) (disk disk' : D) (map map' : 
     (there : slot jobs n ≡ Some job) (set : jobs' ≡ slice_set jobs n (Some job')) (serves : failed
     ≡ false) (timely : moment.date ≤ 4095) (keyed : AreKeyed map.pending jobs)
     (reading : AreReading map.live jobs) (keeps : failed' ≡ false
-    → Keeps map.pending map'.pending job job') (reads : failed' ≡ false
-    → KeepsReading map.live map'.live job job') (sound : IsSound (state_in disk) map false) where
+    → KeepsSides map.pending map'.pending job job') (reads : failed' ≡ false
+    → KeepsReading map.live map'.live job job') (sound : IsSoundCore (state_in disk) map false) where
   abbrev d : DiskState
   d = state_in disk
 
@@ -109,7 +109,7 @@ module _ {D : Type 0} (state_in : D → DiskState) (disk disk' : D) (map map' : 
     abbrev Fails : Reply → Type 0
     Fails reply = IsTrue failed' ↔ ((reply ≡ Device) ⊎ (reply ≡ Failed))
 
-    version_of : (out : putting.Outgoing job ch a) → (p : PendingVersion)
+    version_of : (out : putting.OutgoingSide job ch a) → (p : PendingVersion)
         × (pending_at map.pending out.at.output.pending.key ≡ Some p)
     version_of out = version_there map.pending job ch out.at.channel out.at.there out.at.output out.at.side
         (job_live map jobs n job keyed there)

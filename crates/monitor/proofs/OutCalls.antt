@@ -26,7 +26,7 @@ use Rattle.meaning.proofs.SpliceLaws.{length-splice}
 use Rattle.retrieval.specs.Modes.{mode_number}
 use Rattle.volume.specs.Live.{VolumeCore, pending_at, is_creation}
 use Rattle.volume.specs.Places.{prime_at}
-use Rattle.volume.specs.Rest.{IsSound, RestsAt, KeepsRead}
+use Rattle.volume.specs.Rest.{IsSoundCore, RestsAt, KeepsRead}
 use Rattle.volume.specs.declared.pending.PendingVersion.{PendingVersion}
 use Rattle.monitor.specs.Putting.{Puts, outgoing_at, moved, FindsNone, IsAtOutput}
 use Rattle.monitor.specs.Putting as putting
@@ -137,13 +137,13 @@ module _ (d : DiskState) (map : VolumeCore) (jobs : List (Option Job)) (n : ℕ)
 -- The words are put.
 module _ (d d' : DiskState) (map map' : VolumeCore) (jobs jobs' : List (Option Job)) (n : ℕ) (job : Job)
     (there : slot jobs n ≡ Some job) (ch a : ℕ) (moment : Moment) (timely : moment.date
-    ≤ 4095) (out : putting.Outgoing job ch a)
+    ≤ 4095) (out : putting.OutgoingSide job ch a)
     (set : jobs' ≡ slice_set jobs n (Some
     (record job {
       core = out.core;
       channels = slice_set job.channels ch (Some (moved out.at.channel out.at.output (length out.words)));
     })))
-    (keyed : AreKeyed map.pending jobs) (keyed' : AreKeyed map'.pending jobs') (sound : IsSound d map false)
+    (keyed : AreKeyed map.pending jobs) (keyed' : AreKeyed map'.pending jobs') (sound : IsSoundCore d map false)
     (honest : d.honest) (later : d'.honest)
     (p : PendingVersion) (at : pending_at map.pending out.at.output.pending.key ≡ Some p)
     (put : Puts d d' map map' out.at.output out.words p)
@@ -249,10 +249,10 @@ module _ (d d' : DiskState) (map map' : VolumeCore) (jobs jobs' : List (Option J
 -- They find no place.
 module _ (d : DiskState) (map : VolumeCore) (failed : Bool) (jobs jobs' : List (Option Job)) (n : ℕ) (job : Job)
     (there : slot jobs n ≡ Some job) (ch a : ℕ) (moment : Moment) (timely : moment.date ≤ 4095)
-    (out : putting.Outgoing job ch a) (status : ℕ) (is : status ≡ cleared out.at.channel.status + block_too_large)
+    (out : putting.OutgoingSide job ch a) (status : ℕ) (is : status ≡ cleared out.at.channel.status + block_too_large)
     (set : jobs' ≡ slice_set jobs n
     (Some (record job { channels = slice_set job.channels ch (Some (record out.at.channel { status = status })) })))
-    (keyed' : AreKeyed map.pending jobs') (reading' : AreReading map.live jobs') (sound : IsSound d map false)
+    (keyed' : AreKeyed map.pending jobs') (reading' : AreReading map.live jobs') (sound : IsSoundCore d map false)
     (honest : d.honest)
     (p : PendingVersion) (at : pending_at map.pending out.at.output.pending.key ≡ Some p)
     (none : FindsNone d.size map p out.at.output (length out.words)) (s : State) (state : IsState d map jobs s) where

@@ -76,7 +76,7 @@ module _ (job : Job) (number : ℕ) where
   at_output c there o side has = record { channel = c; there = there; output = o; side = side; has = has }
 
   module _ (a : ℕ) (at : IsAtOutput job number) (words : List ℕ) (found : Found job.core at.channel a words) where
-    abbrev pub goes_out : putting.Outgoing job number a
+    abbrev pub goes_out : putting.OutgoingSide job number a
     goes_out = record { at = at; words = words; core = found.0; found = found.1 }
 
     -- where its words find no room

@@ -19,7 +19,7 @@ use Rattle.volume.specs.declared.live.LiveVersion.{LiveVersion}
 use Rattle.volume.specs.declared.pending.PendingVersion.{PendingVersion}
 use Rattle.monitor.specs.Putting.{moved}
 use Rattle.monitor.specs.Readers.{readers_of}
-use Rattle.monitor.specs.Rows.{Keeps, KeepsReading}
+use Rattle.monitor.specs.Rows.{KeepsSides, KeepsReading}
 use Rattle.monitor.specs.Serving.{present, IsSide, IsReader}
 use Rattle.monitor.specs.Sides.{side_of, sides_in, keys_of, reader_of}
 use Rattle.monitor.specs.declared.channel.Channel.{Channel}
@@ -126,8 +126,8 @@ module _ (pending pending' : List (Option PendingVersion)) (job job' : Job) (num
       ∙ ap (λ n. present (pending_at pending n)) (sym same))
       (λ apart. ap present (others k apart))
 
-  pub keeps_put : Keeps pending pending' job job'
-  keeps_put = subst (Keeps pending pending' job) (sym set) (record {
+  pub keeps_put : KeepsSides pending pending' job job'
+  keeps_put = subst (KeepsSides pending pending' job) (sym set) (record {
     once = λ key.
         let moved_on = count-channel key job.channels number (Some (moved c o count_is))
         (λ e. absurd (none_some (sym e ∙ there))) in

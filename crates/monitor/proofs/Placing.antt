@@ -35,7 +35,7 @@ use Rattle.volume.specs.declared.pending.Kind.TheVariants.{Create, Supersede}
 use Rattle.volume.specs.declared.pending.PendingVersion.{PendingVersion}
 use Rattle.volume.proofs.Beginnings.{named_none}
 use Rattle.volume.proofs.Publications.{placed_on}
-use Rattle.monitor.specs.Dropping.{Leaves}
+use Rattle.monitor.specs.Dropping.{OnlyDrops}
 use Rattle.monitor.specs.Serving.{ArePlaced}
 
 pub placed_none : (c : VolumeCore) → c.pending ≡ [] → ArePlaced c
@@ -47,7 +47,7 @@ placed_none c none = record {
     wrong : (key : ℕ) (p : PendingVersion) → pending_at c.pending key ≡ Some p → ⊥
     wrong key p at = some_none (sym (subst (λ ps. pending_at ps key ≡ Some p) none at))
 
-pub placed_left : (c c' : VolumeCore) → Leaves c c' → ArePlaced c → ArePlaced c'
+pub placed_left : (c c' : VolumeCore) → OnlyDrops c c' → ArePlaced c → ArePlaced c'
 placed_left c c' leaves placed = record {
   each = λ key p at. placed_on c c' leaves.known p p.version (placed.each key p (leaves.stay key p at));
   single = λ k key p q at here. placed.single k key p q (leaves.stay k p at) (leaves.stay key q here);

@@ -16,12 +16,12 @@ use Rattle.volume.specs.declared.live.LiveVersion.{LiveVersion}
 use Rattle.volume.specs.declared.pending.PendingVersion.{PendingVersion}
 use Rattle.monitor.specs.Calls.{IsLight, KeepsCore}
 use Rattle.monitor.specs.Closing.{left_open}
-use Rattle.monitor.specs.Dropping.{Leaves}
+use Rattle.monitor.specs.Dropping.{OnlyDrops}
 use Rattle.monitor.specs.Events.{IsIdle}
 use Rattle.monitor.specs.Publishing.{PublishesBy, IsPublishRow, CrashesAsRow, StillStands}
 use Rattle.monitor.specs.Promises.{IsAmong, IsServing, ServesJob}
 use Rattle.monitor.specs.Refusals.{refused_with}
-use Rattle.monitor.specs.Rows.{IsRow, Keeps, KeepsReading, ClosesSide, publishes_at}
+use Rattle.monitor.specs.Rows.{IsRow, KeepsSides, KeepsReading, ClosesSide, publishes_at}
 use Rattle.monitor.specs.Serving.{pack_of, Serves, AreKeyed, ArePlaced, AreReading}
 use Rattle.monitor.specs.declared.channel.Channel.{Channel}
 use Rattle.monitor.specs.declared.output.Output.{Output}
@@ -103,7 +103,7 @@ module _ {D : Type 0} (state : D → DiskState) (only_now : (disk : D) (contents
   pub alone_serves : (disk : D) (core : VolumeCore) (failed : Bool) (job job' : Job) (call : Call) (moment : Moment)
       (reply : Reply) → failed ≡ false → ArePlaced core → moment.date ≤ 4095
       → IsRow job job' call reply
-      → ((pending : List (Option PendingVersion)) → Keeps pending pending job job')
+      → ((pending : List (Option PendingVersion)) → KeepsSides pending pending job job')
       → ((live : List (Option LiveVersion)) → KeepsReading live live job job') → (reply ≡ Failed → ⊥)
       × (reply ≡ Device → ⊥) × (reply ≡ NoMemory → ⊥)
       → ((code : ℕ) → reply ≡ Refused code → job' ≡ refused_with call job code)
@@ -124,9 +124,9 @@ module _ {D : Type 0} (state : D → DiskState) (only_now : (disk : D) (contents
   -- A call by which versions are dropped or let go, and which asks for nothing else.
   pub dropping_serves : (disk disk' : D) (core core' : VolumeCore) (failed failed' : Bool) (job job' : Job)
       (call : Call) (moment : Moment) (reply : Reply) → failed ≡ false → (disk' ≡ disk) × (failed' ≡ failed)
-      → ArePlaced core → moment.date ≤ 4095 → IsRow job job' call reply → Keeps core.pending core'.pending job job'
+      → ArePlaced core → moment.date ≤ 4095 → IsRow job job' call reply → KeepsSides core.pending core'.pending job job'
       → KeepsReading core.live core'.live job job'
-      → Leaves core core' → (reply ≡ Failed → ⊥) × (reply ≡ Device → ⊥) × (reply ≡ NoMemory → ⊥)
+      → OnlyDrops core core' → (reply ≡ Failed → ⊥) × (reply ≡ Device → ⊥) × (reply ≡ NoMemory → ⊥)
       → ((code : ℕ) → reply ≡ Refused code → ⊥) → (KeepsCore call → ⊥)
       → ServesJob state disk disk' core core' failed' job job' call moment reply
   dropping_serves disk disk' core core' failed failed' job job' call moment reply alive untouched placed

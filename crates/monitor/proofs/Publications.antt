@@ -28,7 +28,7 @@ use Rattle.monitor.specs.Publishing.{MayPublish, HasPublished, IsPublishing}
 use Rattle.monitor.specs.Putting.{FindsNone}
 use Rattle.monitor.specs.Readers.{readers_of}
 use Rattle.monitor.specs.Renewing.{Renews}
-use Rattle.monitor.specs.Rows.{Keeps, KeepsReading}
+use Rattle.monitor.specs.Rows.{KeepsSides, KeepsReading}
 use Rattle.monitor.specs.Serving.{present, IsSide}
 use Rattle.monitor.specs.Sides.{side_of, reader_of, readers_in, pins_of}
 use Rattle.monitor.specs.declared.channel.Channel.{Channel}
@@ -103,11 +103,11 @@ pub published_keeps : (c c' : VolumeCore) (job job' : Job) (number : ℕ) (o : O
     → job' ≡ record job { core = core; channels = slice_set job.channels number x }
     → IsSome (pending_at c.pending o.pending.key) → pending_at c'.pending o.pending.key ≡ None
     → ((k : ℕ) → (k ≡ o.pending.key → ⊥) → pending_at c'.pending k ≡ pending_at c.pending k)
-    → Keeps c.pending c'.pending job job'
+    → KeepsSides c.pending c'.pending job job'
 published_keeps c c' job job' number o x core side none set live gone others =
     let one = there_is (pending_at c.pending o.pending.key) present (λ p. refl) live in
     let drops = drops_one c (record c { pending = c'.pending }) o.pending.key (omega arith) gone others refl refl in
-    subst (Keeps c.pending c'.pending job) (sym set) (record {
+    subst (KeepsSides c.pending c'.pending job) (sym set) (record {
       once = λ key.
           let less = drops.gone key in
           let moved = count-channel key job.channels number x (λ e. ap (λ z. count key (option_to_list z)) none) in
@@ -125,7 +125,7 @@ published_keeps c c' job job' number o x core side none set live gone others =
 pub record IsBehind (c between c' : VolumeCore) (job job' : Job) : Type 0 where
   pub pending : c'.pending ≡ between.pending
   pub known : c'.known ≡ record between.known { table = c'.known.table }
-  pub keeps : Keeps c.pending c'.pending job job'
+  pub keeps : KeepsSides c.pending c'.pending job job'
   pub reads : KeepsReading c.live c'.live job job'
 
 module _ {d d' : DiskState} {c b : VolumeCore} (o : Output) {last : List ℕ} (whatever : MayPublish d d' c b o last)
@@ -172,8 +172,8 @@ module _ {d d' : DiskState} {c b : VolumeCore} (o : Output) {last : List ℕ} (w
       (pending : c'.pending ≡ b.pending) where
     keeps_behind : (x : Option Channel) (core : List ℕ) → side_of x ≡ None
         → job' ≡ record job { core = core; channels = slice_set job.channels number x }
-        → Keeps c.pending c'.pending job job'
-    keeps_behind x core none set = subst (λ ps. Keeps c.pending ps job job') (sym pending)
+        → KeepsSides c.pending c'.pending job job'
+    keeps_behind x core none set = subst (λ ps. KeepsSides c.pending ps job job') (sym pending)
         (published_keeps c b job job' number o x core (ap side_of there ∙ side) none set live has.gone whatever.others)
 
     -- as many readers stay as there were

@@ -12,7 +12,7 @@ use Rattle.meaning.specs.Jobs.{State, slot, cleared, block_too_large}
 use Rattle.meaning.specs.Outputs.{finds_no_place}
 use Rattle.meaning.specs.Published.{Version, without_serials, with_file}
 use Rattle.meaning.specs.Room.{booked}
-use Rattle.meaning.specs.Runs.{Service, Serving, Broken, Answers, IsFresh, AreDistinct, is_plain, is_light}
+use Rattle.meaning.specs.Runs.{Service, Serving, Broken, Answers, IsFresh, HaveDistinctSerials, is_plain, is_light}
 use Rattle.meaning.specs.Sound.{IsSound}
 use Rattle.meaning.specs.Splices.{length_after}
 use Rattle.meaning.specs.Stands.{Stands}
@@ -27,7 +27,7 @@ use Rattle.meaning.proofs.SlotLaws.{set-slot}
 use Rattle.meaning.proofs.SoundEvents.{sound_step}
 use Rattle.volume.specs.Live.{VolumeCore, pending_at}
 use Rattle.volume.specs.Rest as rest
-use Rattle.volume.specs.Rest.{RestsAt, StandsForEither}
+use Rattle.volume.specs.Rest.{RestsAt, StandsForOneOf}
 use Rattle.volume.specs.declared.live.LiveVersion.{LiveVersion}
 use Rattle.volume.specs.declared.pending.PendingVersion.{PendingVersion}
 use Rattle.monitor.specs.Closing.{left_open}
@@ -35,7 +35,7 @@ use Rattle.monitor.specs.Events.{IsIdle}
 use Rattle.monitor.specs.Publishing.{last_at, MayPublish, HasPublished, IsPublishing, PublishesBy}
 use Rattle.monitor.specs.Putting.{FindsNone}
 use Rattle.monitor.specs.Readers.{AreRead}
-use Rattle.monitor.specs.Rows.{Keeps, KeepsReading}
+use Rattle.monitor.specs.Rows.{KeepsSides, KeepsReading}
 use Rattle.monitor.specs.Serving.{IsSide, AreKeyed, ArePlaced, AreReading, pack_of, IsState, Serves}
 use Rattle.monitor.specs.Sides.{UnderKeys, side_of, reader_of, output_of, state_of}
 use Rattle.monitor.specs.declared.channel.Channel.{Channel}
@@ -86,7 +86,7 @@ publishes_by state old published new c b failed after failed' channel o last rep
 
 module _ (job : Job) (number : ℕ) (c : Channel) (is_open : slot job.channels number ≡ Some c) where
   pub left_keeps : (pending : List (Option PendingVersion)) (reply : Reply)
-      → Keeps pending pending job (left_open job number c reply)
+      → KeepsSides pending pending job (left_open job number c reply)
   left_keeps pending (Stopped status) =
       keeps_channel pending job number (Some (record c { status = status }))
       (λ key. ap (λ o. count key (option_to_list (side_of o))) (sym is_open))
@@ -125,7 +125,7 @@ module _ {d d' : DiskState} {c b : VolumeCore} {failed failed' : Bool} {reply : 
     (there : slot jobs n ≡ Some job) (is_open : slot job.channels number ≡ Some channel)
     (rows : PublishRows d call jobs n moment job number channel o)
     (by : PublishesBy d d' c b failed failed' channel o (last_at job.core channel) reply)
-    (live : IsSome (pending_at c.pending o.pending.key)) (sound : rest.IsSound d c failed) (alive : failed ≡ false)
+    (live : IsSome (pending_at c.pending o.pending.key)) (sound : rest.IsSoundCore d c failed) (alive : failed ≡ false)
     (honest : d'.honest) (s : State) (state : IsState d c jobs s) where
   abbrev key : ℕ
   key = o.pending.key
@@ -148,7 +148,7 @@ module _ {d d' : DiskState} {c b : VolumeCore} {failed failed' : Bool} {reply : 
 
   books : booked before ≡ c.known.table.booked
   books = subst (λ t. booked t ≡ c.known.table.booked) same
-      (known d c jobs s state (subst (rest.IsSound d c) alive sound) (by.same.was_honest honest)).booked_is
+      (known d c jobs s state (subst (rest.IsSoundCore d c) alive sound) (by.same.was_honest honest)).booked_is
 
   pub has_place : (last : List ℕ) → ((p : PendingVersion) → pending_at c.pending key ≡ Some p
       → FindsNone d.size c p o (length last) → ⊥)
@@ -177,7 +177,7 @@ module _ {d d' : DiskState} {c b : VolumeCore} {failed failed' : Bool} {reply : 
       let stepped : (step (pack_of d) 0 s (Calls n call moment)).1.files ≡ files' last 0 =
       subst (λ t. (step (pack_of d) 0 t (Calls n call moment)).1.files ≡ files' last 0) (sym same)
       ((rows.done s.files w 0 last found place).1) in
-      leaves_weaker d d' (StandsForEither d.size (without_serials s.files) _) _
+      leaves_weaker d d' (StandsForOneOf d.size (without_serials s.files) _) _
       ((by.whatever last found).crash honest (without_serials s.files) state.files p.0 p.1 (w.written key).file.body
       is.words is.body)
       (λ contents. ⊎_elim (λ was. inl was)
@@ -221,7 +221,7 @@ module _ {d d' : DiskState} {c b : VolumeCore} {failed failed' : Bool} {reply : 
       (goes : reply ≡ Done → (last : List ℕ) → last_at job.core channel ≡ Some last
       → finds_no_place (pack_of d) before (output_of w o) (length last) ≡ false → HasPublished d d' c b o last
       → (serial : ℕ) → IsFresh s serial
-      → RestsAt d' (without_serials (files' last serial)) → AreDistinct (versions_in (files' last serial))
+      → RestsAt d' (without_serials (files' last serial)) → HaveDistinctSerials (versions_in (files' last serial))
       → AreRead d' b (files' last serial) w.read → GoesOn c' job' last serial)
       (unchanged : IsIdle reply → (js : List (Option Job)) (t : State) → IsState d c js t → IsState d' c' js t) where
     abbrev jobs' : List (Option Job)
@@ -277,7 +277,7 @@ module _ {d d' : DiskState} {c b : VolumeCore} {failed failed' : Bool} {reply : 
         (λ still. unchanged (subst IsIdle (sym is) tt) jobs' after
         (same_files d c c failed jobs jobs'
         (keeps_keyed c.pending c.pending jobs n job job' state.keyed there
-        (subst (Keeps c.pending c.pending job) (sym left) (left_keeps job number channel is_open c.pending reply)))
+        (subst (KeepsSides c.pending c.pending job) (sym left) (left_keeps job number channel is_open c.pending reply)))
         (keeps_reading c.live c.live jobs n job job' state.reading there
         (subst (KeepsReading c.live c.live job) (sym left) (left_reads job number channel is_open c.live reply)))
         (leaves_none c) s state still))
@@ -339,7 +339,8 @@ module _ {d d' : DiskState} {c b : VolumeCore} {failed failed' : Bool} {reply : 
       let same = sym (unchanged (subst IsIdle (sym is) idle)) in (
         subst (λ (x : VolumeCore). AreKeyed x.pending (slice_set jobs n (Some job'))) same
             (keeps_keyed c.pending c.pending jobs n job job' keyed there
-            (subst (Keeps c.pending c.pending job) (sym left) (left_keeps job number channel is_open c.pending reply))),
+            (subst (KeepsSides c.pending c.pending job) (sym left)
+            (left_keeps job number channel is_open c.pending reply))),
         subst ArePlaced same placed,
         subst (λ (x : VolumeCore). AreReading x.live (slice_set jobs n (Some job'))) same
             (keeps_reading c.live c.live jobs n job job' reading there

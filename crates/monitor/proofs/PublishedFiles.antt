@@ -9,7 +9,7 @@ use Rattle.meaning.specs.Files.{File, Files, Directory, Place, map_directory}
 use Rattle.meaning.specs.Maps.{get, insert, values, map_values, total, sum_over}
 use Rattle.meaning.specs.Published.{Version, without_serials, file_in, file_at, with_file, with_file_in}
 use Rattle.meaning.specs.Room.{has_serial}
-use Rattle.meaning.specs.Runs.{AreDistinct}
+use Rattle.meaning.specs.Runs.{HaveDistinctSerials}
 use Rattle.meaning.proofs.MapLaws.{same_or_other, get-insert_same, get-insert_other}
 use Rattle.meaning.proofs.MapLists.{map_values-insert}
 use Rattle.meaning.proofs.MapSums.{total-append, sum-insert, sum-values}
@@ -93,7 +93,7 @@ copies_none (v ∷ vs) k none = by (v.serial == k) (copies_none vs k) none
     by true rest e = absurd (omega (arith, e))
     by false rest e = rest (omega (arith, e))
 
-pub distinct_few : (vs : List Version) → AreDistinct vs → (k : ℕ) → copies k vs ≤ 1
+pub distinct_few : (vs : List Version) → HaveDistinctSerials vs → (k : ℕ) → copies k vs ≤ 1
 distinct_few [] distinct k = omega arith
 distinct_few (v ∷ vs) distinct k = by (v.serial == k) refl (distinct_few vs distinct.1 k)
   where
@@ -102,7 +102,7 @@ distinct_few (v ∷ vs) distinct k = by (v.serial == k) refl (distinct_few vs di
         let same = ap (λ n. copies n vs) (eqb-true v.serial k e) in omega arith
     by false e rest = omega (arith, rest)
 
-pub few_distinct : (vs : List Version) → ((k : ℕ) → copies k vs ≤ 1) → AreDistinct vs
+pub few_distinct : (vs : List Version) → ((k : ℕ) → copies k vs ≤ 1) → HaveDistinctSerials vs
 few_distinct [] few = tt
 few_distinct (v ∷ vs) few =
     let here : with_serial v.serial v ≡ 1 = ap one_if (eq-eqb v.serial v.serial refl) in
@@ -145,8 +145,8 @@ copies-put files place v k = by (get files place.ppn) refl
         omega arith
 
 -- a version with a serial that none has
-pub distinct_put : (files : Files Version) (place : Place) (v : Version) → AreDistinct (versions_in files)
-    → has_serial v.serial (versions_in files) ≡ false → AreDistinct (versions_in (with_file files place v))
+pub distinct_put : (files : Files Version) (place : Place) (v : Version) → HaveDistinctSerials (versions_in files)
+    → has_serial v.serial (versions_in files) ≡ false → HaveDistinctSerials (versions_in (with_file files place v))
 distinct_put files place v distinct fresh = few_distinct (versions_in (with_file files place v))
     (λ k. by k (v.serial == k) refl)
   where

@@ -8,8 +8,8 @@ use Rattle.blockdisk.specs.Disk.{DiskState}
 use Rattle.meaning.specs.Files.{Files}
 use Rattle.meaning.specs.Jobs.{State, slot}
 use Rattle.meaning.specs.Published.{Version, without_serials, with_file}
-use Rattle.meaning.specs.Room.{current, held, has_serial}
-use Rattle.meaning.specs.Runs.{IsFresh, AreDistinct}
+use Rattle.meaning.specs.Room.{current_versions, held_versions, has_serial}
+use Rattle.meaning.specs.Runs.{IsFresh, HaveDistinctSerials}
 use Rattle.meaning.specs.Sound.{IsSound}
 use Rattle.meaning.specs.Splices.{splice, length_after}
 use Rattle.meaning.proofs.MapLaws.{some_none}
@@ -22,7 +22,7 @@ use Rattle.volume.specs.declared.live.LiveVersion.{LiveVersion}
 use Rattle.volume.specs.declared.pending.PendingVersion.{PendingVersion}
 use Rattle.monitor.specs.Publishing.{MayPublish, HasPublished}
 use Rattle.monitor.specs.Readers.{readers_of, AreRead}
-use Rattle.monitor.specs.Rows.{Keeps}
+use Rattle.monitor.specs.Rows.{KeepsSides}
 use Rattle.monitor.specs.Serving.{ArePlaced, AreKeyed, IsSide, IsWriting, IsState}
 use Rattle.monitor.specs.Sides.{Writing, UnderKeys, state_of, sides_in}
 use Rattle.monitor.specs.declared.job.Job.{Job}
@@ -39,7 +39,7 @@ use Rattle.monitor.proofs.WrittenStays.{writing_stays}
 
 -- Output sides: the caller's are others, and no version is new.
 pub kept_keyed : (old new : List (Option PendingVersion)) (jobs : List (Option Job)) (n : ℕ) (job job' : Job)
-    → slot jobs n ≡ Some job → Keeps old new job job'
+    → slot jobs n ≡ Some job → KeepsSides old new job job'
     → ((k : ℕ) (q : PendingVersion) → pending_at new k ≡ Some q → pending_at old k ≡ Some q)
     → AreKeyed old jobs → AreKeyed new (slice_set jobs n (Some job'))
 kept_keyed old new jobs n job job' there keeps stays keyed = record {
@@ -122,10 +122,10 @@ module _ (d d' : DiskState) (c b c' : VolumeCore) (jobs : List (Option Job)) (n 
         subst (RestsAt d') (published_are d c jobs s state key o.next last serial p.0 is)
         (has.files honest (without_serials s.files) state.files p.0 p.1 (w.written key).file.body is.words is.body)
 
-    pub distinct : AreDistinct (versions_in files')
+    pub distinct : HaveDistinctSerials (versions_in files')
     distinct = distinct_put s.files (w.written key).place (version_with (w.written key) o.next last serial)
         state.serials
-        (none_first serial (current s) (held s) fresh)
+        (none_first serial (current_versions s) (held_versions s) fresh)
 
     -- another version has another place
     elsewhere : (p : PendingVersion) → pending_at c.pending key ≡ Some p → (k : ℕ) (q : PendingVersion)
@@ -162,7 +162,8 @@ module _ (d d' : DiskState) (c b c' : VolumeCore) (jobs : List (Option Job)) (n 
           versions = λ k q at.
               let was = still_there k q at in
               let is = state.versions k q was.1 in
-              writing_stays d d' q (w.written k) is (λ m held. has.writers honest k q was.0 was.1 m held);
+              writing_stays d d' q (w.written k) is
+              (λ m held. has.writers honest k q was.0 was.1 m held);
           absent = λ k q at new.
               let was = still_there k q at in
               put_elsewhere s.files (w.written key).place (version_with (w.written key) o.next last serial)

@@ -12,7 +12,7 @@ use Rattle.meaning.specs.Jobs.{State}
 use Rattle.meaning.specs.Maps.{values}
 use Rattle.meaning.specs.Published.{Version, file_at}
 use Rattle.meaning.specs.Room.{has_serial}
-use Rattle.meaning.specs.Runs.{AreDistinct}
+use Rattle.meaning.specs.Runs.{HaveDistinctSerials}
 use Rattle.meaning.proofs.SideLaws.{none_passes, version_of_all}
 use Rattle.meaning.proofs.SlotLaws.{all_append}
 use Rattle.volume.specs.Known.{IsWholeVersion}
@@ -59,7 +59,7 @@ not_same a b differ same = let wrong = sym differ ∙ eq-eqb a b same in cc
 abbrev pub IsTold : List Version → Version → Type 0
 IsTold vs x = AllByRecursion (λ y. y.serial ≡ x.serial → y ≡ x) vs
 
-pub all_told : (vs : List Version) → AreDistinct vs → AllByRecursion (IsTold vs) vs
+pub all_told : (vs : List Version) → HaveDistinctSerials vs → AllByRecursion (IsTold vs) vs
 all_told [] distinct = tt
 all_told (v ∷ vs) distinct = (
   (
@@ -81,13 +81,13 @@ all_told (v ∷ vs) distinct = (
       told ws others.1 rest.1,
     )
 
-pub told_at : (files : Files Version) → AreDistinct (versions_of files) → (place : Place) (x : Version)
+pub told_at : (files : Files Version) → HaveDistinctSerials (versions_of files) → (place : Place) (x : Version)
     → file_at files place ≡ Some x → IsTold (versions_of files) x
 told_at files distinct = each_file (IsTold (versions_of files)) files (all_told (versions_of files) distinct)
 
 -- What readers hold.
 module _ (d : DiskState) (c : VolumeCore) (files : Files Version) (read : ℕ → Version) (whole : IsWholeCore d.size c)
-    (distinct : AreDistinct (versions_of files)) (reads : AreRead d c files read) where
+    (distinct : HaveDistinctSerials (versions_of files)) (reads : AreRead d c files read) where
   cost : (key : ℕ) (v : LiveVersion) → slot c.live key ≡ Some v → 0 < v.readers
       → version_cost (length (read key).file.body) ≡ cost_of_blocks (length v.version.blocks)
   cost key v there held =

@@ -30,7 +30,7 @@ use Rattle.volume.specs.declared.live.LiveVersion.{LiveVersion}
 use Rattle.volume.specs.declared.pending.PendingVersion.{PendingVersion}
 use Rattle.monitor.specs.Reading.{Asked, handle_read, read_on, IsIn}
 use Rattle.monitor.specs.Readers.{readers_of}
-use Rattle.monitor.specs.Rows.{Keeps, KeepsReading}
+use Rattle.monitor.specs.Rows.{KeepsSides, KeepsReading}
 use Rattle.monitor.specs.Serving.{present, HasReaders, IsReader, IsSide}
 use Rattle.monitor.specs.Sides.{side_of, sides_in, keys_of, reader_of, readers_in, pins_of}
 use Rattle.monitor.specs.declared.channel.Channel.{Channel}
@@ -140,7 +140,7 @@ is_asked result other (Some k) is differs exact = (k, refl)
 -- a channel is another one, which writes the same version or none
 keeps_sides : (pending : List (Option PendingVersion)) (job : Job) (number : ℕ) (c : Channel)
     → slot job.channels number ≡ Some c → (x : Channel) (core : List ℕ) → c.output ≡ x.output
-    → Keeps pending pending job (record job { core = core; channels = slice_set job.channels number (Some x) })
+    → KeepsSides pending pending job (record job { core = core; channels = slice_set job.channels number (Some x) })
 keeps_sides pending job number c there x core same =
     let keeps = keeps_channel pending job number (Some x)
     (λ key. ap (λ o. count key (option_to_list o)) (sym same)
@@ -208,19 +208,19 @@ module _ (d d' : DiskState) (map : VolumeCore) (job job' : Job) (number a : ℕ)
   in_reads DateRange wrong live = absurd wrong
 
   pub in_keeps : (reply : Reply) → IsIn d d' map job job' number a reply → (pending : List (Option PendingVersion))
-      → Keeps pending pending job job'
+      → KeepsSides pending pending job job'
   in_keeps Done (read, moved, core, is, moves) pending =
-      subst (Keeps pending pending job) (sym is) (keeps_sides pending job number read.at.channel read.at.there
+      subst (KeepsSides pending pending job) (sym is) (keeps_sides pending job number read.at.channel read.at.there
       (read_on read.at.channel read.at.input moved) core refl)
   in_keeps (Stopped status) (read, code, is, ends) pending =
-      subst (Keeps pending pending job) (sym is) (keeps_sides pending job number read.at.channel read.at.there
+      subst (KeepsSides pending pending job) (sym is) (keeps_sides pending job number read.at.channel read.at.there
       (record read.at.channel { status = status }) job.core refl)
-  in_keeps (Refused code) is pending = subst (Keeps pending pending job) (sym is.0) (keeps_same pending job)
-  in_keeps NoChannel is pending = subst (Keeps pending pending job) (sym is.0) (keeps_same pending job)
-  in_keeps AddressCheck is pending = subst (Keeps pending pending job) (sym is.0) (keeps_same pending job)
-  in_keeps NoMemory is pending = subst (Keeps pending pending job) (sym is.0) (keeps_same pending job)
-  in_keeps Device is pending = subst (Keeps pending pending job) (sym is.0) (keeps_same pending job)
-  in_keeps Failed is pending = subst (Keeps pending pending job) (sym is.0) (keeps_same pending job)
+  in_keeps (Refused code) is pending = subst (KeepsSides pending pending job) (sym is.0) (keeps_same pending job)
+  in_keeps NoChannel is pending = subst (KeepsSides pending pending job) (sym is.0) (keeps_same pending job)
+  in_keeps AddressCheck is pending = subst (KeepsSides pending pending job) (sym is.0) (keeps_same pending job)
+  in_keeps NoMemory is pending = subst (KeepsSides pending pending job) (sym is.0) (keeps_same pending job)
+  in_keeps Device is pending = subst (KeepsSides pending pending job) (sym is.0) (keeps_same pending job)
+  in_keeps Failed is pending = subst (KeepsSides pending pending job) (sym is.0) (keeps_same pending job)
   in_keeps (Value word) wrong pending = absurd wrong
   in_keeps NoJob wrong pending = absurd wrong
   in_keeps DateRange wrong pending = absurd wrong

@@ -14,7 +14,7 @@ use Rattle.volume.specs.Live.{VolumeCore}
 use Rattle.volume.specs.Live.{slot as version_at}
 use Rattle.volume.specs.Places.{prime_at}
 use Rattle.volume.specs.declared.live.LiveVersion.{LiveVersion}
-use Rattle.monitor.specs.Dropping.{Leaves, Closes}
+use Rattle.monitor.specs.Dropping.{OnlyDrops, Closes}
 use Rattle.monitor.specs.Readers.{readers_of, AreRead}
 use Rattle.monitor.specs.Rows.{KeepsReading}
 use Rattle.monitor.specs.Serving.{HasReaders, AreReading}
@@ -90,7 +90,7 @@ job_held live jobs n job reading there key =
     omega arith
 
 -- What is read stays as it is read, where readers come or go.
-pub reads_left : (d : DiskState) (c c' : VolumeCore) (files : Files Version) (read : ℕ → Version) → Leaves c c'
+pub reads_left : (d : DiskState) (c c' : VolumeCore) (files : Files Version) (read : ℕ → Version) → OnlyDrops c c'
     → AreRead d c files read → AreRead d c' files read
 reads_left d c c' files read leaves reads = record {
   each = λ key v at some.

@@ -7,18 +7,18 @@ use Rattle.blockdisk.specs.Disk.{DiskState}
 use Rattle.meaning.specs.declared.put.Put.{Put}
 use Rattle.meaning.specs.Files.{Files, Place}
 use Rattle.meaning.specs.Published.{Version, file_at, without_file}
-use Rattle.meaning.specs.Runs.{AreDistinct}
+use Rattle.meaning.specs.Runs.{HaveDistinctSerials}
 use Rattle.meaning.specs.Stands.{place_of}
 use Rattle.meaning.proofs.MapLaws.{some_same}
 use Rattle.volume.specs.Live.{as_known, VolumeCore, slot, IsWholeCore}
 use Rattle.volume.specs.Places.{prime_at}
-use Rattle.volume.specs.Publishing.{left_of}
+use Rattle.volume.specs.Publishing.{live_left}
 use Rattle.volume.specs.Removing.{RemovesFile}
 use Rattle.volume.specs.Rest.{KeepsRead}
 use Rattle.volume.specs.declared.live.LiveVersion.{LiveVersion}
 use Rattle.volume.proofs.OnePlace.{one_key, one_place}
 use Rattle.volume.proofs.RemovedPlaces.{removed_current, primes_elsewhere}
-use Rattle.monitor.specs.Readers.{readers_of, IsRead, AreRead}
+use Rattle.monitor.specs.Readers.{readers_of, IsVersionRead, AreRead}
 use Rattle.monitor.proofs.DeletedFiles.{left_elsewhere, none_left, serial_gone}
 use Rattle.monitor.proofs.PublishedFiles.{versions_in}
 use Rattle.monitor.proofs.ReadsPinned.{words_kept}
@@ -26,7 +26,7 @@ use Rattle.monitor.proofs.ReadsPublished.{left_of_read, left_readers}
 
 -- One version isn't current any more, and is gone where nobody reads it; all others are as they were.
 module _ (live live' : List (Option LiveVersion)) (key : ℕ) (v : LiveVersion) (there : slot live key ≡ Some v)
-    (ended : slot live' key ≡ left_of (Some (key, v)))
+    (ended : slot live' key ≡ live_left (Some (key, v)))
     (others : (k : ℕ) → (k ≡ key → ⊥) → slot live' k ≡ slot live k) where
   -- what stands under a key was there
   abbrev WasThere : ℕ → LiveVersion → Type 0
@@ -71,7 +71,7 @@ module _ (live live' : List (Option LiveVersion)) (key : ℕ) (v : LiveVersion) 
 module _ (d d' : DiskState) (c c' : VolumeCore) (files : Files Version) (read : ℕ → Version) (ppn : ℕ)
     (name : FileName) (key : ℕ) (v : LiveVersion) (puts : List Put) (x : Version)
     (reads : AreRead d c files read) (whole : IsWholeCore d.size c) (is : RemovesFile d.size c c' ppn name key v puts)
-    (at : file_at files (place_of ppn name) ≡ Some x) (distinct : AreDistinct (versions_in files))
+    (at : file_at files (place_of ppn name) ≡ Some x) (distinct : HaveDistinctSerials (versions_in files))
     (keeps : KeepsRead d.contents d'.contents c) where
   abbrev place : Place
   place = place_of ppn name
@@ -80,12 +80,12 @@ module _ (d d' : DiskState) (c c' : VolumeCore) (files : Files Version) (read : 
   files' = without_file files place
 
   module _ (k : ℕ) (u : LiveVersion) (was : slot c.live k ≡ Some u) (held : 0 < u.readers) where
-    old : IsRead d c files u (read k)
+    old : IsVersionRead d c files u (read k)
     old = reads.each k u was held
 
     -- the one that is deleted is past, and no file has its serial
     deleted_read : (q : Place) → file_at files q ≡ Some (read k) → (q.ppn ≡ ppn) × (q.name ≡ name)
-        → IsRead d' c' files' (record u { is_current = false }) (read k)
+        → IsVersionRead d' c' files' (record u { is_current = false }) (read k)
     deleted_read q found here = record {
       version = words_kept d.contents d'.contents (as_known u) (read k).file (keeps k u was held) old.version;
       current = λ current. absurd (both_ways false refl current);
@@ -94,7 +94,7 @@ module _ (d d' : DiskState) (c c' : VolumeCore) (files : Files Version) (read : 
     }
 
     -- one that was past is
-    past_read : u.is_current ≡ false → IsRead d' c' files' u (read k)
+    past_read : u.is_current ≡ false → IsVersionRead d' c' files' u (read k)
     past_read past = record {
       version = words_kept d.contents d'.contents (as_known u) (read k).file (keeps k u was held) old.version;
       current = λ current. absurd (both_ways u.is_current past current);
@@ -103,7 +103,8 @@ module _ (d d' : DiskState) (c c' : VolumeCore) (files : Files Version) (read : 
 
     -- and that of another place is current there
     current_read : u.is_current ≡ true → (q : Place) → prime_at c q.ppn q.name ≡ Some u.at
-        → file_at files q ≡ Some (read k) → ((q.ppn ≡ ppn) × (q.name ≡ name) → ⊥) → IsRead d' c' files' u (read k)
+        → file_at files q ≡ Some (read k) → ((q.ppn ≡ ppn) × (q.name ≡ name) → ⊥)
+        → IsVersionRead d' c' files' u (read k)
     current_read now q prime found apart = record {
       version = words_kept d.contents d'.contents (as_known u) (read k).file (keeps k u was held) old.version;
       current = λ current. (
@@ -118,7 +119,7 @@ module _ (d d' : DiskState) (c c' : VolumeCore) (files : Files Version) (read : 
     here_before : prime_at c ppn name ≡ Some v.at
     here_before = (removed_current d.size c c' ppn name key v puts is).at
 
-    goes_on : (w : LiveVersion) → slot c'.live k ≡ Some w → IsRead d' c' files' w (read k)
+    goes_on : (w : LiveVersion) → slot c'.live k ≡ Some w → IsVersionRead d' c' files' w (read k)
     goes_on w now = ⊎_elim
         (λ (same : k ≡ key).
         let which : v ≡ u = some_same (sym is.there ∙ ap (slot c.live) (sym same) ∙ was) in
@@ -126,13 +127,13 @@ module _ (d d' : DiskState) (c c' : VolumeCore) (files : Files Version) (read : 
         let found = old.current of_file in
         let turned = (left_of_read v w
         (sym is.ended ∙ ap (slot c'.live) (sym same) ∙ now)).1 in
-        subst (λ z. IsRead d' c' files' z (read k))
+        subst (λ z. IsVersionRead d' c' files' z (read k))
         (ap (λ (z : LiveVersion). record z { is_current = false }) (sym which) ∙ turned)
         (deleted_read found.0 found.2 (one_place d.size c whole found.0.ppn ppn found.0.name name v.at
         (found.1 ∙ ap (λ (z : LiveVersion). Some z.at) (sym which)) here_before)))
         (λ other.
         let kept : u ≡ w = some_same (sym was ∙ sym (is.others k other) ∙ now) in
-        subst (λ z. IsRead d' c' files' z (read k)) kept (⊎_elim
+        subst (λ z. IsVersionRead d' c' files' z (read k)) kept (⊎_elim
         (λ (of_file : u.is_current ≡ true).
         let found = old.current of_file in
         current_read of_file found.0 found.1 found.2 (λ both. other (one_key d.size c whole k key u v was is.there

@@ -18,7 +18,7 @@ use Rattle.volume.specs.Places.{prime_at}
 use Rattle.volume.specs.Rest.{KeepsRead}
 use Rattle.volume.specs.declared.live.LiveVersion.{LiveVersion}
 use Rattle.volume.proofs.OnePlace.{one_key, one_place}
-use Rattle.monitor.specs.Readers.{IsRead, AreRead}
+use Rattle.monitor.specs.Readers.{IsVersionRead, AreRead}
 use Rattle.monitor.specs.Sides.{UnderKeys, input_of, output_of, jobs_of}
 use Rattle.monitor.specs.declared.channel.Channel.{Channel}
 use Rattle.monitor.specs.declared.input.Input.{Input}
@@ -134,7 +134,7 @@ module _ (d d' : DiskState) (c c' : VolumeCore) (files : Files Version) (read : 
       some_same (sym was.2 ∙ ap (file_at files) (λ i. record { ppn = same.0 i; name = same.1 i }) ∙ at)
 
   moved_read : 0 < is.version.readers
-      → IsRead d' c' files' (record is.version { prime = is.prime }) (with_protection (read key) protection)
+      → IsVersionRead d' c' files' (record is.version { prime = is.prime }) (with_protection (read key) protection)
   moved_read held =
       let was = (reads.each key is.version is.there held).version in
       let kept = words_kept d.contents d'.contents (as_known is.version) (read key).file
@@ -159,7 +159,7 @@ module _ (d d' : DiskState) (c c' : VolumeCore) (files : Files Version) (read : 
 
   -- Another version is of another place, or of none.
   other_read : (k : ℕ) (v : LiveVersion) → slot c.live k ≡ Some v → k ≢ key → 0 < v.readers
-      → IsRead d' c' files' v (read k)
+      → IsVersionRead d' c' files' v (read k)
   other_read k v there apart held =
       let was = reads.each k v there held in
       record {
@@ -185,11 +185,11 @@ module _ (d d' : DiskState) (c c' : VolumeCore) (files : Files Version) (read : 
     each = λ k v now held. ⊎_elim
         (λ (same : k ≡ key).
         let version = moved_to k v now same in
-        subst (λ y. IsRead d' c' files' v y) (sym (under_same read key protection k same
+        subst (λ y. IsVersionRead d' c' files' v y) (sym (under_same read key protection k same
         ∙ ap (λ n. with_protection (read n) protection) same))
-        (subst (λ z. IsRead d' c' files' z (with_protection (read key) protection)) version
+        (subst (λ z. IsVersionRead d' c' files' z (with_protection (read key) protection)) version
         (moved_read (subst (λ (n : ℕ). 0 < n) (sym (ap (λ (z : LiveVersion). z.readers) version)) held))))
-        (λ apart. subst (λ y. IsRead d' c' files' v y) (sym (under_other read key protection k apart))
+        (λ apart. subst (λ y. IsVersionRead d' c' files' v y) (sym (under_other read key protection k apart))
         (other_read k v (was_other k v now apart) apart held))
         (cases_eq k key);
     unread = λ k v now ended.

@@ -7,7 +7,7 @@ use Rattle.blockdisk.specs.Disk.{Contents, DiskState}
 use Rattle.meaning.specs.Blocks.{AgreeOn}
 use Rattle.meaning.specs.Files.{File, Files, Place}
 use Rattle.meaning.specs.Published.{Version, file_at}
-use Rattle.meaning.specs.Runs.{AreDistinct}
+use Rattle.meaning.specs.Runs.{HaveDistinctSerials}
 use Rattle.meaning.proofs.MapLaws.{some_same, some_none}
 use Rattle.meaning.proofs.Versions.{body_kept}
 use Rattle.volume.specs.Known.{KnownVersion}
@@ -17,7 +17,7 @@ use Rattle.volume.specs.Places.{prime_at}
 use Rattle.volume.specs.declared.live.LiveVersion.{LiveVersion}
 use Rattle.volume.proofs.OnePlace.{one_key, one_place}
 use Rattle.volume.proofs.PrimeBlocks.{primes_table}
-use Rattle.monitor.specs.Readers.{IsRead, AreRead}
+use Rattle.monitor.specs.Readers.{IsVersionRead, AreRead}
 use Rattle.monitor.proofs.HeldSerials.{not_there, one_at}
 use Rattle.monitor.proofs.PublishedFiles.{versions_in}
 
@@ -47,7 +47,7 @@ with_read_other read key x k apart = ap (λ b. if b then x else read k) (ne_eqb 
 -- A version that is read goes on where prime blocks stay and its disk, its files and its core are these.
 moved : (d : DiskState) (c c' : VolumeCore) (files : Files Version) (v : LiveVersion) (readers : ℕ) (x : Version)
     → ((place : Place) → prime_at c' place.ppn place.name ≡ prime_at c place.ppn place.name)
-    → IsRead d c files v x → IsRead d c' files (record v { readers = readers }) x
+    → IsVersionRead d c files v x → IsVersionRead d c' files (record v { readers = readers }) x
 moved d c c' files v readers x primes is = record {
   version = is.version;
   current = λ current. let at = is.current current in (at.0, primes at.0 ∙ at.1, at.2);
@@ -67,7 +67,7 @@ module _ (d : DiskState) (c : VolumeCore) (files : Files Version) (read : ℕ �
       let place_is : was.0 ≡ place = λ i. record { ppn = same.0 i; name = same.1 i } in
       some_same (sym was.2 ∙ ap (file_at files) place_is ∙ there)
 
-  module _ (c' : VolumeCore) (key : ℕ) (distinct : AreDistinct (versions_in files))
+  module _ (c' : VolumeCore) (key : ℕ) (distinct : HaveDistinctSerials (versions_in files))
       (pinned : (v : LiveVersion) × (slot c.live key ≡ Some v)
       × (slot c'.live key ≡ Some (record v { readers = v.readers + 1 })))
       (others : (k : ℕ) → (k ≡ key → ⊥) → slot c'.live k ≡ slot c.live k)
@@ -91,7 +91,7 @@ module _ (d : DiskState) (c : VolumeCore) (files : Files Version) (read : ℕ �
         let was : at.0 ≡ pinned.0 = some_same (sym at.1 ∙ pinned.1) in
         ap (λ (z : LiveVersion). z.at) was ∙ ap (λ (z : LiveVersion). z.at) same
 
-    is_read : (u : LiveVersion) → slot c'.live key ≡ Some u → IsRead d c' files u x
+    is_read : (u : LiveVersion) → slot c'.live key ≡ Some u → IsVersionRead d c' files u x
     is_read u now = record {
       version = subst (λ z. IsVersionOf d.contents (as_known z) x.file) (some_same (sym value.1 ∙ now)) value.2;
       current = λ current. (place, primes place ∙ at.3 ∙ ap Some (still_at u now), there);
@@ -114,9 +114,9 @@ module _ (d : DiskState) (c : VolumeCore) (files : Files Version) (read : ℕ �
     pub reads_pinned : AreRead d c' files (with_read read key x)
     reads_pinned = record {
       each = λ k u now held. ⊎_elim
-          (λ (same : k ≡ key). subst (λ z. IsRead d c' files u z) (sym (with_read_same read key x k same))
+          (λ (same : k ≡ key). subst (λ z. IsVersionRead d c' files u z) (sym (with_read_same read key x k same))
           (is_read u (ap (slot c'.live) (sym same) ∙ now)))
-          (λ apart. subst (λ z. IsRead d c' files u z) (sym (with_read_other read key x k apart))
+          (λ apart. subst (λ z. IsVersionRead d c' files u z) (sym (with_read_other read key x k apart))
           (moved d c c' files u u.readers (read k) primes (reads.each k u (sym (others k apart) ∙ now) held)))
           (cases_eq k key);
       unread = λ k u now ended. ⊎_elim
@@ -169,7 +169,8 @@ module _ (d : DiskState) (c c' : VolumeCore) (files : Files Version) (read : ℕ
     each = λ k u now some. ⊎_elim
         (λ (same : k ≡ key).
         let left = left_under u (ap (slot c'.live) (sym same) ∙ now) in
-        subst (λ n. IsRead d c' files u (read n)) (sym same) (subst (λ z. IsRead d c' files z (read key)) left.0
+        subst (λ n. IsVersionRead d c' files u (read n)) (sym same)
+        (subst (λ z. IsVersionRead d c' files z (read key)) left.0
         (moved d c c' files v (v.readers - 1) (read key) primes (reads.each key v here held))))
         (λ apart. moved d c c' files u u.readers (read k) primes (reads.each k u (sym (others k apart) ∙ now) some))
         (cases_eq k key);

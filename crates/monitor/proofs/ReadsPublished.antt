@@ -5,7 +5,7 @@ use Rattle.std.proofs.lemmas.Bool.{cases_Bool, cases_eq, cases_lt, both_ways}
 use Rattle.blockdisk.specs.Disk.{DiskState}
 use Rattle.meaning.specs.Files.{Files, Place}
 use Rattle.meaning.specs.Published.{Version, file_at, with_file}
-use Rattle.meaning.specs.Runs.{AreDistinct}
+use Rattle.meaning.specs.Runs.{HaveDistinctSerials}
 use Rattle.meaning.specs.Stands.{place_of}
 use Rattle.meaning.proofs.MapLaws.{some_same, some_none}
 use Rattle.volume.specs.Live.{as_known, VolumeCore, slot, IsWholeCore}
@@ -16,7 +16,7 @@ use Rattle.volume.specs.declared.live.LiveVersion.{LiveVersion}
 use Rattle.volume.specs.declared.pending.PendingVersion.{PendingVersion}
 use Rattle.volume.proofs.PublishedPlaces.{ended_stays, current_goes_on}
 use Rattle.volume.proofs.PublishingSlots.{left, left_cases, made_current_slot}
-use Rattle.monitor.specs.Readers.{readers_of, IsRead, AreRead}
+use Rattle.monitor.specs.Readers.{readers_of, IsVersionRead, AreRead}
 use Rattle.monitor.proofs.HeldSerials.{superseded, still_none}
 use Rattle.monitor.proofs.PublishedFiles.{versions_in, put_elsewhere}
 use Rattle.monitor.proofs.ReadsPinned.{words_kept}
@@ -102,18 +102,18 @@ module _ (size : ℕ) (c c' : VolumeCore) (key : ℕ) (p : PendingVersion) (word
 module _ (d d' : DiskState) (c c' : VolumeCore) (files : Files Version) (read : ℕ
     → Version) (key : ℕ) (p : PendingVersion) (words : ℕ) (place : Place) (x : Version)
     (reads : AreRead d c files read) (whole : IsWholeCore d.size c) (is : IsPublishedCore d.size c c' key p words)
-    (distinct : AreDistinct (versions_in files)) (place_is : place ≡ place_of p.prime.ppn p.prime.file)
+    (distinct : HaveDistinctSerials (versions_in files)) (place_is : place ≡ place_of p.prime.ppn p.prime.file)
     (fresh : (k : ℕ) (v : LiveVersion) → slot c.live k ≡ Some v → 0 < v.readers → x.serial ≡ (read k).serial
     → ⊥) (keeps : KeepsRead d.contents d'.contents c) where
   abbrev files' : Files Version
   files' = with_file files place x
 
   module _ (k : ℕ) (u : LiveVersion) (was : slot c.live k ≡ Some u) (held : 0 < u.readers) where
-    old : IsRead d c files u (read k)
+    old : IsVersionRead d c files u (read k)
     old = reads.each k u was held
 
     -- one that was past is
-    past_read : u.is_current ≡ false → IsRead d' c' files' u (read k)
+    past_read : u.is_current ≡ false → IsVersionRead d' c' files' u (read k)
     past_read ended = record {
       version = words_kept d.contents d'.contents (as_known u) (read k).file (keeps k u was held) old.version;
       current = λ current. absurd (both_ways u.is_current ended current);
@@ -122,7 +122,7 @@ module _ (d d' : DiskState) (c c' : VolumeCore) (files : Files Version) (read : 
 
     -- so is the one of the place
     superseded_read : (q : Place) → file_at files q ≡ Some (read k) → q.ppn ≡ p.prime.ppn → q.name ≡ p.prime.file
-        → IsRead d' c' files' (record u { is_current = false }) (read k)
+        → IsVersionRead d' c' files' (record u { is_current = false }) (read k)
     superseded_read q at ppn name = record {
       version = words_kept d.contents d'.contents (as_known u) (read k).file (keeps k u was held) old.version;
       current = λ current. absurd (both_ways false refl current);
@@ -132,7 +132,7 @@ module _ (d d' : DiskState) (c c' : VolumeCore) (files : Files Version) (read : 
 
     -- and that of another place is current there
     current_read : u.is_current ≡ true → (q : Place) → prime_at c' q.ppn q.name ≡ Some u.at → file_at files q
-        ≡ Some (read k) → ((q.ppn ≡ p.prime.ppn) × (q.name ≡ p.prime.file) → ⊥) → IsRead d' c' files' u (read k)
+        ≡ Some (read k) → ((q.ppn ≡ p.prime.ppn) × (q.name ≡ p.prime.file) → ⊥) → IsVersionRead d' c' files' u (read k)
     current_read now q prime at apart = record {
       version = words_kept d.contents d'.contents (as_known u) (read k).file (keeps k u was held) old.version;
       current = λ current. (
@@ -144,17 +144,17 @@ module _ (d d' : DiskState) (c c' : VolumeCore) (files : Files Version) (read : 
       past = λ ended. absurd (both_ways u.is_current ended now);
     }
 
-    goes_on : (v : LiveVersion) → slot c'.live k ≡ Some v → IsRead d' c' files' v (read k)
+    goes_on : (v : LiveVersion) → slot c'.live k ≡ Some v → IsVersionRead d' c' files' v (read k)
     goes_on v now = ⊎_elim
         (λ (current : u.is_current ≡ true).
         let at = old.current current in
         ⊎_elim
-        (λ gone. subst (λ z. IsRead d' c' files' z (read k)) (some_same (sym gone.2 ∙ now))
+        (λ gone. subst (λ z. IsVersionRead d' c' files' z (read k)) (some_same (sym gone.2 ∙ now))
         (superseded_read at.0 at.2 gone.0 gone.1))
-        (λ stays. subst (λ z. IsRead d' c' files' z (read k)) (some_same (sym stays.1 ∙ now))
+        (λ stays. subst (λ z. IsVersionRead d' c' files' z (read k)) (some_same (sym stays.1 ∙ now))
         (current_read current at.0 stays.2 at.2 stays.0))
         (current_goes_on d.size c c' key p words whole is k u was current at.0.ppn at.0.name at.1 held))
-        (λ ended. subst (λ z. IsRead d' c' files' z (read k))
+        (λ ended. subst (λ z. IsVersionRead d' c' files' z (read k))
         (some_same (sym (ended_stays d.size c c' key p words whole is k u was ended) ∙ now)) (past_read ended))
         (cases_Bool u.is_current)
 

@@ -20,7 +20,7 @@ use Rattle.meaning.specs.declared.call.Reply.{Reply}
 use Rattle.meaning.specs.declared.call.Reply.TheVariants.{Refused}
 use Rattle.volume.specs.Live.{VolumeCore}
 use Rattle.volume.specs.Live.{slot as version_at}
-use Rattle.volume.specs.Rest.{IsSound}
+use Rattle.volume.specs.Rest.{IsSoundCore}
 use Rattle.volume.specs.declared.live.LiveVersion.{LiveVersion}
 use Rattle.monitor.specs.Changing.{asked_protection}
 use Rattle.monitor.specs.Finding.{IsKnown}
@@ -75,7 +75,7 @@ module _ {D : Type 0} (state : D → DiskState) (only_now : (disk : D) (contents
     (c : VolumeCore) (failed : Bool) (alive : failed ≡ false) (job : Job) (number e : ℕ)
     (channel : Channel) (input : Input) (is_open : slot job.channels number ≡ Some channel)
     (side : channel.input ≡ Some input) (free : channel.output ≡ None) (inside : lies_outside job.core e 4 ≡ false)
-    (sound : IsSound (state disk) c false) (placed : ArePlaced c) (code : ErrorCode)
+    (sound : IsSoundCore (state disk) c false) (placed : ArePlaced c) (code : ErrorCode)
     (refuses : (state disk).honest → (s : State) → IsKnown (state disk) c s → (w : UnderKeys)
     → rename_from (pack_of (state disk)) s (job_of w job) e (place_of input.ppn input.file) ≡ Refused (number_of code))
     (moment : Moment) (timely : moment.date ≤ 4095) (jobs : List (Option Job)) (n : ℕ)

@@ -15,7 +15,7 @@ use Rattle.meaning.specs.declared.call.Reply.{Reply}
 use Rattle.meaning.specs.declared.call.Reply.TheVariants as replies
 use Rattle.meaning.proofs.SlotLaws.{set-slot}
 use Rattle.volume.specs.Live.{VolumeCore}
-use Rattle.volume.specs.Rest.{IsSound}
+use Rattle.volume.specs.Rest.{IsSoundCore}
 use Rattle.monitor.specs.Promises.{IsServing, ServesAlways}
 use Rattle.monitor.specs.Serving.{pack_of, ArePlaced, IsState, Serves}
 use Rattle.monitor.specs.Sides.{job_of, state_of}
@@ -64,7 +64,7 @@ module _ {D : Type 0} (state : D → DiskState) (only_now : (disk : D) (contents
     (core : VolumeCore) (job : Job) (number e : ℕ) (channel : Channel)
     (is_open : slot job.channels number ≡ Some channel)
     (input : Input) (side : channel.input ≡ Some input) (free : channel.output ≡ None)
-    (inside : lies_outside job.core e 4 ≡ false) (sound : IsSound (state disk) core false)
+    (inside : lies_outside job.core e 4 ≡ false) (sound : IsSoundCore (state disk) core false)
     (placed : ArePlaced core) where
   abbrev d : DiskState
   d = state disk

@@ -9,7 +9,7 @@ use Rattle.meaning.specs.Files.{Files, Directory, map_directory}
 use Rattle.meaning.specs.Jobs.{slot}
 use Rattle.meaning.specs.Maps.{get, times}
 use Rattle.meaning.specs.Published.{Version, without_serials, file_in, file_at}
-use Rattle.meaning.specs.Runs.{AreDistinct}
+use Rattle.meaning.specs.Runs.{HaveDistinctSerials}
 use Rattle.meaning.specs.Stands.{place_of}
 use Rattle.meaning.proofs.MapLaws.{some_same, some_none}
 use Rattle.meaning.proofs.MapLists.{get-map_values}
@@ -127,7 +127,7 @@ module _ (c c' : VolumeCore) (input renewed : Input) (ppn : ℕ) (file : FileNam
         let here = ap readers_of at.1 in omega arith))
         (cases_lt 0 at.0.readers))
 
-    pub renewed_reads : AreDistinct (versions_in files)
+    pub renewed_reads : HaveDistinctSerials (versions_in files)
         → IsPinAnswer d.contents is.between.live file (Ok renewed.pin) (get (without_serials files) ppn)
         → AreRead d c' files (with_read read renewed.pin.key x)
     renewed_reads distinct answer = subst (λ key. AreRead d c' files (with_read read key x)) (sym key_is)

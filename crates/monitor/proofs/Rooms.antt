@@ -11,10 +11,11 @@ use Rattle.meaning.specs.Costs.{version_cost, cost_of_blocks, directory_cost, co
 use Rattle.meaning.specs.Published.{Version, without_serials}
 use Rattle.meaning.specs.Jobs as machine
 use Rattle.meaning.specs.Jobs.{State, is_create}
-use Rattle.meaning.specs.Room.{outputs_of, outputs, held_by, held, current, distinct_cost, pending_creations}
+use Rattle.meaning.specs.Room.{outputs_of, outputs, held_by}
+use Rattle.meaning.specs.Room.{held_versions, current_versions, distinct_cost, pending_creations}
 use Rattle.meaning.specs.Room.{pending_cost, booked}
 use Rattle.meaning.specs.Room as room
-use Rattle.meaning.specs.Runs.{AreDistinct}
+use Rattle.meaning.specs.Runs.{HaveDistinctSerials}
 use Rattle.meaning.proofs.Names.{name_total}
 use Rattle.meaning.proofs.MapSums.{total-map, size-map_values, sum-map_values}
 use Rattle.volume.specs.Live.{VolumeCore, pending_at, is_creation, creates, cost_beyond, held_cost, IsWholePending}
@@ -65,7 +66,8 @@ module _ (w : UnderKeys) where
 
 -- Versions with serials of their own cost what each costs.
 
-each_once : (vs : List Version) → AreDistinct vs → distinct_cost vs ≡ total (λ v. version_cost (length v.file.body)) vs
+each_once : (vs : List Version) → HaveDistinctSerials vs → distinct_cost vs
+    ≡ total (λ v. version_cost (length v.file.body)) vs
 each_once [] distinct = refl
 each_once (v ∷ vs) distinct = cc (distinct.0, each_once vs distinct.1)
 
@@ -110,7 +112,7 @@ booked_of files versions outs =
     + distinct_cost (flat_map (λ d. values d.files) (values files) ++ versions)
     + total (λ o. version_cost (length o.pending.body)) outs
 
-booked_alone : (files : Files Version) → AreDistinct (flat_map (λ d. values d.files) (values files))
+booked_alone : (files : Files Version) → HaveDistinctSerials (flat_map (λ d. values d.files) (values files))
     → booked_of files [] [] ≡ cost_of_files (without_serials files)
 booked_alone files distinct =
     let size_is = ap directory_cost (size-map_values nat_cmp_total (map_directory (λ (v : Version). v.file)) files) in
@@ -162,15 +164,15 @@ module _ (d : DiskState) (map : VolumeCore) (jobs : List (Option Job)) (s : Stat
       ∙ ap cost_of_blocks
       (sym (all_at (IsWholePending d.size) map.pending o.pending.key p whole.waiting at).whole.counted))
 
-  held_is : held s ≡ shown_by state.under (readers jobs)
+  held_is : held_versions s ≡ shown_by state.under (readers jobs)
   held_is = ap (flat_map held_by) state.jobs_are ∙ held_are state.under jobs
 
   -- What is read is booked once, and what a file still has is booked with it.
-  held_booked : IsWholeCore d.size map → distinct_cost (current s ++ held s)
-      ≡ distinct_cost (current s) + total held_cost map.live
+  held_booked : IsWholeCore d.size map → distinct_cost (current_versions s ++ held_versions s)
+      ≡ distinct_cost (current_versions s) + total held_cost map.live
   held_booked whole =
-      ap (λ vs. distinct_cost (current s ++ vs)) held_is
-      ∙ held_as_once map.live (current s) state.under.read (pins_of (readers jobs))
+      ap (λ vs. distinct_cost (current_versions s ++ vs)) held_is
+      ∙ held_as_once map.live (current_versions s) state.under.read (pins_of (readers jobs))
       (shown_by state.under (readers jobs))
       (shown_as state.under (readers jobs)) state.reading.pinned
       (reads_booked d map s.files state.under.read whole state.serials state.read)
@@ -186,5 +188,5 @@ module _ (d : DiskState) (map : VolumeCore) (jobs : List (Option Job)) (s : Stat
       (λ e. ap (λ n. directory_cost (size e.1.files + n)) (creations_are e.0)) (entries s.files) in
       let growth = growths_are d map.known s.files holds whole.map map.pending in
       let held = held_booked whole in
-      let bare = ap distinct_cost (append-nil (current s)) in
+      let bare = ap distinct_cost (append-nil (current_versions s)) in
       omega arith

@@ -13,7 +13,7 @@ use Rattle.meaning.specs.declared.call.Reply.{Reply}
 use Rattle.meaning.specs.declared.call.Reply.TheVariants.{NoJob}
 use Rattle.meaning.proofs.SlotLaws.{set-slot}
 use Rattle.volume.specs.Live.{VolumeCore}
-use Rattle.monitor.specs.Rows.{IsRow, Keeps, KeepsReading}
+use Rattle.monitor.specs.Rows.{IsRow, KeepsSides, KeepsReading}
 use Rattle.monitor.specs.Serving.{pack_of, Serves, AreKeyed, AreReading}
 use Rattle.monitor.specs.Sides.{UnderKeys, state_of}
 use Rattle.monitor.specs.declared.job.Job.{Job}
@@ -65,7 +65,7 @@ module _ (d : DiskState) (map : VolumeCore) (failed : Bool) (jobs : List (Option
   asks job reply there is = stays reply (row_is jobs job job reply there (sym (set-slot jobs n job there)) is)
 
   pub alone_keyed : (jobs' : List (Option Job)) (job job' : Job) → AreKeyed map.pending jobs → slot jobs n ≡ Some job
-      → jobs' ≡ slice_set jobs n (Some job') → Keeps map.pending map.pending job job' → AreKeyed map.pending jobs'
+      → jobs' ≡ slice_set jobs n (Some job') → KeepsSides map.pending map.pending job job' → AreKeyed map.pending jobs'
   alone_keyed jobs' job job' keyed there set keeps = subst (AreKeyed map.pending) (sym set)
       (keeps_keyed map.pending map.pending jobs n job job' keyed there keeps)
 
@@ -76,7 +76,8 @@ module _ (d : DiskState) (map : VolumeCore) (failed : Bool) (jobs : List (Option
 
   pub alone : (jobs' : List (Option Job)) (job job' : Job) (reply : Reply) → AreKeyed map.pending jobs
       → AreReading map.live jobs → slot jobs n ≡ Some job → jobs' ≡ slice_set jobs n (Some job')
-      → Keeps map.pending map.pending job job' → KeepsReading map.live map.live job job' → IsRow job job' call reply
+      → KeepsSides map.pending map.pending job job' → KeepsReading map.live map.live job job'
+      → IsRow job job' call reply
       → Answered map jobs' reply
   alone jobs' job job' reply keyed reading there set keeps reads is =
       row d map map failed jobs jobs' (alone_keyed jobs' job job' keyed there set keeps)

@@ -13,7 +13,7 @@ use Rattle.meaning.specs.Files.{File, Files, Directory, map_directory}
 use Rattle.meaning.specs.Published.{Version}
 use Rattle.meaning.specs.Jobs.{State, no_jobs}
 use Rattle.meaning.specs.Room.{has_serial}
-use Rattle.meaning.specs.Runs.{AreDistinct, IsStart}
+use Rattle.meaning.specs.Runs.{HaveDistinctSerials, IsStart}
 use Rattle.meaning.proofs.Names.{name_total}
 use Rattle.meaning.proofs.MapLaws.{entries_sorted, same_entries_map}
 use Rattle.meaning.proofs.MapLists.{entries-from_sorted, entries-map_values}
@@ -89,7 +89,7 @@ none_below (v ∷ vs) n k less rise = cc (
   none_below vs (v.serial + 1) k (omega (arith, less, rise.0)) rise.1,
 )
 
-distinct : (vs : List Version) (n : ℕ) → Rise n vs → AreDistinct vs
+distinct : (vs : List Version) (n : ℕ) → Rise n vs → HaveDistinctSerials vs
 distinct [] n rise = tt
 distinct (v ∷ vs) n rise = (
   none_below vs (v.serial + 1) v.serial (omega arith) rise.1,

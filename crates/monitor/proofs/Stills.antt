@@ -8,7 +8,7 @@ use Rattle.meaning.specs.Inputs.{in_answer, in_done, core_filled, words_ahead, b
 use Rattle.meaning.specs.Jobs.{Channel, Job, Input, State, channel_at, job_at, with_job}
 use Rattle.meaning.specs.Outcomes.{stopped_in}
 use Rattle.meaning.specs.Room.{Pack}
-use Rattle.meaning.specs.Runs.{Service, Serving, Broken, Answers, Run}
+use Rattle.meaning.specs.Runs.{Service, Serving, Broken, Answers, AnswersAll}
 use Rattle.meaning.specs.Splices.{words_from}
 use Rattle.meaning.specs.Step.{step, last_date, on_job, on_channel, of_job}
 use Rattle.meaning.specs.declared.call.Call.TheVariants.{Lookup, In}
@@ -49,7 +49,7 @@ module _ (pack : Pack) (between : List Event) (second : List Reply) (n ch e a : 
     (spared : SpareAll n ch between) where
   -- where the service had failed, no answer is Done
   by_services : (found looked read left : Service) → Answers pack found (Calls n (Lookup ch e) early) Done looked
-      → Run pack looked between second read
+      → AnswersAll pack looked between second read
       → Answers pack read (Calls n (In ch a) late) Done left → ReadsWhatWasFound found read left n ch e a
   by_services Broken Broken read left looks on reads = absurd (not_failed looks)
   by_services Broken (Serving y) read left looks on reads = absurd looks

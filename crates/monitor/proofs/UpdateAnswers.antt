@@ -10,7 +10,7 @@ use Rattle.meaning.specs.declared.call.Event.TheVariants.{Call as Calls}
 use Rattle.meaning.specs.declared.call.Reply.{Reply}
 use Rattle.meaning.specs.declared.call.Reply.TheVariants.{Done}
 use Rattle.volume.specs.Live.{VolumeCore, IsWholeCore}
-use Rattle.volume.specs.Rest.{IsSound, RestsAt}
+use Rattle.volume.specs.Rest.{IsSoundCore, RestsAt}
 use Rattle.monitor.specs.Entering.{IsEnterAnswer}
 use Rattle.monitor.specs.Finding.{IsKnown}
 use Rattle.monitor.specs.Serving.{pack_of, AreKeyed, AreReading, Serves}
@@ -48,7 +48,7 @@ module _ (d d' : DiskState) (map map' : VolumeCore) (jobs jobs' : List (Option J
       (other_reading d map false jobs jobs' n job job' ch e moment reply there set k.1 not keyed reading))
       (is_done reply)
 
-  pub update_answered : (failed : Bool) → failed ≡ false → IsSound d map false → d.honest → d'.honest
+  pub update_answered : (failed : Bool) → failed ≡ false → IsSoundCore d map false → d.honest → d'.honest
       → moment.date ≤ 4095
       → ((s : State) → IsKnown d map s → (w : UnderKeys)
       → IsEnterAnswer (pack_of d) s (job_of w job) (job_of w job') (channel_at (job_of w job) ch) e reply)

@@ -33,7 +33,7 @@ use Rattle.volume.specs.Known.{Before}
 use Rattle.volume.specs.Live.{VolumeCore, pending_at, is_creation, IsWholeCore, IsWholePending, AreWaiting}
 use Rattle.volume.specs.Live.{is_create as creates_name}
 use Rattle.volume.specs.Places.{prime_at}
-use Rattle.volume.specs.Rest.{IsSound, RestsAt}
+use Rattle.volume.specs.Rest.{IsSoundCore, RestsAt}
 use Rattle.volume.specs.declared.pending.Kind.{Kind as VersionKind}
 use Rattle.volume.specs.declared.pending.Kind.TheVariants as kinds
 use Rattle.volume.specs.declared.pending.PendingVersion.{PendingVersion}
@@ -41,7 +41,7 @@ use Rattle.monitor.specs.Entering.{IsEnterAnswer}
 use Rattle.monitor.specs.Finding.{IsKnown, file_begun}
 use Rattle.monitor.specs.Inputs.{named_in}
 use Rattle.monitor.specs.Readers.{AreRead, ArePinned}
-use Rattle.monitor.specs.Rows.{Keeps, KeepsReading}
+use Rattle.monitor.specs.Rows.{KeepsSides, KeepsReading}
 use Rattle.monitor.specs.Serving.{pack_of, present, IsSide, AreKeyed, IsWriting, AreReading, IsState, Serves}
 use Rattle.monitor.specs.Sides.{Writing, UnderKeys, side_of, kind_of, input_of, output_of, channel_of, job_of}
 use Rattle.monitor.specs.Sides.{state_of, pins_of, readers}
@@ -159,8 +159,8 @@ module _ (d : DiskState) (map map' : VolumeCore) (jobs jobs' : List (Option Job)
   others : (k : ℕ) → (k ≡ key → ⊥) → pending_at map'.pending k ≡ pending_at map.pending k
   others k apart = ap (λ ps. pending_at ps k) pending_is ∙ is.begun.others k apart
 
-  keeps : Keeps map.pending map'.pending job job'
-  keeps = subst (Keeps map.pending map'.pending job) (sym is.job_is) (record {
+  keeps : KeepsSides map.pending map'.pending job job'
+  keeps = subst (KeepsSides map.pending map'.pending job) (sym is.job_is) (record {
     once = λ k.
         let moved = count-channel k job.channels ch (Some now) (λ none. absurd (none_some (sym none ∙ is.there))) in
         let was = ap (λ o. count k (option_to_list (side_of o))) is.there
@@ -204,7 +204,7 @@ module _ (d : DiskState) (map map' : VolumeCore) (jobs jobs' : List (Option Job)
       ch now c
       (with_attributes 1 job.core e (file_begun is.version.prime)) is.there is.side refl))))
 
-  module _ (sound : IsSound d map false) (honest : d.honest) (timely : moment.date ≤ 4095)
+  module _ (sound : IsSoundCore d map false) (honest : d.honest) (timely : moment.date ≤ 4095)
       (whole : IsWholeCore d.size is.between)
       (row : (s : State) → IsKnown d map s → (w : UnderKeys)
       → IsEnterAnswer (pack_of d) s (job_of w job) (job_of w job') (channel_at (job_of w job) ch) e Done)

@@ -30,7 +30,7 @@ use Rattle.volume.specs.Beginning.{is_absent, is_update, IsBeginRefusal, IsDirec
 use Rattle.volume.specs.Claims.{claims}
 use Rattle.volume.specs.Known.{KnownDirectory}
 use Rattle.volume.specs.Live.{VolumeCore, is_create}
-use Rattle.volume.specs.Rest.{IsSound}
+use Rattle.volume.specs.Rest.{IsSoundCore}
 use Rattle.volume.specs.declared.error.CallError.{CallError}
 use Rattle.volume.specs.declared.error.CallError.TheVariants as errors
 use Rattle.volume.specs.declared.pending.Kind.{Kind}
@@ -146,7 +146,7 @@ update_is name owner job (Some d) is_zero claimed full =
 abbrev shown : Directory Version → Directory File
 shown D = map_directory (λ (v : Version). v.file) D
 
-module _ (d : DiskState) (map : VolumeCore) (s : State) (known : IsKnown d map s) (sound : IsSound d map false)
+module _ (d : DiskState) (map : VolumeCore) (s : State) (known : IsKnown d map s) (sound : IsSoundCore d map false)
     (honest : d.honest) where
   holds : Holds d map.known (without_serials s.files)
   holds = rest_holds d map false sound honest refl (without_serials s.files) known.files

@@ -15,7 +15,7 @@ use Rattle.meaning.specs.declared.call.Reply.TheVariants.{Done, Refused, Stopped
 use Rattle.meaning.proofs.MapLaws.{some_same}
 use Rattle.volume.specs.declared.live.LiveVersion.{LiveVersion}
 use Rattle.volume.specs.declared.pending.PendingVersion.{PendingVersion}
-use Rattle.monitor.specs.Rows.{IsRow, Keeps, KeepsReading}
+use Rattle.monitor.specs.Rows.{IsRow, KeepsSides, KeepsReading}
 use Rattle.monitor.specs.Serving.{IsSide}
 use Rattle.monitor.specs.Sides.{UnderKeys, side_of, reader_of, input_of, channel_of, job_of}
 use Rattle.monitor.specs.declared.channel.Channel.{Channel}
@@ -88,9 +88,9 @@ module _ (job : Job) (number block : ℕ) where
         → job' ≡ record job {
           channels = slice_set job.channels number
               (Some (record c { status = status; input = input }));
-        } → Keeps pending pending job job'
+        } → KeepsSides pending pending job job'
     keeps_read pending job' status input set =
-        subst (Keeps pending pending job) (sym set)
+        subst (KeepsSides pending pending job) (sym set)
         (keeps_channel pending job number (Some (record c { status = status; input = input }))
         (λ key. ap (λ p. count key (option_to_list (side_of p))) (sym there))
         (λ all. subst (λ p. AllByRecursion (IsSide pending) (option_to_list (side_of p))) there

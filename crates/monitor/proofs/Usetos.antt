@@ -14,7 +14,7 @@ use Rattle.meaning.specs.declared.call.Reply.{Reply}
 use Rattle.meaning.specs.declared.call.Reply.TheVariants.{Done, Refused, Stopped, NoChannel}
 use Rattle.volume.specs.declared.live.LiveVersion.{LiveVersion}
 use Rattle.volume.specs.declared.pending.PendingVersion.{PendingVersion}
-use Rattle.monitor.specs.Rows.{IsRow, Keeps, KeepsReading}
+use Rattle.monitor.specs.Rows.{IsRow, KeepsSides, KeepsReading}
 use Rattle.monitor.specs.Serving.{IsSide}
 use Rattle.monitor.specs.Sides.{UnderKeys, side_of, reader_of, output_of, channel_of, job_of}
 use Rattle.monitor.specs.declared.channel.Channel.{Channel}
@@ -112,9 +112,9 @@ module _ (job : Job) (number block : ℕ) where
 
     pub keeps_status : (pending : List (Option PendingVersion)) (job' : Job) (status : ℕ)
         → job' ≡ record job { channels = slice_set job.channels number (Some (record c { status = status })) }
-        → Keeps pending pending job job'
+        → KeepsSides pending pending job job'
     keeps_status pending job' status set =
-        subst (Keeps pending pending job) (sym set)
+        subst (KeepsSides pending pending job) (sym set)
         (keeps_channel pending job number (Some (record c { status = status }))
         (same_count (record c { status = status }) (λ key. refl)) (its_side pending))
 
@@ -123,9 +123,9 @@ module _ (job : Job) (number block : ℕ) where
         → job' ≡ record job {
           channels = slice_set job.channels number
               (Some (record c { status = status; output = Some (record o { next = block }) }));
-        } → Keeps pending pending job job'
+        } → KeepsSides pending pending job job'
     keeps_moved pending job' status o some more set =
-        subst (Keeps pending pending job) (sym set)
+        subst (KeepsSides pending pending job) (sym set)
         (keeps_channel pending job number
         (Some (record c { status = status; output = Some (record o { next = block }) }))
         (same_count (record c { status = status; output = Some (record o { next = block }) })

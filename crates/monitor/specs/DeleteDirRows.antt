@@ -33,19 +33,19 @@ IsKeptBy d c ppn owner code = ((code ≡ 1) × IsNowhere d owner)
     ⊎ ((code ≡ 0o22) × IsThere d owner × (is_strange ppn owner ≡ false) × HasEntries c owner)
 
 -- The directory is there, the job may delete it, and it is empty.
-abbrev pub IsFree : DiskState → VolumeCore → ℕ → ℕ → Type 0
-IsFree d c ppn owner = IsThere d owner × (is_strange ppn owner ≡ false) × (HasEntries c owner → ⊥)
+abbrev pub IsRemovable : DiskState → VolumeCore → ℕ → ℕ → Type 0
+IsRemovable d c ppn owner = IsThere d owner × (is_strange ppn owner ≡ false) × (HasEntries c owner → ⊥)
 
 -- What DeleteDir does to its job, by its answer; `same` says that disk and volume are as they were.
 abbrev pub IsDeleteDir : DiskState → VolumeCore → Type 0 → Job → Job → ℕ → Reply → Type 0
 IsDeleteDir d c same job job' e Done =
-    (job' ≡ job) × (lies_outside job.core e 2 ≡ false) × IsFree d c job.ppn (asked_owner job.core e)
+    (job' ≡ job) × (lies_outside job.core e 2 ≡ false) × IsRemovable d c job.ppn (asked_owner job.core e)
 IsDeleteDir d c same job job' e (Refused code) =
     (job' ≡ with_code job e code) × same × (lies_outside job.core e 2 ≡ false)
     × IsKeptBy d c job.ppn (asked_owner job.core e) code
 IsDeleteDir d c same job job' e AddressCheck = (job' ≡ job) × same × (lies_outside job.core e 2 ≡ true)
 IsDeleteDir d c same job job' e Device =
-    (job' ≡ job) × (lies_outside job.core e 2 ≡ false) × IsFree d c job.ppn (asked_owner job.core e)
+    (job' ≡ job) × (lies_outside job.core e 2 ≡ false) × IsRemovable d c job.ppn (asked_owner job.core e)
 IsDeleteDir d c same job job' e NoMemory = ⊥
 IsDeleteDir d c same job job' e (Value word) = ⊥
 IsDeleteDir d c same job job' e (Stopped status) = ⊥

@@ -11,15 +11,15 @@ use Rattle.meaning.specs.declared.call.Reply.TheVariants.{Done, Value, Refused, 
 use Rattle.meaning.specs.declared.call.Reply.TheVariants.{NoMemory, Device, Failed, DateRange}
 use Rattle.alloctab.specs.TableState.{space}
 use Rattle.volume.specs.Live.{VolumeCore}
-use Rattle.volume.specs.Making.{growth}
+use Rattle.volume.specs.Making.{chain_growth}
 use Rattle.monitor.specs.declared.job.Job.{Job}
 
 -- whose directory the words at an address ask for, and its protection
 abbrev pub asked_owner : List ℕ → ℕ → ℕ
 asked_owner core e = slice_index core e
 
-abbrev pub asked_protection : List ℕ → ℕ → ℕ
-asked_protection core e = protection_or (slice_index core (e + 1)) 0o775
+abbrev pub directory_protection_asked : List ℕ → ℕ → ℕ
+directory_protection_asked core e = protection_or (slice_index core (e + 1)) 0o775
 
 -- what is answered before any directory is looked at; Done where the job may make it
 abbrev pub early_answer : ℕ → List ℕ → ℕ → Reply
@@ -35,7 +35,7 @@ IsAbsent c owner = find nat_cmp owner c.known.master.entries ≡ None
 
 -- a block for it, and what the master directory grows by, exceed the room
 abbrev pub IsCrowded : ℕ → VolumeCore → Type 0
-IsCrowded size c = space size < c.known.table.booked + 1 + growth c.known.master
+IsCrowded size c = space size < c.known.table.booked + 1 + chain_growth c.known.master
 
 -- It is refused for what there is, by this code.
 abbrev pub IsRefusedBy : ℕ → VolumeCore → ℕ → ℕ → Type 0

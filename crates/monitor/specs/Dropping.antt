@@ -13,7 +13,7 @@ IsNoneForgotten live = (key : ℕ) (v : LiveVersion) → slot live key ≡ Some 
 
 -- What there is was there: versions that are written as they were, and those that are read with as many readers or
 -- fewer; of what is known of the disk the table alone may change.
-pub record Leaves (c c' : VolumeCore) : Type 0 where
+pub record OnlyDrops (c c' : VolumeCore) : Type 0 where
   pub stay : (key : ℕ) (p : PendingVersion) → pending_at c'.pending key ≡ Some p → pending_at c.pending key ≡ Some p
   pub live : (key : ℕ) (v : LiveVersion) → slot c'.live key ≡ Some v → (readers : ℕ) × (v.readers ≤ readers)
       × (slot c.live key ≡ Some (record v { readers = readers }))
@@ -24,4 +24,4 @@ pub record Leaves (c c' : VolumeCore) : Type 0 where
 pub record Closes (c c' : VolumeCore) (keys pins : List ℕ) : Type 0 where
   pub gone : (key : ℕ) → present (pending_at c'.pending key) + times key keys ≡ present (pending_at c.pending key)
   pub released : (key : ℕ) → readers_of (slot c'.live key) + times key pins ≡ readers_of (slot c.live key)
-  pub leaves : Leaves c c'
+  pub leaves : OnlyDrops c c'

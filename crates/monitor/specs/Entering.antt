@@ -25,8 +25,8 @@ abbrev pub entered_kind : Bool → Kind
 entered_kind is_new = if is_new then Create else Supersede
 
 -- the channel with an output side that has written nothing
-abbrev pub entered : Channel → ℕ → Kind → Channel
-entered c key kind = record c {
+abbrev pub side_entered : Channel → ℕ → Kind → Channel
+side_entered c key kind = record c {
   status = cleared c.status;
   output = Some (record { pending = record { key = key }; kind = kind; next = 1 });
 }
@@ -46,7 +46,7 @@ pub record IsEntering (c c' : VolumeCore) (job job' : Job) (number address : ℕ
   pub kind_is : kind ≡ entered_kind (is_none begun.old)
   pub job_is : job' ≡ record job {
     core = with_attributes 1 job.core address (file_begun prime);
-    channels = slice_set job.channels number (Some (entered channel key kind));
+    channels = slice_set job.channels number (Some (side_entered channel key kind));
   }
 
 -- What is answered on this channel, and what every answer but Done leaves of the job.

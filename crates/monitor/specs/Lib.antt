@@ -11,6 +11,7 @@ pub mod Putting
 pub mod DirectoryRows
 pub mod Lists
 pub mod Publishing
+pub mod Deposits
 pub mod Events
 pub mod Readers
 pub mod Runs

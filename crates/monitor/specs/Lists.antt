@@ -24,6 +24,6 @@ unpublished_by c NoMemory = replies.NoMemory
 unpublished_by c Failed = replies.Failed
 
 -- a list, seen by `view`, as the machine gives it
-abbrev pub IsListed : {L : Type 0} → (L → List Entry) → Result L Reply → Result (List Entry) Reply → Type 0
-IsListed view (Ok lines) answer = answer ≡ Ok (view lines)
-IsListed view (Err reply) answer = answer ≡ Err reply
+abbrev pub IsListAnswer : {L : Type 0} → (L → List Entry) → Result L Reply → Result (List Entry) Reply → Type 0
+IsListAnswer view (Ok lines) answer = answer ≡ Ok (view lines)
+IsListAnswer view (Err reply) answer = answer ≡ Err reply

@@ -47,7 +47,7 @@ pub record IsLookingUp (c held c' : VolumeCore) (job job' : Job) (number address
       ≡ record job { core = job'.core; channels = slice_set job.channels number (Some (looking channel input)) }
 
 -- The version that is held is the machine's at the place, and what is said of its file is put into the words.
-pub record IsFound (contents : Contents) (live : List (Option LiveVersion)) (s : State) (job job' : Job)
+pub record IsLookedUp (contents : Contents) (live : List (Option LiveVersion)) (s : State) (job job' : Job)
     (address : ℕ) (input : Input) : Type 0 where
   pub version : Version
   pub there : file_at s.files (place_of input.ppn input.file) ≡ Some version

@@ -9,7 +9,7 @@ use Rattle.meaning.specs.declared.call.Event.TheVariants.{Call as Calls}
 use Rattle.meaning.specs.declared.call.Reply.{Reply}
 use Rattle.meaning.specs.declared.call.Reply.TheVariants.{NoMemory, Device, Failed, Refused}
 use Rattle.volume.specs.Live.{VolumeCore}
-use Rattle.volume.specs.Rest.{IsSound}
+use Rattle.volume.specs.Rest.{IsSoundCore}
 use Rattle.monitor.specs.Calls.{IsLight, KeepsCore}
 use Rattle.monitor.specs.Events.{CallCrashes, IsIdle}
 use Rattle.monitor.specs.Refusals.{IsRefused}
@@ -23,8 +23,8 @@ pub record IsAmong (core : VolumeCore) (jobs : List (Option Job)) (n : ℕ) (job
   pub reading : AreReading core.live jobs
 
 -- What a call may rely on: the volume serves, and the job that calls is one of those that it knows.
-pub record IsReady (d : DiskState) (core : VolumeCore) (failed : Bool) (job : Job) : Type 0 where
-  pub sound : IsSound d core failed
+pub record IsCallReady (d : DiskState) (core : VolumeCore) (failed : Bool) (job : Job) : Type 0 where
+  pub sound : IsSoundCore d core failed
   pub alive : failed ≡ false
   pub placed : ArePlaced core
   pub jobs : List (Option Job)

@@ -21,7 +21,7 @@ use Rattle.meaning.specs.declared.call.Reply.TheVariants.{NoMemory, Device, Fail
 use Rattle.retrieval.specs.Modes.{mode_number}
 use Rattle.volume.specs.Live.{VolumeCore, slot, pending_at}
 use Rattle.volume.specs.Publishing.{IsPublishedCore, file_of, files_published}
-use Rattle.volume.specs.Rest.{RestsAt, StandsForEither, KeepsRead, KeepsWritten}
+use Rattle.volume.specs.Rest.{RestsAt, StandsForOneOf, KeepsRead, KeepsWritten}
 use Rattle.volume.specs.declared.live.LiveVersion.{LiveVersion}
 use Rattle.volume.specs.declared.pending.PendingVersion.{PendingVersion}
 use Rattle.monitor.specs.Putting.{FindsNone}
@@ -40,7 +40,7 @@ pub record MayPublish (d d' : DiskState) (c c' : VolumeCore) (o : Output) (last 
   pub crash : d'.honest → (f : Files File) → RestsAt d f → (p : PendingVersion)
       → pending_at c.pending o.pending.key ≡ Some p
       → (body : List ℕ) → length body ≡ p.version.words → HasBody d.contents p.version.blocks body
-      → LeavesOnly d d' (StandsForEither d.size f
+      → LeavesOnly d d' (StandsForOneOf d.size f
       (files_published f p.prime.ppn p.prime.file (file_of p.prime (splice body o.next last))))
   -- all other versions stay
   pub others : (k : ℕ) → (k ≡ o.pending.key → ⊥) → pending_at c'.pending k ≡ pending_at c.pending k

@@ -65,7 +65,7 @@ pub record IsAtOutput (job : Job) (number : ℕ) : Type 0 where
   pub has : lacks_header (mode_number channel.mode) channel.output_header ≡ false
 
 -- The same, with the words that an OUT finds for it, and the core that it leaves.
-pub record Outgoing (job : Job) (number a : ℕ) : Type 0 where
+pub record OutgoingSide (job : Job) (number a : ℕ) : Type 0 where
   pub at : IsAtOutput job number
   pub words : List ℕ
   pub core : List ℕ
@@ -98,14 +98,14 @@ IsOther (Some c) key = IsOtherSide c.output key
 -- What an OUT does to its job and to the version, by its answer; `same` says that disk and volume are as they were.
 abbrev pub IsOut : DiskState → DiskState → VolumeCore → VolumeCore → Type 0 → Job → Job → ℕ → ℕ → Reply → Type 0
 IsOut d d' c c' same job job' number a Done =
-    (out : Outgoing job number a) × (job' ≡ record job {
+    (out : OutgoingSide job number a) × (job' ≡ record job {
       core = out.core;
       channels = slice_set job.channels number (Some (moved out.at.channel out.at.output (length out.words)));
     })
     × ((p : PendingVersion) → pending_at c.pending out.at.output.pending.key ≡ Some p
     → Puts d d' c c' out.at.output out.words p)
 IsOut d d' c c' same job job' number a (Stopped status) =
-    (out : Outgoing job number a) × (status ≡ cleared out.at.channel.status + block_too_large)
+    (out : OutgoingSide job number a) × (status ≡ cleared out.at.channel.status + block_too_large)
     × (job' ≡ record job {
       channels = slice_set job.channels number (Some (record out.at.channel { status = status }));
     })

@@ -40,7 +40,7 @@ pub record AreBooked (live : List (Option LiveVersion)) (now : List Version) (re
       → AllByRecursion (λ x. x.serial ≡ (read key).serial → length x.file.body ≡ length (read key).file.body) now
 
 -- A version that is read, as the machine has it: the file of its place while it is current, and else none.
-pub record IsRead (d : DiskState) (c : VolumeCore) (files : Files Version) (v : LiveVersion)
+pub record IsVersionRead (d : DiskState) (c : VolumeCore) (files : Files Version) (v : LiveVersion)
     (x : Version) : Type 0 where
   -- its blocks have the words that its readers find
   pub version : IsVersionOf d.contents (as_known v) x.file
@@ -50,13 +50,14 @@ pub record IsRead (d : DiskState) (c : VolumeCore) (files : Files Version) (v : 
 
 -- All of them, under their keys; two of them have two serials, and what nobody reads is current.
 pub record AreRead (d : DiskState) (c : VolumeCore) (files : Files Version) (read : ℕ → Version) : Type 0 where
-  pub each : (key : ℕ) (v : LiveVersion) → slot c.live key ≡ Some v → 0 < v.readers → IsRead d c files v (read key)
+  pub each : (key : ℕ) (v : LiveVersion) → slot c.live key ≡ Some v → 0 < v.readers
+      → IsVersionRead d c files v (read key)
   pub unread : (key : ℕ) (v : LiveVersion) → slot c.live key ≡ Some v → v.is_current ≡ false → 0 < v.readers
   pub apart : (key other : ℕ) (v w : LiveVersion) → slot c.live key ≡ Some v → slot c.live other ≡ Some w
       → 0 < v.readers → 0 < w.readers → (read key).serial ≡ (read other).serial → key ≡ other
 
 -- A rename leaves a version its serial and its words, but not its protection: so readers of one version may hold it
 -- with different ones.
-pub record IsReadAs (held read : Version) : Type 0 where
+pub record IsHeldAs (held read : Version) : Type 0 where
   pub serial : held.serial ≡ read.serial
   pub words : length held.file.body ≡ length read.file.body

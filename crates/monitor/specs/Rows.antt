@@ -38,7 +38,7 @@ abbrev pub IsOldOrNew : Option PendingVersion → PendingVersion → Type 0
 IsOldOrNew was p = (was ≡ None) ⊎ ((q : PendingVersion) × (was ≡ Some q) × (is_creation p ≡ is_creation q))
 
 -- Versions come and go with the output sides of a job.
-pub record Keeps (pending pending' : List (Option PendingVersion)) (job job' : Job) : Type 0 where
+pub record KeepsSides (pending pending' : List (Option PendingVersion)) (job job' : Job) : Type 0 where
   pub once : (key : ℕ) → present (pending_at pending' key) + times key (keys_of (sides_in (Some job)))
       ≡ present (pending_at pending key) + times key (keys_of (sides_in (Some job')))
   pub known : (key : ℕ) (p : PendingVersion) → pending_at pending' key ≡ Some p → IsOldOrNew (pending_at pending key) p

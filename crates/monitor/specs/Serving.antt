@@ -6,8 +6,8 @@ use Rattle.meaning.specs.Jobs.{State, is_create, slot}
 use Rattle.meaning.specs.Maps.{times}
 use Rattle.meaning.specs.Published.{file_at, without_serials}
 use Rattle.meaning.specs.Retrieval.{HasBody}
-use Rattle.meaning.specs.Room.{Pack, current}
-use Rattle.meaning.specs.Runs.{Service, Serving, Broken, AreDistinct}
+use Rattle.meaning.specs.Room.{Pack, current_versions}
+use Rattle.meaning.specs.Runs.{Service, Serving, Broken, HaveDistinctSerials}
 use Rattle.meaning.specs.Sound.{IsSound}
 use Rattle.meaning.specs.Stands.{place_of}
 use Rattle.retrieval.specs.Modes.{mode_number}
@@ -84,7 +84,7 @@ pub record IsWriting (d : DiskState) (p : PendingVersion) (w : Writing) : Type 0
 -- that the volume keeps under its.
 pub record IsState (d : DiskState) (map : VolumeCore) (jobs : List (Option Job)) (s : State) : Type 0 where
   pub files : RestsAt d (without_serials s.files)
-  pub serials : AreDistinct (current s)
+  pub serials : HaveDistinctSerials (current_versions s)
   pub under : UnderKeys
   pub versions : (key : ℕ) (p : PendingVersion) → pending_at map.pending key ≡ Some p
       → IsWriting d p (under.written key)

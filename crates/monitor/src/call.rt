@@ -10,11 +10,11 @@ ghost use Rattle.meaning.specs.declared.call.Reply.TheVariants.{NoMemory, Failed
 ghost use Rattle.monitor.specs.Calls.{IsLight, KeepsCore};
 ghost use Rattle.monitor.specs.Events.{IsIdle};
 ghost use Rattle.monitor.specs.Moments.{read_of};
-ghost use Rattle.monitor.specs.Promises.{IsReady, IsServing, ServesJob};
+ghost use Rattle.monitor.specs.Promises.{IsCallReady, IsServing, ServesJob};
 ghost use Rattle.monitor.specs.Refusals.{IsRefused};
 ghost use Rattle.monitor.specs.Serving.{pack_of, Serves, AreKeyed, ArePlaced, AreReading};
 ghost use Rattle.monitor.specs.declared.job.Job.{Job as JobRecord};
-ghost use Rattle.volume.specs.Rest.{IsSound};
+ghost use Rattle.volume.specs.Rest.{IsSoundCore};
 
 use crate::close::serve_close;
 use crate::deletedir::serve_delete_dir;
@@ -51,7 +51,7 @@ fn answer<D: Disk>(
     call: &Call,
     moment: Moment,
 ) -> Reply
-    requires ready { IsReady (D.state volume.old.disk) volume.old.core volume.old.failed job.old }
+    requires ready { IsCallReady (D.state volume.old.disk) volume.old.core volume.old.failed job.old }
     requires timely { moment.date ≤ 4095 }
     ensures serving { ServesJob D.state volume.old.disk volume.new.disk volume.old.core volume.new.core
         volume.new.failed job.old job.new call.now moment result }
@@ -85,7 +85,7 @@ fn serve<D: Disk>(
     call: &Call,
     moment: Moment,
 ) -> Reply
-    requires sound { IsSound (D.state volume.old.disk) volume.old.core volume.old.failed }
+    requires sound { IsSoundCore (D.state volume.old.disk) volume.old.core volume.old.failed }
     requires keyed { AreKeyed volume.old.core.pending jobs.old }
     requires placed { ArePlaced volume.old.core }
     requires reading { AreReading volume.old.core.live jobs.old }

@@ -6,13 +6,13 @@ ghost use Rattle.meaning.specs.declared.call.Call.TheVariants.{Close};
 ghost use Rattle.meaning.specs.declared.call.Reply.TheVariants.{NoMemory, Device, Failed, Refused, Done};
 ghost use Rattle.volume.specs.Live.{VolumeCore, pending_at, slot as version_at};
 ghost use Rattle.monitor.specs.Closing.{both_closed, rings_closed, closed_in, left_open};
-ghost use Rattle.monitor.specs.Dropping.{Leaves};
+ghost use Rattle.monitor.specs.Dropping.{OnlyDrops};
 ghost use Rattle.monitor.specs.Events.{IsIdle};
-ghost use Rattle.monitor.specs.Promises.{IsReady, ServesAlways};
+ghost use Rattle.monitor.specs.Promises.{IsCallReady, ServesAlways};
 ghost use Rattle.monitor.specs.Publishing.{last_at, PublishesBy};
 ghost use Rattle.monitor.specs.Readers.{readers_of};
 ghost use Rattle.monitor.specs.Renewing.{LetsGo, HoldsPublished};
-ghost use Rattle.monitor.specs.Rows.{IsRow, Keeps, KeepsReading, publishes_at, ClosesSide};
+ghost use Rattle.monitor.specs.Rows.{IsRow, KeepsSides, KeepsReading, publishes_at, ClosesSide};
 ghost use Rattle.monitor.specs.Serving.{present};
 ghost use Rattle.monitor.specs.Sides.{sides_in, keys_of, readers_in, pins_of};
 
@@ -41,7 +41,7 @@ pub fn serve_close<D: Disk>(
     channel: u32,
     bits: u32,
 ) -> Reply
-    requires ready { IsReady (D.state volume.old.disk) volume.old.core volume.old.failed job.old }
+    requires ready { IsCallReady (D.state volume.old.disk) volume.old.core volume.old.failed job.old }
     ensures serving { ServesAlways D.state volume.old.disk volume.new.disk volume.old.core volume.new.core
         volume.new.failed job.old job.new (Close channel bits) result }
 {
@@ -134,9 +134,9 @@ fn close<D: Disk>(volume: &mut Volume<D>, job: &mut Job, number: u32, bits: u32)
     requires unpublished { publishes_at (slot job.old.channels number) bits ≡ false }
     ensures untouched { (volume.new.disk ≡ volume.old.disk) × (volume.new.failed ≡ volume.old.failed) }
     ensures row { IsRow job.old job.new (Close number bits) result }
-    ensures keeps { Keeps volume.old.core.pending volume.new.core.pending job.old job.new }
+    ensures keeps { KeepsSides volume.old.core.pending volume.new.core.pending job.old job.new }
     ensures reads { KeepsReading volume.old.core.live volume.new.core.live job.old job.new }
-    ensures leaves { Leaves volume.old.core volume.new.core }
+    ensures leaves { OnlyDrops volume.old.core volume.new.core }
     ensures only { (result ≡ Failed → ⊥) × (result ≡ Device → ⊥) × (result ≡ NoMemory → ⊥) }
     ensures refused { (code : ℕ) → result ≡ Refused code → ⊥ }
 {
@@ -186,7 +186,7 @@ pub fn close_both<D: Disk>(
     output: Output,
     stays_open: bool,
 ) -> Reply
-    requires ready { IsReady (D.state volume.old.disk) volume.old.core volume.old.failed job.old }
+    requires ready { IsCallReady (D.state volume.old.disk) volume.old.core volume.old.failed job.old }
     requires there { slot job.old.channels number ≡ Some channel }
     requires side { channel.output ≡ Some output }
     // The volume, whatever is answered: it publishes, and then it lets go what the channel reads.
@@ -223,7 +223,7 @@ fn close_and_hold<D: Disk>(
     output: Output,
     input: Input,
 ) -> Reply
-    requires ready { IsReady (D.state volume.old.disk) volume.old.core volume.old.failed job.old }
+    requires ready { IsCallReady (D.state volume.old.disk) volume.old.core volume.old.failed job.old }
     requires there { slot job.old.channels number ≡ Some channel }
     requires side { channel.output ≡ Some output }
     requires reads { channel.input ≡ Some input }

@@ -7,12 +7,12 @@ ghost use Rattle.volume.specs.Beginning.{IsDirectoryOf};
 ghost use Rattle.volume.specs.Known.{KnownDirectory};
 ghost use Rattle.volume.specs.Places.{prime_at};
 ghost use Rattle.volume.specs.RemovingDirectories.{directory_removed};
-ghost use Rattle.volume.specs.Rest.{IsSound, RestsAt, StandsForEither, KeepsRead, KeepsEachWritten};
+ghost use Rattle.volume.specs.Rest.{IsSoundCore, RestsAt, StandsForOneOf, KeepsRead, KeepsEachWritten};
 ghost use Rattle.monitor.specs.DeleteDirRows.{IsDeleteDir};
 ghost use Rattle.monitor.specs.DirectoryRows.{asked_owner};
-ghost use Rattle.monitor.specs.Rows.{Keeps, KeepsReading};
+ghost use Rattle.monitor.specs.Rows.{KeepsSides, KeepsReading};
 ghost use Rattle.meaning.specs.declared.call.Call.TheVariants.{DeleteDir};
-ghost use Rattle.monitor.specs.Promises.{IsReady, ServesAlways};
+ghost use Rattle.monitor.specs.Promises.{IsCallReady, ServesAlways};
 
 use crate::job::Job;
 use crate::makedir::is_system;
@@ -25,7 +25,7 @@ use words36::Ppn;
 
 /// DeleteDir: deletes an empty directory, by the first of the two words at an address. Its row is `removes`.
 pub fn serve_delete_dir<D: Disk>(volume: &mut Volume<D>, job: &mut Job, address: u32) -> Reply
-    requires ready { IsReady (D.state volume.old.disk) volume.old.core volume.old.failed job.old }
+    requires ready { IsCallReady (D.state volume.old.disk) volume.old.core volume.old.failed job.old }
     ensures serving { ServesAlways D.state volume.old.disk volume.new.disk volume.old.core volume.new.core
         volume.new.failed job.old job.new (DeleteDir address) result }
 {
@@ -37,15 +37,15 @@ pub fn serve_delete_dir<D: Disk>(volume: &mut Volume<D>, job: &mut Job, address:
 /// created in it.
 fn delete_dir<D: Disk>(volume: &mut Volume<D>, job: &mut Job, address: u32) -> Reply
     requires serves { volume.old.failed ≡ false }
-    requires sound { IsSound (D.state volume.old.disk) volume.old.core volume.old.failed }
+    requires sound { IsSoundCore (D.state volume.old.disk) volume.old.core volume.old.failed }
     ensures outcome { IsDeleteDir (D.state volume.old.disk) volume.old.core ((volume.new.disk ≡ volume.old.disk)
         × (volume.new.core ≡ volume.old.core)) job.old job.new address result }
-    ensures keeps { Keeps volume.old.core.pending volume.new.core.pending job.old job.new }
+    ensures keeps { KeepsSides volume.old.core.pending volume.new.core.pending job.old job.new }
     ensures reads { KeepsReading volume.old.core.live volume.new.core.live job.old job.new }
     // A crash finds the files as they were, or without the directory.
     ensures crash { (D.state volume.new.disk).honest → (f : Files File) → RestsAt (D.state volume.old.disk) f
         → LeavesOnly (D.state volume.old.disk) (D.state volume.new.disk)
-        (StandsForEither (D.state volume.old.disk).size f (directory_removed f (asked_owner job.old.core address))) }
+        (StandsForOneOf (D.state volume.old.disk).size f (directory_removed f (asked_owner job.old.core address))) }
     ensures done { (D.state volume.new.disk).honest → (f : Files File) → RestsAt (D.state volume.old.disk) f
         → result ≡ Done
         → RestsAt (D.state volume.new.disk) (directory_removed f (asked_owner job.old.core address)) }

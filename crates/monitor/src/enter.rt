@@ -14,7 +14,7 @@ ghost use Rattle.meaning.specs.declared.call.Reply.TheVariants.{Done, NoMemory, 
 ghost use Rattle.volume.specs.declared.error.CallError.TheVariants.{Failed as VolumeFailed, Device as VolumeDevice};
 ghost use Rattle.volume.specs.Beginning.{is_update, IsBegun};
 ghost use Rattle.volume.specs.Live.{pending_at, is_creation};
-ghost use Rattle.volume.specs.Rest.{IsSound, RestsAt};
+ghost use Rattle.volume.specs.Rest.{IsSoundCore, RestsAt};
 ghost use Rattle.volume.specs.declared.pending.Kind.{Kind as VersionKind};
 ghost use Rattle.volume.specs.declared.pending.PendingVersion.{PendingVersion};
 ghost use Rattle.volume.specs.Claims.{claims};
@@ -26,7 +26,7 @@ ghost use Rattle.monitor.specs.Serving.{pack_of, ArePlaced};
 ghost use Rattle.monitor.specs.Sides.{UnderKeys, job_of, reader_of};
 ghost use Rattle.monitor.specs.Refusals.{with_code};
 ghost use Rattle.meaning.specs.declared.call.Call.TheVariants.{Enter};
-ghost use Rattle.monitor.specs.Promises.{IsReady, ServesJob};
+ghost use Rattle.monitor.specs.Promises.{IsCallReady, ServesJob};
 
 use crate::channel::Channel;
 use crate::found::Found;
@@ -54,7 +54,7 @@ pub fn serve_enter<D: Disk>(
     address: u32,
     moment: Moment,
 ) -> Reply
-    requires ready { IsReady (D.state volume.old.disk) volume.old.core volume.old.failed job.old }
+    requires ready { IsCallReady (D.state volume.old.disk) volume.old.core volume.old.failed job.old }
     requires timely { moment.date ≤ 4095 }
     ensures serving { ServesJob D.state volume.old.disk volume.new.disk volume.old.core volume.new.core
         volume.new.failed job.old job.new (Enter channel address) moment result }
@@ -284,7 +284,7 @@ fn begin_at<D: Disk>(
     address: u32,
     moment: Moment,
 ) -> Result<(Pending, Prime), CallError>
-    requires sound { IsSound (D.state volume.old.disk) volume.old.core volume.old.failed }
+    requires sound { IsSoundCore (D.state volume.old.disk) volume.old.core volume.old.failed }
     requires there { address + 4 ≤ 0o400000 }
     requires timely { moment.date ≤ 4095 }
     ensures untouched { (volume.new.disk ≡ volume.old.disk) × (volume.new.failed ≡ volume.old.failed) }
@@ -340,7 +340,7 @@ fn enter<D: Disk>(
     address: u32,
     moment: Moment,
 ) -> Reply
-    requires sound { IsSound (D.state volume.old.disk) volume.old.core volume.old.failed }
+    requires sound { IsSoundCore (D.state volume.old.disk) volume.old.core volume.old.failed }
     // The volume serves.
     requires timely { moment.date ≤ 4095 }
     requires alive { volume.old.failed ≡ false }

@@ -2,7 +2,7 @@ ghost use Rattle.std.specs.Prelude.{◌≡◌, ◌⊎◌, ◌<◌, ◌+◌, ◌-
 ghost use Rattle.meaning.specs.Files.{Files, Place};
 ghost use Rattle.meaning.specs.Maps.{values};
 ghost use Rattle.meaning.specs.Published.{Version, file_at, with_file};
-ghost use Rattle.meaning.specs.Runs.{AreDistinct};
+ghost use Rattle.meaning.specs.Runs.{HaveDistinctSerials};
 ghost use Rattle.meaning.specs.Stands.{place_of};
 ghost use Rattle.volume.specs.Live.{as_known, VolumeCore, slot, IsWholeCore};
 ghost use Rattle.volume.specs.Pins.{IsVersionOf};
@@ -22,7 +22,8 @@ pub fn readers_keep_what_is_superseded<D: Disk>(old: &D, new: &D)
         → Version) (key : ℕ) (p : PendingVersion) (words : ℕ) (place : Place) (x : Version)
         → AreRead (D.state old.now) c files read → IsWholeCore (D.state old.now).size c
         → IsPublishedCore (D.state old.now).size c c' key p words
-        → AreDistinct (flat_map (λ d. values d.files) (values files)) → place ≡ place_of p.prime.ppn p.prime.file
+        → HaveDistinctSerials (flat_map (λ d. values d.files) (values files)) → place
+        ≡ place_of p.prime.ppn p.prime.file
         → ((k : ℕ) (v : LiveVersion) → slot c.live k ≡ Some v → 0 < v.readers → x.serial ≡ (read k).serial → ⊥)
         → KeepsRead (D.state old.now).contents (D.state new.now).contents c
         → AreRead (D.state new.now) c' (with_file files place x) read }
@@ -33,7 +34,7 @@ pub fn readers_come_and_go<D: Disk>(disk: &D)
     ensures comes { (c c' : VolumeCore) (files : Files Version) (read : ℕ
         → Version) (key : ℕ) (place : Place) (x : Version)
         → AreRead (D.state disk.now) c files read → IsWholeCore (D.state disk.now).size c → file_at files place ≡ Some x
-        → AreDistinct (flat_map (λ d. values d.files) (values files))
+        → HaveDistinctSerials (flat_map (λ d. values d.files) (values files))
         → ((v : LiveVersion) × (slot c.live key ≡ Some v)
         × (slot c'.live key ≡ Some (record v { readers = v.readers + 1 })))
         → ((k : ℕ) → (k ≡ key → ⊥) → slot c'.live k ≡ slot c.live k)

@@ -1,4 +1,6 @@
-ghost use Rattle.std.specs.Prelude.{◌≡◌, replicate, None, IfOk, Some, IfSome, IsTrue, IsFalse, slice_set};
+ghost use Rattle.std.specs.Prelude.{◌≡◌, ◌+◌, ◌≤◌, replicate, None, IfOk, Some, IfSome, IsTrue, IsFalse, length};
+ghost use Rattle.std.specs.Prelude.{slice_set};
+ghost use Rattle.meaning.specs.Cores.{after_writes, placed};
 ghost use Rattle.meaning.specs.Jobs.{slot};
 ghost use Rattle.meaning.specs.declared.call.Reply.TheVariants.{Done};
 ghost use Rattle.monitor.specs.Replies.{deposit_of};
@@ -164,6 +166,25 @@ impl Jobs {
                 Err(_) => Reply::AddressCheck,
             },
             None => Reply::NoJob,
+        }
+    }
+
+    /// Puts words into the core of a job from an address on, where the job lies. False where there is none of that
+    /// number, or not all of the words would lie in its core: nothing is changed.
+    pub fn deposit_all(&mut self, number: u32, first: u32, words: &[Word]) -> bool
+        ensures done { IsTrue result → (there : JobRecord) × (slot self.old number ≡ Some there)
+            × (first + length words.now ≤ length there.core) × (self.new ≡ slice_set self.old number
+            (Some (record there { core = after_writes there.core (placed first words.now) }))) }
+        ensures there { (there : JobRecord) → slot self.old number ≡ Some there
+            → first + length words.now ≤ length there.core → IsTrue result }
+        ensures refused { IsFalse result → self.new ≡ self.old }
+    {
+        if number as usize >= self.slots.len() {
+            return false;
+        }
+        match &mut self.slots[number as usize] {
+            Some(job) => job.core.put(first, words).is_ok(),
+            None => false,
         }
     }
 }

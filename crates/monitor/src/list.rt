@@ -6,7 +6,7 @@ ghost use Rattle.meaning.specs.declared.entry.Entry.{Entry};
 ghost use Rattle.meaning.specs.declared.call.Reply.{Reply};
 ghost use Rattle.meaning.specs.declared.call.Reply.TheVariants.{NoJob, NoMemory, Failed};
 ghost use Rattle.monitor.specs.Serving.{Serves};
-ghost use Rattle.monitor.specs.Lists.{IsListed, reply_of};
+ghost use Rattle.monitor.specs.Lists.{IsListAnswer, reply_of};
 ghost use Rattle.monitor.specs.Replies.{IsListRefusal};
 
 use crate::monitor::Monitor;
@@ -40,7 +40,7 @@ impl<D: Disk> Monitor<D> {
     pub fn list(&self, alloc: Global, job: u32, ppn: Ppn) -> Result<Vec<Entry>, Reply>
         ensures listed { (D.state self.now.disk).honest → (service : Service)
             → Serves (D.state self.now.disk) self.now.map self.now.failed self.now.jobs service
-            → (answer : Result (List Entry) Reply) × IsListed (λ lines. lines.items) result answer
+            → (answer : Result (List Entry) Reply) × IsListAnswer (λ lines. lines.items) result answer
             × Lists service job ppn answer service }
         ensures failed { IsErrOf result Failed ↔ IsTrue self.now.failed }
         ensures nobody { IsErrOf result NoJob ↔ (self.now.failed ≡ false) × (slot self.now.jobs job ≡ None) }

@@ -4,7 +4,7 @@ ghost use Rattle.meaning.specs.Runs.{Service, Answers};
 ghost use Rattle.meaning.specs.Sessions.{login_answer};
 ghost use Rattle.meaning.specs.declared.call.Event.TheVariants.{Login};
 ghost use Rattle.meaning.specs.declared.call.Reply.TheVariants.{Done, Failed, NoMemory};
-ghost use Rattle.monitor.specs.Dropping.{Leaves};
+ghost use Rattle.monitor.specs.Dropping.{OnlyDrops};
 ghost use Rattle.monitor.specs.Serving.{pack_of, Serves, AreKeyed, ArePlaced, AreReading};
 ghost use Rattle.monitor.specs.Sides.{new_job};
 
@@ -35,7 +35,7 @@ fn log_in<D: Disk>(
     ensures keyed { AreKeyed volume.new.core.pending jobs.new }
     ensures placed { ArePlaced volume.new.core }
     ensures reading { AreReading volume.new.core.live jobs.new }
-    ensures leaves { Leaves volume.old.core volume.new.core }
+    ensures leaves { OnlyDrops volume.old.core volume.new.core }
     ensures untouched { (volume.new.disk ≡ volume.old.disk) × (volume.new.failed ≡ volume.old.failed) }
     // The answer, and the jobs by it.
     ensures answered { (result ≡ login_answer number words)

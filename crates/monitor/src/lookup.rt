@@ -13,11 +13,11 @@ ghost use Rattle.meaning.specs.declared.call.Reply.TheVariants.{Done, NoMemory, 
 ghost use Rattle.volume.specs.Live.{VolumeCore, slot};
 ghost use Rattle.volume.specs.Places.{prime_at};
 ghost use Rattle.volume.specs.Queries.{IsShown};
-ghost use Rattle.volume.specs.Rest.{IsSound, RestsAt};
+ghost use Rattle.volume.specs.Rest.{IsSoundCore, RestsAt};
 ghost use Rattle.volume.specs.declared.live.LiveVersion.{LiveVersion};
 ghost use Rattle.monitor.specs.Finding.{IsKnown};
 ghost use Rattle.monitor.specs.Inputs.{HasShortFacts, IsReadAnswer, IsLookupAnswer, IsLookupRefusal};
-ghost use Rattle.monitor.specs.LookingUp.{IsLookingUp, IsFound, IsLookupRow};
+ghost use Rattle.monitor.specs.LookingUp.{IsLookingUp, IsLookedUp, IsLookupRow};
 ghost use Rattle.monitor.specs.Readers.{readers_of};
 ghost use Rattle.monitor.specs.Rows.{KeepsReading};
 ghost use Rattle.monitor.specs.Sides.{UnderKeys, job_of, readers_in, pins_of};
@@ -25,7 +25,7 @@ ghost use Rattle.monitor.specs.declared.channel.Channel.{Channel};
 ghost use Rattle.monitor.specs.declared.input.Input.{Input};
 ghost use Rattle.monitor.specs.Refusals.{with_code};
 ghost use Rattle.meaning.specs.declared.call.Call.TheVariants.{Lookup};
-ghost use Rattle.monitor.specs.Promises.{IsReady, ServesAlways};
+ghost use Rattle.monitor.specs.Promises.{IsCallReady, ServesAlways};
 
 use crate::channel::Channel;
 use crate::dropping::release_input;
@@ -54,7 +54,7 @@ pub fn serve_lookup<D: Disk>(
     channel: u32,
     address: u32,
 ) -> Reply
-    requires ready { IsReady (D.state volume.old.disk) volume.old.core volume.old.failed job.old }
+    requires ready { IsCallReady (D.state volume.old.disk) volume.old.core volume.old.failed job.old }
     ensures serving { ServesAlways D.state volume.old.disk volume.new.disk volume.old.core volume.new.core
         volume.new.failed job.old job.new (Lookup channel address) result }
 {
@@ -111,7 +111,7 @@ pub fn find_input<D: Disk>(
     job: &Job,
     address: u32,
 ) -> Result<(Input, FileFacts), ErrorCode>
-    requires sound { IsSound (D.state volume.old.disk) volume.old.core volume.old.failed }
+    requires sound { IsSoundCore (D.state volume.old.disk) volume.old.core volume.old.failed }
     requires there { address + 4 ≤ 0o400000 }
     requires alive { volume.old.failed ≡ false }
     requires few { (key : ℕ) (v : LiveVersion) → slot volume.old.core.live key ≡ Some v → v.readers + 1 < 2 ^ 32 }
@@ -201,7 +201,7 @@ pub fn put_found(core: &mut Core, address: u32, facts: &FileFacts)
 /// side closes, whatever becomes of the name; an earlier input side of the channel is given up. Attributes and size
 /// of the file are put into the words.
 fn lookup<D: Disk>(volume: &mut Volume<D>, job: &mut Job, number: u32, address: u32) -> Reply
-    requires sound { IsSound (D.state volume.old.disk) volume.old.core volume.old.failed }
+    requires sound { IsSoundCore (D.state volume.old.disk) volume.old.core volume.old.failed }
     // The volume serves, and knows what the job reads.
     requires alive { volume.old.failed ≡ false }
     requires held { (key : ℕ) → times key (pins_of (readers_in (Some job.old)))
@@ -219,7 +219,7 @@ fn lookup<D: Disk>(volume: &mut Volume<D>, job: &mut Job, number: u32, address: 
     ensures looked { result ≡ Done → (channel : Channel) × (input : Input) × (held : VolumeCore)
         × IsLookingUp volume.old.core held volume.new.core job.old job.new number address channel input
         × ((D.state volume.new.disk).honest → (s : State) → IsKnown (D.state volume.old.disk) volume.old.core s
-        → IsFound (D.state volume.old.disk).contents held.live s job.old job.new address input) }
+        → IsLookedUp (D.state volume.old.disk).contents held.live s job.old job.new address input) }
     ensures row { (D.state volume.new.disk).honest → (s : State) → IsKnown (D.state volume.old.disk) volume.old.core s
         → (under : UnderKeys) → IsLookupRow s (job_of under job.old) (job_of under job.new)
         (channel_at (job_of under job.old) number) address result }

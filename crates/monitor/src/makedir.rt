@@ -8,11 +8,11 @@ ghost use Rattle.volume.specs.Beginning.{IsDirectoryOf};
 ghost use Rattle.volume.specs.Known.{KnownDirectory};
 ghost use Rattle.volume.specs.Making.{files_made};
 ghost use Rattle.volume.specs.Places.{prime_at};
-ghost use Rattle.volume.specs.Rest.{RestsAt, StandsForEither, KeepsRead, KeepsEachWritten};
-ghost use Rattle.monitor.specs.DirectoryRows.{IsMakeDir, asked_owner, asked_protection};
-ghost use Rattle.monitor.specs.Rows.{Keeps, KeepsReading};
+ghost use Rattle.volume.specs.Rest.{RestsAt, StandsForOneOf, KeepsRead, KeepsEachWritten};
+ghost use Rattle.monitor.specs.DirectoryRows.{IsMakeDir, asked_owner, directory_protection_asked};
+ghost use Rattle.monitor.specs.Rows.{KeepsSides, KeepsReading};
 ghost use Rattle.meaning.specs.declared.call.Call.TheVariants.{MakeDir};
-ghost use Rattle.monitor.specs.Promises.{IsReady, ServesAlways};
+ghost use Rattle.monitor.specs.Promises.{IsCallReady, ServesAlways};
 
 use crate::enter::protection_or;
 use crate::job::Job;
@@ -34,7 +34,7 @@ pub fn serve_make_dir<D: Disk>(
     job: &mut Job,
     address: u32,
 ) -> Reply
-    requires ready { IsReady (D.state volume.old.disk) volume.old.core volume.old.failed job.old }
+    requires ready { IsCallReady (D.state volume.old.disk) volume.old.core volume.old.failed job.old }
     ensures serving { ServesAlways D.state volume.old.disk volume.new.disk volume.old.core volume.new.core
         volume.new.failed job.old job.new (MakeDir address) result }
 {
@@ -54,16 +54,16 @@ fn make_dir<D: Disk>(alloc: Global, volume: &mut Volume<D>, job: &mut Job, addre
     requires serves { volume.old.failed ≡ false }
     ensures outcome { IsMakeDir (D.state volume.old.disk).size volume.old.core ((volume.new.disk ≡ volume.old.disk)
         × (volume.new.core ≡ volume.old.core)) job.old job.new address result }
-    ensures keeps { Keeps volume.old.core.pending volume.new.core.pending job.old job.new }
+    ensures keeps { KeepsSides volume.old.core.pending volume.new.core.pending job.old job.new }
     ensures reads { KeepsReading volume.old.core.live volume.new.core.live job.old job.new }
     // A crash finds the files as they were, or with the directory.
     ensures crash { (D.state volume.new.disk).honest → (f : Files File) → RestsAt (D.state volume.old.disk) f
         → LeavesOnly (D.state volume.old.disk) (D.state volume.new.disk)
-        (StandsForEither (D.state volume.old.disk).size f
-        (files_made f (asked_owner job.old.core address) (asked_protection job.old.core address))) }
+        (StandsForOneOf (D.state volume.old.disk).size f
+        (files_made f (asked_owner job.old.core address) (directory_protection_asked job.old.core address))) }
     ensures done { (D.state volume.new.disk).honest → (f : Files File) → RestsAt (D.state volume.old.disk) f
         → result ≡ Done → RestsAt (D.state volume.new.disk)
-        (files_made f (asked_owner job.old.core address) (asked_protection job.old.core address)) }
+        (files_made f (asked_owner job.old.core address) (directory_protection_asked job.old.core address)) }
     // The versions in use stay, and so does each directory in its place, with the prime blocks of its files.
     ensures live { volume.new.core.live ≡ volume.old.core.live }
     ensures pending { volume.new.core.pending ≡ volume.old.core.pending }

@@ -7,7 +7,7 @@ ghost use Rattle.meaning.specs.declared.call.Reply.TheVariants.{NoMemory, Failed
 ghost use Rattle.volume.specs.declared.live.LiveVersion.{LiveVersion};
 ghost use Rattle.volume.specs.declared.pending.PendingVersion.{PendingVersion};
 ghost use Rattle.retrieval.specs.Modes.{mode_number};
-ghost use Rattle.monitor.specs.Rows.{IsRow, Keeps, KeepsReading, improper_at, opened_at, rings_opened};
+ghost use Rattle.monitor.specs.Rows.{IsRow, KeepsSides, KeepsReading, improper_at, opened_at, rings_opened};
 
 use crate::channel::Channel;
 use crate::job::{CHANNELS, Job};
@@ -123,7 +123,7 @@ fn open_rings(core: &mut Core, channel: &Channel)
 /// and the addresses of the headers of the two rings, which a mode with buffers gives their first words.
 pub fn open(job: &mut Job, number: u32, address: u32) -> Reply
     ensures row { IsRow job.old job.new (Open number address) result }
-    ensures keeps { (pending : List (Option PendingVersion)) → Keeps pending pending job.old job.new }
+    ensures keeps { (pending : List (Option PendingVersion)) → KeepsSides pending pending job.old job.new }
     ensures reads { (live : List (Option LiveVersion)) → KeepsReading live live job.old job.new }
     ensures only { (result ≡ Failed → ⊥) × (result ≡ Device → ⊥) × (result ≡ NoMemory → ⊥) }
     ensures refused { (code : ℕ) → result ≡ Refused code → job.new ≡ job.old }

@@ -16,11 +16,11 @@ ghost use Rattle.volume.specs.Live.{pending_at};
 ghost use Rattle.volume.specs.Rest.{RestsAt, KeepsRead};
 ghost use Rattle.volume.specs.declared.pending.PendingVersion.{PendingVersion};
 ghost use Rattle.monitor.specs.Putting.{outgoing_at, moved, IsOther, IsOut};
-ghost use Rattle.monitor.specs.Rows.{Keeps, KeepsReading};
+ghost use Rattle.monitor.specs.Rows.{KeepsSides, KeepsReading};
 ghost use Rattle.monitor.specs.Serving.{present, IsSide};
 ghost use Rattle.monitor.specs.Sides.{kind_of, sides_in, keys_of};
 ghost use Rattle.meaning.specs.declared.call.Call.TheVariants.{Out};
-ghost use Rattle.monitor.specs.Promises.{IsReady, ServesAlways};
+ghost use Rattle.monitor.specs.Promises.{IsCallReady, ServesAlways};
 
 use crate::channel::Channel;
 use crate::job::Job;
@@ -42,7 +42,7 @@ pub fn serve_out<D: Disk>(
     channel: u32,
     address: u32,
 ) -> Reply
-    requires ready { IsReady (D.state volume.old.disk) volume.old.core volume.old.failed job.old }
+    requires ready { IsCallReady (D.state volume.old.disk) volume.old.core volume.old.failed job.old }
     ensures serving { ServesAlways D.state volume.old.disk volume.new.disk volume.old.core volume.new.core
         volume.new.failed job.old job.new (Out channel address) result }
 {
@@ -86,6 +86,9 @@ fn words_at(
 {
     if channel.is_buffered() {
         let area = core.ring_check(RingStep::Out, channel.output_header, channel.bytes())?;
+        return gathered(alloc, core, &[area]);
+    }
+    if let Some(area) = core.lone_area(address) {
         return gathered(alloc, core, &[area]);
     }
     let areas = core.dump_list(address)?;
@@ -153,7 +156,8 @@ fn out<D: Disk>(
     ensures outcome { IsOut (D.state volume.old.disk) (D.state volume.new.disk) volume.old.core volume.new.core
         ((volume.new.disk ≡ volume.old.disk) × (volume.new.core ≡ volume.old.core)) job.old job.new number
         address result }
-    ensures keeps { volume.new.failed ≡ false → Keeps volume.old.core.pending volume.new.core.pending job.old job.new }
+    ensures keeps { volume.new.failed ≡ false
+        → KeepsSides volume.old.core.pending volume.new.core.pending job.old job.new }
     ensures reads { volume.new.failed ≡ false → KeepsReading volume.old.core.live volume.new.core.live job.old job.new }
     // A crash finds the files as they were.
     ensures quiet { (D.state volume.new.disk).honest → (f : Files File) → RestsAt (D.state volume.old.disk) f

@@ -3,7 +3,7 @@ ghost use Rattle.meaning.specs.declared.call.Call.TheVariants.{Outbuf};
 ghost use Rattle.meaning.specs.declared.call.Reply.TheVariants.{NoMemory, Failed, Device, Refused};
 ghost use Rattle.volume.specs.declared.live.LiveVersion.{LiveVersion};
 ghost use Rattle.volume.specs.declared.pending.PendingVersion.{PendingVersion};
-ghost use Rattle.monitor.specs.Rows.{IsRow, Keeps, KeepsReading};
+ghost use Rattle.monitor.specs.Rows.{IsRow, KeepsSides, KeepsReading};
 
 use crate::job::Job;
 use crate::ring::set_up_ring;
@@ -12,7 +12,7 @@ use meaning::Reply;
 /// OUTBUF: sets up a ring of so many buffers, where 0 means 2, for what a channel writes.
 pub fn outbuf(job: &mut Job, number: u32, count: u32) -> Reply
     ensures row { IsRow job.old job.new (Outbuf number count) result }
-    ensures keeps { (pending : List (Option PendingVersion)) → Keeps pending pending job.old job.new }
+    ensures keeps { (pending : List (Option PendingVersion)) → KeepsSides pending pending job.old job.new }
     ensures reads { (live : List (Option LiveVersion)) → KeepsReading live live job.old job.new }
     ensures only { (result ≡ Failed → ⊥) × (result ≡ Device → ⊥) × (result ≡ NoMemory → ⊥) }
     ensures refused { (code : ℕ) → result ≡ Refused code → job.new ≡ job.old }

@@ -6,7 +6,7 @@ ghost use Rattle.meaning.specs.Files.{File, Files};
 ghost use Rattle.meaning.specs.Maps.{times};
 ghost use Rattle.meaning.specs.declared.call.Reply.TheVariants.{Device, Failed, NoMemory};
 ghost use Rattle.volume.specs.Live.{pending_at, slot as version_at};
-ghost use Rattle.volume.specs.Rest.{IsSound, RestsAt};
+ghost use Rattle.volume.specs.Rest.{IsSoundCore, RestsAt};
 ghost use Rattle.monitor.specs.Events.{IsIdle};
 ghost use Rattle.monitor.specs.Readers.{readers_of};
 ghost use Rattle.monitor.specs.Reading.{handle_read, read_on, IsIn};
@@ -14,7 +14,7 @@ ghost use Rattle.monitor.specs.Rows.{KeepsReading};
 ghost use Rattle.monitor.specs.Serving.{present, HasReaders};
 ghost use Rattle.monitor.specs.Sides.{sides_in, keys_of, readers_in, pins_of};
 ghost use Rattle.meaning.specs.declared.call.Call.TheVariants.{In};
-ghost use Rattle.monitor.specs.Promises.{IsReady, ServesAlways};
+ghost use Rattle.monitor.specs.Promises.{IsCallReady, ServesAlways};
 
 use crate::channel::Channel;
 use crate::input::Input;
@@ -40,7 +40,7 @@ pub fn serve_in<D: Disk>(
     channel: u32,
     address: u32,
 ) -> Reply
-    requires ready { IsReady (D.state volume.old.disk) volume.old.core volume.old.failed job.old }
+    requires ready { IsCallReady (D.state volume.old.disk) volume.old.core volume.old.failed job.old }
     ensures serving { ServesAlways D.state volume.old.disk volume.new.disk volume.old.core volume.new.core
         volume.new.failed job.old job.new (In channel address) result }
 {
@@ -86,7 +86,7 @@ fn read<D: Disk>(
     number: u32,
     address: u32,
 ) -> Reply
-    requires sound { IsSound (D.state volume.old.disk) volume.old.core volume.old.failed }
+    requires sound { IsSoundCore (D.state volume.old.disk) volume.old.core volume.old.failed }
     // The volume serves, and knows what the job reads.
     requires alive { volume.old.failed ≡ false }
     requires held { (key : ℕ) → times key (pins_of (readers_in (Some job.old)))

@@ -86,6 +86,67 @@ fn fill_buffer(core: &mut Core, channel: &Channel, words: &[Word]) -> ReadIn
     }
 }
 
+/// Moves the words of a version's body from a block on into areas of core. Where there are none it asks neither for
+/// memory nor for the disk.
+fn read_listed<D: Disk>(
+    alloc: Global,
+    volume: &mut Volume<D>,
+    core: &mut Core,
+    handle: VersionHandle,
+    block: u32,
+    areas: &[Area],
+) -> ReadIn
+    requires alive { volume.old.failed ≡ false }
+    requires live { IsReadable volume.old.core handle }
+    requires first { 0 < block }
+    requires within { All (λ area. area.first + area.count ≤ length core.old) areas.now }
+    requires some { All (λ area. 0 < area.count) areas.now }
+    requires few { word_count areas.now ≤ 0o400000 }
+    ensures checked { result ≡ AddressCheck → ⊥ }
+    ensures named { result ≡ Moved 0 ↔ (areas.now ≡ []) }
+    // The words are those of the version's body,
+    ensures moved { (D.state volume.new.disk).honest → (v : VersionState)
+        → version_under volume.old.core handle ≡ Some v → (body : List ℕ) → length body ≡ v.words
+        → HasBody (D.state volume.old.disk).contents v.blocks body
+        → (n : ℕ) → result ≡ Moved n → core.new ≡ after_writes core.old (dealt areas.now (words_from body block)) }
+    // and, on every disk, as many as the areas and the body have.
+    ensures number { (v : VersionState) → version_under volume.old.core handle ≡ Some v → (body : List ℕ)
+        → length body ≡ v.words → (n : ℕ) → result ≡ Moved n
+        → n ≡ min (word_count areas.now) (length (words_from body block)) }
+    ensures few { (n : ℕ) → result ≡ Moved n → n ≤ word_count areas.now }
+    ensures at_end { (v : VersionState) → version_under volume.old.core handle ≡ Some v → (body : List ℕ)
+        → length body ≡ v.words → result ≡ AtEnd → (0 < word_count areas.now) × (words_from body block ≡ []) }
+    ensures kept { ((n : ℕ) → 0 < n → result ≡ Moved n → ⊥) → core.new ≡ core.old }
+    ensures length { length core.new ≡ length core.old }
+
+    // Nothing is written, and the volume stays.
+    ensures reads { (D.state volume.new.disk).honest → OnlyReads (D.state volume.old.disk) (D.state volume.new.disk) }
+    ensures rests { (D.state volume.new.disk).honest → (files : Files File) → RestsAt (D.state volume.old.disk) files
+        → RestsAt (D.state volume.new.disk) files }
+    ensures core { volume.new.core ≡ volume.old.core }
+    ensures idle { (result ≡ AddressCheck) ⊎ (result ≡ AtEnd) ⊎ (result ≡ Moved 0) ⊎ (result ≡ NoMemory)
+        → volume.new.disk ≡ volume.old.disk }
+    // It fails with the volume, and blames the device where that failed.
+    ensures failed { IsTrue volume.new.failed ↔ ((result ≡ Device) ⊎ (result ≡ Failed)) }
+    ensures blamed { result ≡ Failed → (D.state volume.new.disk).honest → ⊥ }
+    ensures counted { result ≡ Device → (D.state volume.new.disk).failures
+        ≡ one_more (D.state volume.old.disk).failures }
+    ensures served { (result ≡ Device → ⊥) → (D.state volume.new.disk).failures ≡ (D.state volume.old.disk).failures }
+    ensures same { SameDisk (D.state volume.old.disk) (D.state volume.new.disk) }
+{
+    let count = word_count(areas);
+    if count == 0 {
+        return ReadIn::Moved(0);
+    }
+    match volume.get_words(alloc, handle, block, count as u32) {
+        Ok(words) => fill(core, areas, words.as_slice()),
+        Err(CallError::NoMemory) => ReadIn::NoMemory,
+        Err(CallError::Device) => ReadIn::Device,
+        Err(CallError::Failed) => ReadIn::Failed,
+        Err(CallError::Refused(_)) => unreachable!(),
+    }
+}
+
 /// Moves the words of a version's body from a block on into the areas of core that the command list at an
 /// address names. The whole list is read before anything is moved, and a list that names no words asks neither
 /// for memory nor for the disk.
@@ -136,20 +197,13 @@ fn read_areas<D: Disk>(
     ensures served { (result ≡ Device → ⊥) → (D.state volume.new.disk).failures ≡ (D.state volume.old.disk).failures }
     ensures same { SameDisk (D.state volume.old.disk) (D.state volume.new.disk) }
 {
+    if let Some(area) = core.lone_area(address) {
+        return read_listed(alloc, volume, core, handle, block, &[area]);
+    }
     let Ok(areas) = core.dump_list(address) else {
         return ReadIn::AddressCheck;
     };
-    let count = word_count(areas.as_slice());
-    if count == 0 {
-        return ReadIn::Moved(0);
-    }
-    match volume.get_words(alloc, handle, block, count as u32) {
-        Ok(words) => fill(core, areas.as_slice(), words.as_slice()),
-        Err(CallError::NoMemory) => ReadIn::NoMemory,
-        Err(CallError::Device) => ReadIn::Device,
-        Err(CallError::Failed) => ReadIn::Failed,
-        Err(CallError::Refused(_)) => unreachable!(),
-    }
+    read_listed(alloc, volume, core, handle, block, areas.as_slice())
 }
 
 /// Moves the words of a version's body from a block on into the next buffer of a channel's input ring. The ring is

@@ -4,7 +4,7 @@ ghost use Rattle.words36.specs.declared.names.FileName.{FileName};
 ghost use Rattle.meaning.specs.Files.{Directory, Files};
 ghost use Rattle.meaning.specs.Maps.{empty, get, insert, values};
 ghost use Rattle.meaning.specs.Published.{Version};
-ghost use Rattle.meaning.specs.Runs.{AreDistinct};
+ghost use Rattle.meaning.specs.Runs.{HaveDistinctSerials};
 ghost use Rattle.volume.specs.Live.{VolumeCore, IsFirstRead, IsWholeCore};
 ghost use Rattle.volume.specs.Places.{prime_at};
 ghost use Rattle.volume.specs.Rest.{KeepsRead};
@@ -16,7 +16,7 @@ use blockdisk::Disk;
 /// machine what it costs in core, and is that of a file where it is current.
 pub fn what_is_read_is_booked<D: Disk>(disk: &D)
     ensures { (c : VolumeCore) (files : Files Version) (read : ℕ → Version) → IsWholeCore (D.state disk.now).size c
-        → AreDistinct (flat_map (λ d. values d.files) (values files))
+        → HaveDistinctSerials (flat_map (λ d. values d.files) (values files))
         → AreRead (D.state disk.now) c files read
         → AreBooked c.live (flat_map (λ d. values d.files) (values files)) read }
 {}

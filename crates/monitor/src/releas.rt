@@ -4,10 +4,10 @@ ghost use Rattle.meaning.specs.Maps.{times};
 ghost use Rattle.meaning.specs.declared.call.Call.TheVariants.{Releas};
 ghost use Rattle.meaning.specs.declared.call.Reply.TheVariants.{NoMemory, Device, Failed, Refused};
 ghost use Rattle.volume.specs.Live.{slot as version_at};
-ghost use Rattle.monitor.specs.Dropping.{Leaves};
-ghost use Rattle.monitor.specs.Promises.{IsReady, ServesAlways};
+ghost use Rattle.monitor.specs.Dropping.{OnlyDrops};
+ghost use Rattle.monitor.specs.Promises.{IsCallReady, ServesAlways};
 ghost use Rattle.monitor.specs.Readers.{readers_of};
-ghost use Rattle.monitor.specs.Rows.{IsRow, Keeps, KeepsReading, publishes_at};
+ghost use Rattle.monitor.specs.Rows.{IsRow, KeepsSides, KeepsReading, publishes_at};
 ghost use Rattle.monitor.specs.Sides.{readers_in, pins_of};
 
 use crate::close::{close_both, close_rings, closed_side};
@@ -26,7 +26,7 @@ pub fn serve_release<D: Disk>(
     job: &mut Job,
     channel: u32,
 ) -> Reply
-    requires ready { IsReady (D.state volume.old.disk) volume.old.core volume.old.failed job.old }
+    requires ready { IsCallReady (D.state volume.old.disk) volume.old.core volume.old.failed job.old }
     ensures serving { ServesAlways D.state volume.old.disk volume.new.disk volume.old.core volume.new.core
         volume.new.failed job.old job.new (Releas channel) result }
 {
@@ -43,9 +43,9 @@ fn release<D: Disk>(volume: &mut Volume<D>, job: &mut Job, number: u32) -> Reply
     requires unpublished { publishes_at (slot job.old.channels number) 0 ≡ false }
     ensures untouched { (volume.new.disk ≡ volume.old.disk) × (volume.new.failed ≡ volume.old.failed) }
     ensures row { IsRow job.old job.new (Releas number) result }
-    ensures keeps { Keeps volume.old.core.pending volume.new.core.pending job.old job.new }
+    ensures keeps { KeepsSides volume.old.core.pending volume.new.core.pending job.old job.new }
     ensures reads { KeepsReading volume.old.core.live volume.new.core.live job.old job.new }
-    ensures leaves { Leaves volume.old.core volume.new.core }
+    ensures leaves { OnlyDrops volume.old.core volume.new.core }
     ensures only { (result ≡ Failed → ⊥) × (result ≡ Device → ⊥) × (result ≡ NoMemory → ⊥) }
     ensures refused { (code : ℕ) → result ≡ Refused code → ⊥ }
 {

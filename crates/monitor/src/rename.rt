@@ -10,7 +10,7 @@ ghost use Rattle.meaning.specs.declared.call.Call.TheVariants.{Rename};
 ghost use Rattle.meaning.specs.declared.call.Reply.TheVariants.{Done, NoMemory, Failed, Device, Refused};
 ghost use Rattle.volume.specs.Claims.{claims};
 ghost use Rattle.volume.specs.Live.{slot as version_at};
-ghost use Rattle.volume.specs.Rest.{IsSound};
+ghost use Rattle.volume.specs.Rest.{IsSoundCore};
 ghost use Rattle.volume.specs.declared.live.LiveVersion.{LiveVersion};
 ghost use Rattle.volume.specs.declared.pending.PendingVersion.{PendingVersion};
 ghost use Rattle.monitor.specs.Arriving.{allowed_arrival, arrival_answer};
@@ -18,10 +18,10 @@ ghost use Rattle.monitor.specs.Changing.{may_become, allowed_change, asked_prote
 ghost use Rattle.monitor.specs.Changing.{with_input_closed, CloseAfter, changed_reply, changed_job};
 ghost use Rattle.monitor.specs.Dropping.{Closes};
 ghost use Rattle.monitor.specs.Finding.{found_in, IsKnown};
-ghost use Rattle.monitor.specs.Promises.{IsReady, ServesAlways};
+ghost use Rattle.monitor.specs.Promises.{IsCallReady, ServesAlways};
 ghost use Rattle.monitor.specs.Readers.{readers_of};
 ghost use Rattle.monitor.specs.Refusals.{with_code};
-ghost use Rattle.monitor.specs.Rows.{IsRow, Keeps, KeepsReading};
+ghost use Rattle.monitor.specs.Rows.{IsRow, KeepsSides, KeepsReading};
 ghost use Rattle.monitor.specs.Sides.{UnderKeys, job_of, reader_of};
 
 use crate::channel::Channel;
@@ -50,7 +50,7 @@ pub fn serve_rename<D: Disk>(
     channel: u32,
     address: u32,
 ) -> Reply
-    requires ready { IsReady (D.state volume.old.disk) volume.old.core volume.old.failed job.old }
+    requires ready { IsCallReady (D.state volume.old.disk) volume.old.core volume.old.failed job.old }
     ensures serving { ServesAlways D.state volume.old.disk volume.new.disk volume.old.core volume.new.core
         volume.new.failed job.old job.new (Rename channel address) result }
 {
@@ -64,7 +64,7 @@ pub fn serve_rename<D: Disk>(
 fn rename_nothing(job: &mut Job, number: u32, address: u32) -> Reply
     requires unread { reader_of (slot job.old.channels number) ≡ None }
     ensures row { IsRow job.old job.new (Rename number address) result }
-    ensures keeps { (pending : List (Option PendingVersion)) → Keeps pending pending job.old job.new }
+    ensures keeps { (pending : List (Option PendingVersion)) → KeepsSides pending pending job.old job.new }
     ensures reads { (live : List (Option LiveVersion)) → KeepsReading live live job.old job.new }
     ensures only { (result ≡ Failed → ⊥) × (result ≡ Device → ⊥) × (result ≡ NoMemory → ⊥) }
     ensures refused { (code : ℕ) → result ≡ Refused code → job.new ≡ with_code job.old address code }
@@ -89,7 +89,7 @@ fn rename_input<D: Disk>(
     channel: Channel,
     input: Input,
 ) -> Reply
-    requires ready { IsReady (D.state volume.old.disk) volume.old.core volume.old.failed job.old }
+    requires ready { IsCallReady (D.state volume.old.disk) volume.old.core volume.old.failed job.old }
     requires there { slot job.old.channels number ≡ Some channel }
     requires side { channel.input ≡ Some input }
     ensures serving { ServesAlways D.state volume.old.disk volume.new.disk volume.old.core volume.new.core
@@ -164,7 +164,7 @@ fn may_change<D: Disk>(
     input: &Input,
     protection: Option<u16>,
 ) -> Result<(), ErrorCode>
-    requires sound { IsSound (D.state volume.now.disk) volume.now.core volume.now.failed }
+    requires sound { IsSoundCore (D.state volume.now.disk) volume.now.core volume.now.failed }
     ensures free { OnOk result (claims volume.now.core.pending (place_of input.now.ppn input.now.file) ≡ false) }
     // It answers as the machine does to a RENAME, by any job with this number, that asks for this protection.
     ensures answered { (D.state volume.now.disk).honest → volume.now.failed ≡ false → (s : State)
@@ -302,7 +302,7 @@ fn remove_file<D: Disk>(
     channel: Channel,
     input: Input,
 ) -> Reply
-    requires ready { IsReady (D.state volume.old.disk) volume.old.core volume.old.failed job.old }
+    requires ready { IsCallReady (D.state volume.old.disk) volume.old.core volume.old.failed job.old }
     requires there { slot job.old.channels number ≡ Some channel }
     requires side { channel.input ≡ Some input }
     requires free { channel.output ≡ None }
@@ -330,7 +330,7 @@ fn move_file<D: Disk>(
     channel: Channel,
     input: Input,
 ) -> Reply
-    requires ready { IsReady (D.state volume.old.disk) volume.old.core volume.old.failed job.old }
+    requires ready { IsCallReady (D.state volume.old.disk) volume.old.core volume.old.failed job.old }
     requires there { slot job.old.channels number ≡ Some channel }
     requires side { channel.input ≡ Some input }
     requires free { channel.output ≡ None }

@@ -4,12 +4,12 @@ ghost use Rattle.meaning.specs.Runs.{Service, Answers};
 ghost use Rattle.meaning.specs.declared.call.Call.TheVariants.{Reset};
 ghost use Rattle.meaning.specs.declared.call.Event.TheVariants.{Call as Calls};
 ghost use Rattle.meaning.specs.declared.call.Reply.TheVariants.{Done, Failed};
-ghost use Rattle.monitor.specs.Dropping.{Leaves};
+ghost use Rattle.monitor.specs.Dropping.{OnlyDrops};
 ghost use Rattle.monitor.specs.Replies.{reset_answer};
 ghost use Rattle.monitor.specs.Serving.{pack_of, Serves, AreKeyed, ArePlaced, AreReading};
 ghost use Rattle.monitor.specs.Sides.{reset_job};
 ghost use Rattle.monitor.specs.declared.job.Job.{Job as JobRecord};
-ghost use Rattle.monitor.specs.Promises.{IsReady, ServesAlways};
+ghost use Rattle.monitor.specs.Promises.{IsCallReady, ServesAlways};
 
 use crate::call::LAST_DATE;
 use crate::dropping::{close_channels, close_job};
@@ -23,7 +23,7 @@ use words36::Moment;
 /// RESET: closes all channels of a job, drops what it has written and lets go what it reads; and the next ring of
 /// buffers goes where the first one does.
 pub fn serve_reset<D: Disk>(volume: &mut Volume<D>, job: &mut Job) -> Reply
-    requires ready { IsReady (D.state volume.old.disk) volume.old.core volume.old.failed job.old }
+    requires ready { IsCallReady (D.state volume.old.disk) volume.old.core volume.old.failed job.old }
     ensures serving { ServesAlways D.state volume.old.disk volume.new.disk volume.old.core volume.new.core
         volume.new.failed job.old job.new Reset result }
 {
@@ -40,7 +40,7 @@ pub fn reset<D: Disk>(volume: &mut Volume<D>, jobs: &mut Jobs, number: u32) -> b
     ensures keyed { AreKeyed volume.new.core.pending jobs.new }
     ensures placed { ArePlaced volume.new.core }
     ensures reading { AreReading volume.new.core.live jobs.new }
-    ensures leaves { Leaves volume.old.core volume.new.core }
+    ensures leaves { OnlyDrops volume.old.core volume.new.core }
     ensures untouched { (volume.new.disk ≡ volume.old.disk) × (volume.new.failed ≡ volume.old.failed) }
     ensures found { IsTrue result → (job : JobRecord) × (slot jobs.old number ≡ Some job)
         × (jobs.new ≡ slice_set jobs.old number (Some (reset_job job))) }

@@ -4,7 +4,7 @@ ghost use Rattle.meaning.specs.Opening.{sets_up};
 ghost use Rattle.meaning.specs.declared.call.Reply.TheVariants.{NoMemory, Failed, Device, Refused};
 ghost use Rattle.volume.specs.declared.live.LiveVersion.{LiveVersion};
 ghost use Rattle.volume.specs.declared.pending.PendingVersion.{PendingVersion};
-ghost use Rattle.monitor.specs.Rows.{Keeps, KeepsReading};
+ghost use Rattle.monitor.specs.Rows.{KeepsSides, KeepsReading};
 ghost use Rattle.monitor.specs.Sides.{UnderKeys, channel_of, job_of};
 
 use crate::channel::Channel;
@@ -17,7 +17,7 @@ pub fn set_up_ring(job: &mut Job, number: u32, channel: Channel, header: u32, co
     requires there { slot job.old.channels number ≡ Some channel }
     ensures row { (under : UnderKeys) → sets_up (job_of under job.old) number (channel_of under channel) header count
         ≡ (result, job_of under job.new) }
-    ensures keeps { (pending : List (Option PendingVersion)) → Keeps pending pending job.old job.new }
+    ensures keeps { (pending : List (Option PendingVersion)) → KeepsSides pending pending job.old job.new }
     ensures reads { (live : List (Option LiveVersion)) → KeepsReading live live job.old job.new }
     ensures only { (result ≡ Failed → ⊥) × (result ≡ Device → ⊥) × (result ≡ NoMemory → ⊥) }
     ensures refused { (code : ℕ) → result ≡ Refused code → job.new ≡ job.old }

@@ -14,7 +14,7 @@ ghost use Rattle.volume.specs.Beginning.{is_update, IsBegun};
 ghost use Rattle.volume.specs.Claims.{claims};
 ghost use Rattle.volume.specs.Live.{pending_at, slot as version_at, IsWholeCore};
 ghost use Rattle.volume.specs.Pins.{BeginsWithFile};
-ghost use Rattle.volume.specs.Rest.{IsSound, RestsAt};
+ghost use Rattle.volume.specs.Rest.{IsSoundCore, RestsAt};
 ghost use Rattle.volume.specs.declared.error.CallError.TheVariants.{Failed as VolumeFailed, Device as VolumeDevice};
 ghost use Rattle.volume.specs.declared.live.LiveVersion.{LiveVersion};
 ghost use Rattle.volume.specs.declared.pending.PendingVersion.{PendingVersion};
@@ -142,7 +142,7 @@ fn begin_update<D: Disk>(
     input: &Input,
     moment: Moment,
 ) -> Result<(Pending, VersionKind), CallError>
-    requires sound { IsSound (D.state volume.old.disk) volume.old.core volume.old.failed }
+    requires sound { IsSoundCore (D.state volume.old.disk) volume.old.core volume.old.failed }
     requires timely { moment.date ≤ 4095 }
     ensures untouched { (volume.new.disk ≡ volume.old.disk) × (volume.new.failed ≡ volume.old.failed) }
     ensures begun { IfOk result (λ begun. (is_update begun.1 ≡ true) × (prime : PrimeRecord)
@@ -236,7 +236,7 @@ pub fn update<D: Disk>(
     channel: Channel,
     input: Input,
 ) -> Reply
-    requires sound { IsSound (D.state volume.old.disk) volume.old.core volume.old.failed }
+    requires sound { IsSoundCore (D.state volume.old.disk) volume.old.core volume.old.failed }
     // The volume serves, and knows what the job reads.
     requires timely { moment.date ≤ 4095 }
     requires alive { volume.old.failed ≡ false }

@@ -3,7 +3,7 @@ ghost use Rattle.meaning.specs.declared.call.Call.TheVariants.{Useto};
 ghost use Rattle.meaning.specs.declared.call.Reply.TheVariants.{NoMemory, Failed, Device, Refused};
 ghost use Rattle.volume.specs.declared.live.LiveVersion.{LiveVersion};
 ghost use Rattle.volume.specs.declared.pending.PendingVersion.{PendingVersion};
-ghost use Rattle.monitor.specs.Rows.{IsRow, Keeps, KeepsReading};
+ghost use Rattle.monitor.specs.Rows.{IsRow, KeepsSides, KeepsReading};
 
 use crate::channel::Channel;
 use crate::job::Job;
@@ -14,7 +14,7 @@ use meaning::{ErrorCode, Reply};
 /// USETO: names the block that a channel writes next, counted from 1.
 pub fn useto(job: &mut Job, number: u32, block: u32) -> Reply
     ensures row { IsRow job.old job.new (Useto number block) result }
-    ensures keeps { (pending : List (Option PendingVersion)) → Keeps pending pending job.old job.new }
+    ensures keeps { (pending : List (Option PendingVersion)) → KeepsSides pending pending job.old job.new }
     ensures reads { (live : List (Option LiveVersion)) → KeepsReading live live job.old job.new }
     ensures only { (result ≡ Failed → ⊥) × (result ≡ Device → ⊥) × (result ≡ NoMemory → ⊥) }
     ensures refused { (code : ℕ) → result ≡ Refused code → job.new ≡ job.old }

@@ -1,8 +1,10 @@
-ghost use Rattle.std.specs.Prelude.{◌≡◌, ◌↔◌, ℕ, false, Some, slice_set, IsTrue};
+ghost use Rattle.std.specs.Prelude.{◌≡◌, ◌↔◌, ◌+◌, ◌<◌, ◌≤◌, ℕ, false, Some, IsSome, IfSome, IsFalse, IsTrue, length};
+ghost use Rattle.std.specs.Prelude.{slice_index, slice_set};
 ghost use Rattle.meaning.specs.Jobs.{slot};
 ghost use Rattle.meaning.specs.Runs.{Service, Answers};
 ghost use Rattle.meaning.specs.declared.call.Event.TheVariants.{Deposit, Examine};
-ghost use Rattle.meaning.specs.declared.call.Reply.TheVariants.{Done, Failed};
+ghost use Rattle.meaning.specs.declared.call.Reply.TheVariants.{Done, Failed, Value};
+ghost use Rattle.monitor.specs.Deposits.{DepositsBy};
 ghost use Rattle.monitor.specs.Replies.{deposit_of, examine_of};
 ghost use Rattle.monitor.specs.Serving.{pack_of, Serves};
 ghost use Rattle.monitor.specs.declared.job.Job.{Job as JobRecord};
@@ -11,6 +13,7 @@ use crate::job::Jobs;
 use crate::monitor::Monitor;
 use blockdisk::Disk;
 use meaning::Reply;
+use usercore::Area;
 use words36::Word;
 
 /// A word of the core of a job.
@@ -24,6 +27,21 @@ fn examine(jobs: &Jobs, number: u32, address: u32) -> Reply
         Ok(word) => Reply::Value(word),
         Err(_) => Reply::AddressCheck,
     }
+}
+
+/// Words of the core of a job in a row.
+fn examine_all(jobs: &Jobs, number: u32, first: u32, count: usize) -> Option<&[Word]>
+    ensures length { IfSome result (λ words. length words.now ≡ count) }
+    ensures shown { IfSome result (λ words. (i : ℕ) → i < count
+        → Value (slice_index words.now i) ≡ examine_of (first + i) (slot jobs.now number)) }
+    ensures there { (job : JobRecord) → slot jobs.now number ≡ Some job → first + count ≤ length job.core
+        → IsSome result }
+{
+    let area = Area {
+        first: first as usize,
+        count,
+    };
+    jobs.job(number)?.core.words(area).ok()
 }
 
 impl<D: Disk> Monitor<D> {
@@ -51,6 +69,23 @@ impl<D: Disk> Monitor<D> {
         self.jobs.deposit(job, address, word)
     }
 
+    /// Puts words into a job's core from an address on, as `deposit` would put one after the other: true where it would
+    /// answer `Done` each time, and else false, and nothing is changed.
+    pub fn deposit_all(&mut self, job: u32, first: u32, words: &[Word]) -> bool
+        ensures done { IsTrue result → DepositsBy (D.state self.old.disk) self.old.map self.old.failed job
+            self.old.jobs first words.now self.new.jobs }
+        ensures kept { self.new ≡ record self.old { jobs = self.new.jobs } }
+        ensures refused { IsFalse result → self.new.jobs ≡ self.old.jobs }
+        ensures alive { IsTrue result → self.old.failed ≡ false }
+        ensures there { self.old.failed ≡ false → (there : JobRecord) → slot self.old.jobs job ≡ Some there
+            → first + length words.now ≤ length there.core → IsTrue result }
+    {
+        if self.volume.has_failed() {
+            return false;
+        }
+        self.jobs.deposit_all(job, first, words)
+    }
+
     /// The word of a job's core at an address: `Value`.
     ///
     /// The answer is else `NoJob` where no job of that number is logged in; `AddressCheck` where its core has no
@@ -67,5 +102,25 @@ impl<D: Disk> Monitor<D> {
             return Reply::Failed;
         }
         examine(&self.jobs, job, address)
+    }
+    /// So many words of a job's core in a row, from an address on: each is the one that `examine` shows. None where one of
+    /// them isn't shown.
+    pub fn examine_all(&self, job: u32, first: u32, count: usize) -> Option<&[Word]>
+        ensures length { IfSome result (λ words. length words.now ≡ count) }
+        ensures answered { IfSome result (λ words. (i : ℕ) → i < count → (old : Service)
+            → Serves (D.state self.now.disk) self.now.map self.now.failed self.now.jobs old
+            → (new : Service) × Serves (D.state self.now.disk) self.now.map self.now.failed self.now.jobs new
+            × Answers (pack_of (D.state self.now.disk)) old (Examine job (first + i))
+            (Value (slice_index words.now i)) new) }
+        ensures value { IfSome result (λ words. (i : ℕ) → i < count
+            → Value (slice_index words.now i) ≡ examine_of (first + i) (slot self.now.jobs job)) }
+        ensures alive { IsSome result → self.now.failed ≡ false }
+        ensures there { self.now.failed ≡ false → (there : JobRecord) → slot self.now.jobs job ≡ Some there
+            → first + count ≤ length there.core → IsSome result }
+    {
+        if self.volume.has_failed() {
+            return None;
+        }
+        examine_all(&self.jobs, job, first, count)
     }
 }

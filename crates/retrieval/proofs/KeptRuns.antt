@@ -10,7 +10,7 @@ use Rattle.std.proofs.lemmas.List.{drop-drop}
 use Rattle.std.proofs.lemmas.Option.{slice_get_read}
 use Rattle.std.proofs.lemmas.Grind.{flat_map-append}
 use Rattle.meaning.specs.Retrieval.{Run, run_blocks, count_up}
-use Rattle.retrieval.specs.Runs.{pair_of, pairs_of, blocks_of_runs, IsIn, behind, longest, AreKept}
+use Rattle.retrieval.specs.Runs.{pair_of, pairs_of, blocks_of_runs, IsAtOffset, behind, longest_runs, AreKept}
 use Rattle.retrieval.specs.declared.run.Run.{Run as RunValue}
 use Rattle.retrieval.proofs.RunLists.{length-count_up}
 use Rattle.retrieval.proofs.LongestRuns.{longest_behind, behind_last, blocks_of_longest}
@@ -104,7 +104,7 @@ parted runs i run below is =
 -- A block that was found.
 
 pub found : (runs : List RunValue) (i r left : ℕ) (run : RunValue) → r < length runs → run ≡ get_or runs r run
-    → left + length (blocks_of_runs (take r runs)) ≡ i → left < suc (run.last - run.first) → IsIn runs i r left
+    → left + length (blocks_of_runs (take r runs)) ≡ i → left < suc (run.last - run.first) → IsAtOffset runs i r left
 found runs i r left run below is at inside = record {
   below = below;
   inside = subst (λ (o : Option RunValue). IfSome o (λ run. left ≤ run.last - run.first))
@@ -118,7 +118,7 @@ offset_at runs r offset run below is inside =
     subst (λ (o : Option RunValue). IfSome o (λ run. offset ≤ run.last - run.first))
     (slice_get_read runs (length runs) r run refl below is) inside
 
-pub offset_of : (runs : List RunValue) (i r offset : ℕ) (run : RunValue) → IsIn runs i r offset
+pub offset_of : (runs : List RunValue) (i r offset : ℕ) (run : RunValue) → IsAtOffset runs i r offset
     → run ≡ get_or runs r run → offset ≤ run.last - run.first
 offset_of runs i r offset run is_in is = offset_at runs r offset run is_in.below is is_in.inside
 
@@ -133,7 +133,8 @@ get_up (suc count) first zero rest below = let e : first ≡ first + zero = omeg
 get_up (suc count) first (suc o) rest below = get_up count (suc first) o rest (omega arith)
     ∙ (let e : suc first + o ≡ first + suc o = omega arith in ap Some e)
 
-pub block_in : (runs : List RunValue) (i r offset : ℕ) (run : RunValue) → IsIn runs i r offset → run ≡ get_or runs r run
+pub block_in : (runs : List RunValue) (i r offset : ℕ) (run : RunValue) → IsAtOffset runs i r offset → run
+    ≡ get_or runs r run
     → slice_get (blocks_of_runs runs) i ≡ Some (run.first + offset)
 block_in runs i r offset run is_in is =
     let before = blocks_of_runs (take r runs) in
@@ -146,11 +147,11 @@ block_in runs i r offset run is_in is =
 
 -- One block more behind the last.
 
-pub pushed : (old new : List RunValue) (n : ℕ) → pairs_of old ≡ longest (blocks_of_runs old)
+pub pushed : (old new : List RunValue) (n : ℕ) → pairs_of old ≡ longest_runs (blocks_of_runs old)
     → pairs_of new ≡ behind (pairs_of old) (1, n)
-    → (pairs_of new ≡ longest (blocks_of_runs old ++ n ∷ [])) × (blocks_of_runs new ≡ blocks_of_runs old ++ n ∷ [])
+    → (pairs_of new ≡ longest_runs (blocks_of_runs old ++ n ∷ [])) × (blocks_of_runs new ≡ blocks_of_runs old ++ n ∷ [])
 pushed old new n is more =
-    let whole : pairs_of new ≡ longest (blocks_of_runs old ++ n ∷ []) = more
+    let whole : pairs_of new ≡ longest_runs (blocks_of_runs old ++ n ∷ []) = more
     ∙ ap (λ (l : List Run). behind l (1, n)) is ∙ sym (longest_behind (blocks_of_runs old) 0 n) in
     (whole, ap (flat_map run_blocks) whole ∙ blocks_of_longest (blocks_of_runs old ++ n ∷ []))
 
@@ -159,7 +160,7 @@ pub kept_more : (old new : List RunValue) (count now n : ℕ) → AreKept old co
 kept_more old new count now n kept more is =
     let both = pushed old new n kept.are_longest more in
     record {
-      are_longest = both.0 ∙ ap longest (sym both.1);
+      are_longest = both.0 ∙ ap longest_runs (sym both.1);
       counted = let a = ap length both.1 in let b = length-append (blocks_of_runs old) (n ∷ []) in
           let e = kept.counted in omega arith;
     }
@@ -180,12 +181,12 @@ same_at xs ys i run same is =
     ∙ ap (λ (l : List RunValue). get_or l 0 run) same ∙ get_or-drop i ys 0 run ∙ ap (λ (k : ℕ). get_or ys k run) e
 
 pub joined_more : (old : List RunValue) (before now : List Run) (i : ℕ) (run : RunValue) → i < length old
-    → run ≡ get_or old i run → before ≡ longest (blocks_of_runs (take i old)) → now ≡ behind before (pair_of run)
-    → now ≡ longest (blocks_of_runs (take (i + 1) old))
+    → run ≡ get_or old i run → before ≡ longest_runs (blocks_of_runs (take i old)) → now ≡ behind before (pair_of run)
+    → now ≡ longest_runs (blocks_of_runs (take (i + 1) old))
 joined_more old before now i run below is was more =
     more ∙ ap (λ (l : List Run). behind l (pair_of run)) was
     ∙ sym (longest_behind (blocks_of_runs (take i old)) (run.last - run.first) run.first)
-    ∙ ap longest (sym (blocks_more old i run below is))
+    ∙ ap longest_runs (sym (blocks_more old i run below is))
 
 -- A run that is parted.
 

@@ -3,7 +3,7 @@ use Rattle.std.proofs.Common.{◌≡◌, ℕ, zero, suc, Bool, true, false, ◌+
 use Rattle.std.proofs.Common.{◌++◌, length, flat_map, refl, sym, ◌∙◌, ap, arith}
 use Rattle.std.proofs.lemmas.Bool.{eqb-true, eqb-false, eq-eqb, ne_eqb}
 use Rattle.meaning.specs.Retrieval.{Run, run_blocks, count_up}
-use Rattle.retrieval.specs.Runs.{in_front, longest, behind}
+use Rattle.retrieval.specs.Runs.{in_front, longest_runs, behind}
 
 -- A block in front.
 
@@ -18,9 +18,9 @@ blocks_in_front n (run ∷ runs) = by_case (suc n == run.1) refl
     by_case false is = refl
 
 -- they stand for the list
-pub blocks_of_longest : (ns : List ℕ) → flat_map run_blocks (longest ns) ≡ ns
+pub blocks_of_longest : (ns : List ℕ) → flat_map run_blocks (longest_runs ns) ≡ ns
 blocks_of_longest [] = refl
-blocks_of_longest (n ∷ ns) = blocks_in_front n (longest ns) ∙ ap (λ (l : List ℕ). n ∷ l) (blocks_of_longest ns)
+blocks_of_longest (n ∷ ns) = blocks_in_front n (longest_runs ns) ∙ ap (λ (l : List ℕ). n ∷ l) (blocks_of_longest ns)
 
 few_in_front : (n : ℕ) (runs : List Run) → length (in_front n runs) ≤ suc (length runs)
 few_in_front n [] = omega arith
@@ -31,9 +31,9 @@ few_in_front n (run ∷ runs) = by_case (suc n == run.1)
     by_case false = omega arith
 
 -- and are no more than its blocks
-pub longest_few : (ns : List ℕ) → length (longest ns) ≤ length ns
+pub longest_few : (ns : List ℕ) → length (longest_runs ns) ≤ length ns
 longest_few [] = omega arith
-longest_few (n ∷ ns) = let a = few_in_front n (longest ns) in let b = longest_few ns in omega arith
+longest_few (n ∷ ns) = let a = few_in_front n (longest_runs ns) in let b = longest_few ns in omega arith
 
 -- A run behind.
 
@@ -74,17 +74,17 @@ front_behind n (first ∷ second ∷ runs) run = by_case (suc n == first.1)
     by_case true = refl
     by_case false = refl
 
-longest_run : (count first : ℕ) → longest (count_up (suc count) first) ≡ (suc count, first) ∷ []
+longest_run : (count first : ℕ) → longest_runs (count_up (suc count) first) ≡ (suc count, first) ∷ []
 longest_run zero first = refl
 longest_run (suc count) first = ap (in_front first) (longest_run count (suc first))
     ∙ ap (λ (b : Bool). if b then (suc (suc count), first) ∷ [] else (1, first) ∷ (suc count, suc first) ∷ [])
     (eq-eqb (suc first) (suc first) refl)
 
 pub longest_behind : (ns : List ℕ) (count first : ℕ)
-    → longest (ns ++ count_up (suc count) first) ≡ behind (longest ns) (suc count, first)
+    → longest_runs (ns ++ count_up (suc count) first) ≡ behind (longest_runs ns) (suc count, first)
 longest_behind [] count first = longest_run count first
 longest_behind (n ∷ ns) count first = ap (in_front n) (longest_behind ns count first)
-    ∙ front_behind n (longest ns) (suc count, first)
+    ∙ front_behind n (longest_runs ns) (suc count, first)
 
 pub behind_last : (runs : List Run) (last run : Run) → behind (runs ++ last ∷ []) run
     ≡ runs ++ (if last.0 + last.1 == run.1 then (last.0 + run.0, last.1) ∷ [] else last ∷ run ∷ [])

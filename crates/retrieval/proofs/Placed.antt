@@ -12,21 +12,21 @@ use Rattle.changeset.specs.PutLaws.{times_tail}
 use Rattle.alloctab.specs.TableState.{TableState, IsFree, bit, holds, space}
 use Rattle.retrieval.specs.Bodies.{IsOwn, AddsClear, AddsFree, KeepsOwn}
 use Rattle.retrieval.specs.Writing.{IsFixed}
-use Rattle.retrieval.specs.Placing.{IsNewBlock, HoldsNew, IsPlaced}
+use Rattle.retrieval.specs.Placing.{IsNewBlock, HoldsNew, IsPartlyPlaced}
 use Rattle.retrieval.proofs.Holding.{times_set, alone_at}
 use Rattle.retrieval.proofs.Parts.{times_at}
 
 module _ (before : Contents) (old : List ℕ) (at : ℕ) (words : List ℕ) (place : ℕ) (kept : List ℕ) (first : ℕ) where
-  pub placed_none : (i : ℕ) → i ≡ first → IsPlaced before before old old at words place kept first i
+  pub placed_none : (i : ℕ) → i ≡ first → IsPartlyPlaced before before old old at words place kept first i
   placed_none i is = record { stays = λ j below out. (refl, refl); placed = λ j from below. absurd (omega arith) }
 
   -- one block more
   pub placed_more : (now now' : Contents) (blocks : List ℕ) (i n : ℕ) (new : List ℕ)
-      → IsPlaced before now old blocks at words place kept first i → length blocks ≡ length old → first ≤ i
+      → IsPartlyPlaced before now old blocks at words place kept first i → length blocks ≡ length old → first ≤ i
       → i < length blocks
       → times n (slice_set blocks i n) ≡ 1 → ((m : ℕ) → (m ≡ n → ⊥) → now' m ≡ now m) → now' n ≡ Some new
       → IsNewBlock at words place kept i new
-      → IsPlaced before now' old (slice_set blocks i n) at words place kept first (i + 1)
+      → IsPartlyPlaced before now' old (slice_set blocks i n) at words place kept first (i + 1)
   placed_more now now' blocks i n new so_far long after below alone others put is_new =
       record { stays = stays; placed = placed }
     where

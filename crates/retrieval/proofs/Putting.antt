@@ -9,7 +9,7 @@ use Rattle.meaning.specs.Retrieval.{HasBody}
 use Rattle.meaning.specs.Splices.{splice, length_after, block_start}
 use Rattle.meaning.proofs.SpliceLaws.{length-splice, splice-outside, splice-inside, below_or_not}
 use Rattle.retrieval.specs.Bodies.{AreWhole}
-use Rattle.retrieval.specs.Placing.{Stays, IsPlaced}
+use Rattle.retrieval.specs.Placing.{Stays, IsPartlyPlaced}
 use Rattle.retrieval.proofs.Growing.{after_some}
 use Rattle.retrieval.proofs.Parts.{HoldsPart, part_of, body_of, all_at, all_indexed}
 
@@ -20,7 +20,7 @@ module _ (before read after : Contents) (old longer new : List ℕ) (total block
     (same : (n : ℕ) → read n ≡ before n) (front : (j : ℕ) → j < length old → slice_index longer j
     ≡ slice_index old j) (long : length longer ≡ blocks_of (max total (block_start block + length words)))
     (long' : length new ≡ length longer)
-    (placed : IsPlaced read after longer new (block - 1) words place kept (min (block - 1) (total / 128))
+    (placed : IsPartlyPlaced read after longer new (block - 1) words place kept (min (block - 1) (total / 128))
     (block - 1 + blocks_of (length words))) where
   at : ℕ
   at = block - 1

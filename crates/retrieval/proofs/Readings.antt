@@ -19,7 +19,7 @@ use Rattle.retrieval.specs.Primes.{with_length}
 use Rattle.retrieval.specs.Spelling.{SpellsPrime, SpellsExtension}
 use Rattle.retrieval.specs.Versions.{VersionState}
 use Rattle.retrieval.specs.Reading.{IsBadPrime, IsBadExtension, Overfills, IsStarted, Extends, Follows, IsReadTo}
-use Rattle.retrieval.specs.Reading.{IsVersionAt, IsWholeVersion}
+use Rattle.retrieval.specs.Reading.{IsVersionAt, IsStandingVersion}
 use Rattle.retrieval.specs.declared.prime.Prime.{Prime as PrimeValue}
 use Rattle.meaning.proofs.SlotLaws.{all_append}
 use Rattle.alloctab.proofs.SpaceLaws.{in_space_some}
@@ -338,6 +338,6 @@ extended_ribs size words n next old new x here all =
 
 -- what is wrong with none of the blocks of a version that stands as it should
 pub none_wrong : (size : ℕ) (c : Contents) (at : ℕ) (p : Prime) (ribs blocks : List ℕ)
-    → IsWholeVersion size c at p ribs blocks → (k : ℕ) → IsBadVersion size c 1 at k → ⊥
+    → IsStandingVersion size c at p ribs blocks → (k : ℕ) → IsBadVersion size c 1 at k → ⊥
 none_wrong size c at p ribs blocks w k bad = no_bad_version 1 size c p at ribs blocks w.retrieved w.inside
     w.ppn_fits w.ext_fits k bad

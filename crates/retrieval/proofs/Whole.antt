@@ -14,7 +14,7 @@ use Rattle.meaning.proofs.Versions.{prime_ext_same, retrieved_same}
 use Rattle.changeset.specs.PutLaws.{times_tail}
 use Rattle.retrieval.specs.Primes.{with_length}
 use Rattle.retrieval.specs.Versions.{VersionState}
-use Rattle.retrieval.specs.Reading.{IsVersionAt, IsReadAs, IsWholeVersion}
+use Rattle.retrieval.specs.Reading.{IsVersionAt, IsReadAs, IsStandingVersion}
 use Rattle.retrieval.specs.declared.prime.Prime.{Prime as PrimeValue}
 
 -- what all have, each that stands in the list has
@@ -30,7 +30,7 @@ one_of (suc a) b some = inl (omega arith)
 pub whole_version : (size : ℕ) (c : Contents) (p : Prime) (at : ℕ) (ribs blocks : List ℕ)
     → IsRetrieved 1 c p at ribs blocks → ((n : ℕ) → 0 < times n (at ∷ ribs) → InSpace size n)
     → AllByRecursion (InSpace size) blocks
-    → IsPpn p.place.ppn → p.place.name.ext < 2 ^ 18 → IsWholeVersion size c at p ribs blocks
+    → IsPpn p.place.ppn → p.place.name.ext < 2 ^ 18 → IsStandingVersion size c at p ribs blocks
 whole_version size c p at ribs blocks is own inside ppn ext = record {
   retrieved = is;
   inside = λ n there. ⊎_elim (own n) (each_of (InSpace size) blocks inside n)

@@ -37,7 +37,8 @@ pub record HoldsNew (contents : Contents) (at : ℕ) (words : List ℕ) (place :
   pub is_new : IsNewBlock at words place kept i new
 
 -- The blocks from `first` up to i have their new words; at the other places the same blocks stand as before.
-pub record IsPlaced (before now : Contents) (old new : List ℕ) (at : ℕ) (words : List ℕ) (place : ℕ) (kept : List ℕ)
+pub record IsPartlyPlaced (before now : Contents) (old new : List ℕ) (at : ℕ) (words : List ℕ) (place : ℕ)
+    (kept : List ℕ)
     (first i : ℕ) : Type 0 where
   pub stays : (j : ℕ) → j < length old → (j < first) ⊎ (i ≤ j) → (slice_index new j ≡ slice_index old j)
       × (now (slice_index old j) ≡ before (slice_index old j))

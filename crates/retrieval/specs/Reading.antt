@@ -104,7 +104,7 @@ pub record IsReadAs (p : Prime) (ribs blocks : List ℕ) (prime : PrimeValue) (v
   pub blocks_are : v.blocks ≡ blocks
 
 -- A version stands at this prime block as it should: its blocks lie in the free space, and its place fits.
-pub record IsWholeVersion (size : ℕ) (contents : Contents) (at : ℕ) (p : Prime) (ribs blocks : List ℕ) : Type 0 where
+pub record IsStandingVersion (size : ℕ) (contents : Contents) (at : ℕ) (p : Prime) (ribs blocks : List ℕ) : Type 0 where
   pub retrieved : IsRetrieved 1 contents p at ribs blocks
   pub inside : (n : ℕ) → 0 < times n (at ∷ (ribs ++ blocks)) → InSpace size n
   pub ppn_fits : IsPpn p.place.ppn

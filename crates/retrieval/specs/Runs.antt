@@ -25,7 +25,7 @@ part_blocks None = []
 part_blocks (Some run) = run_blocks (pair_of run)
 
 -- Block i, counted from 0, is the one at this offset of run r.
-pub record IsIn (runs : List RunValue) (i r offset : ℕ) : Type 0 where
+pub record IsAtOffset (runs : List RunValue) (i r offset : ℕ) : Type 0 where
   pub below : r < length runs
   pub inside : IfSome (slice_get runs r) (λ run. offset ≤ run.last - run.first)
   pub is : length (blocks_of_runs (take r runs)) + offset ≡ i
@@ -36,9 +36,9 @@ in_front n [] = (1, n) ∷ []
 in_front n (run ∷ runs) = if suc n == run.1 then (suc run.0, n) ∷ runs else (1, n) ∷ run ∷ runs
 
 -- the longest runs of a list of blocks: none begins just behind the one before it
-abbrev pub longest : List ℕ → List Run
-longest [] = []
-longest (n ∷ ns) = in_front n (longest ns)
+abbrev pub longest_runs : List ℕ → List Run
+longest_runs [] = []
+longest_runs (n ∷ ns) = in_front n (longest_runs ns)
 
 -- a run behind others, as part of the last where that ends just before it
 abbrev pub behind : List Run → Run → List Run
@@ -49,9 +49,9 @@ behind (first ∷ second ∷ runs) run = first ∷ behind (second ∷ runs) run
 
 -- how many extensions the longest runs of these blocks ask for
 abbrev pub ribs_of : List ℕ → ℕ
-ribs_of blocks = rib_count (length (longest blocks))
+ribs_of blocks = rib_count (length (longest_runs blocks))
 
 -- What is kept of a list: its longest runs, and how many blocks there are.
 pub record AreKept (runs : List RunValue) (count : ℕ) : Type 0 where
-  pub are_longest : pairs_of runs ≡ longest (blocks_of_runs runs)
+  pub are_longest : pairs_of runs ≡ longest_runs (blocks_of_runs runs)
   pub counted : count ≡ length (blocks_of_runs runs)

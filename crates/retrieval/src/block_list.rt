@@ -1,8 +1,8 @@
 ghost use Rattle.std.specs.Prelude.{◌≡◌, ◌+◌, ◌-◌, ◌<◌, ◌≤◌, ◌^◌, ◌++◌, ◌∷◌, [], ℕ, IfSome, IfNone, OnOk, OnErr, IfOk};
 ghost use Rattle.std.specs.Prelude.{IsOk};
 ghost use Rattle.std.specs.Prelude.{length, take, drop, slice_get, slice_index, slice_set, vec_len, vec_capacity};
-ghost use Rattle.retrieval.specs.Runs.{BlocksState, IsIn, blocks_of_runs, pairs_of, pair_of, part_blocks};
-ghost use Rattle.retrieval.specs.Runs.{behind, longest};
+ghost use Rattle.retrieval.specs.Runs.{BlocksState, IsAtOffset, blocks_of_runs, pairs_of, pair_of, part_blocks};
+ghost use Rattle.retrieval.specs.Runs.{behind, longest_runs};
 
 use crate::run::Run;
 use blockdisk::NoMemory;
@@ -36,7 +36,7 @@ struct Place {
 
 /// Where the block at a place of the list stands.
 fn find(runs: &[Run], i: usize) -> Option<Place>
-    ensures some { IfSome result (λ place. IsIn runs.now i place.run place.offset) }
+    ensures some { IfSome result (λ place. IsAtOffset runs.now i place.run place.offset) }
     ensures none { IfNone result (length (blocks_of_runs runs.now) ≤ i) }
 {
     let mut left = i;
@@ -129,7 +129,7 @@ fn join_next(runs: &mut Vec<Run>, kept: usize, run: Run) -> usize
 
 /// Joins runs with those that begin just behind them.
 fn join_all(runs: &mut Vec<Run>)
-    ensures are_longest { pairs_of runs.new.items ≡ longest (blocks_of_runs runs.old.items) }
+    ensures are_longest { pairs_of runs.new.items ≡ longest_runs (blocks_of_runs runs.old.items) }
     ensures spare { vec_capacity runs.old - vec_len runs.old ≤ vec_capacity runs.new - vec_len runs.new }
 {
     let mut kept = 0;
@@ -148,7 +148,7 @@ fn put_at(runs: &mut Vec<Run>, place: Place, n: u32)
     requires spare { 2 ≤ vec_capacity runs.old - vec_len runs.old }
     ensures blocks { blocks_of_runs runs.new.items ≡ slice_set (blocks_of_runs runs.old.items)
         (length (blocks_of_runs (take place.run runs.old.items)) + place.offset) n }
-    ensures are_longest { pairs_of runs.new.items ≡ longest (blocks_of_runs runs.new.items) }
+    ensures are_longest { pairs_of runs.new.items ≡ longest_runs (blocks_of_runs runs.new.items) }
     ensures spare { vec_capacity runs.old - vec_len runs.old ≤ vec_capacity runs.new - vec_len runs.new + 2 }
 {
     let run = runs[place.run];
@@ -179,7 +179,7 @@ impl BlockList {
     /// The longest runs of the blocks.
     pub(crate) fn runs(&self) -> &[Run]
         ensures blocks { blocks_of_runs result.now ≡ self.now.blocks }
-        ensures are_longest { pairs_of result.now ≡ longest self.now.blocks }
+        ensures are_longest { pairs_of result.now ≡ longest_runs self.now.blocks }
     {
         self.runs.as_slice()
     }

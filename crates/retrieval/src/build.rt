@@ -3,7 +3,7 @@ ghost use Rattle.std.specs.List.{AllByRecursion};
 ghost use Rattle.meaning.specs.Blocks.{head_or_zero};
 ghost use Rattle.meaning.specs.Retrieval.{IsRun, pointer, prime_block, most_blocks};
 ghost use Rattle.retrieval.specs.Heads.{prime_front};
-ghost use Rattle.retrieval.specs.Runs.{pair_of, pairs_of, longest};
+ghost use Rattle.retrieval.specs.Runs.{pair_of, pairs_of, longest_runs};
 ghost use Rattle.retrieval.specs.Primes.{with_length, IsRewritten};
 
 use crate::head::{PRIME_WORD, attributes_word};
@@ -59,7 +59,8 @@ fn without_pointers(prime: &Prime, version: &Version, count: usize) -> Block
 pub fn prime_block(prime: &Prime, version: &Version) -> Block
     requires fit { AllByRecursion (λ n. n < 2 ^ 18) version.now.blocks }
     requires few { length version.now.blocks ≤ most_blocks }
-    ensures { result ≡ prime_block (with_length prime.now version.now.words) (take 112 (longest version.now.blocks))
+    ensures { result ≡ prime_block (with_length prime.now version.now.words)
+        (take 112 (longest_runs version.now.blocks))
         (head_or_zero version.now.ribs) }
 {
     let runs = version.runs();

@@ -7,7 +7,7 @@ ghost use Rattle.meaning.specs.Faults.{InSpace};
 ghost use Rattle.meaning.specs.Maps.{times};
 ghost use Rattle.alloctab.specs.TableState.{holds, space, uses, bit};
 ghost use Rattle.retrieval.specs.Bodies.{IsOwn, AddsFree, KeepsOwn};
-ghost use Rattle.retrieval.specs.Placing.{IsPlaced};
+ghost use Rattle.retrieval.specs.Placing.{IsPartlyPlaced};
 ghost use Rattle.retrieval.specs.Writing.{IsFixed};
 
 use crate::block_list::BlockList;
@@ -85,7 +85,7 @@ pub(crate) fn write_places<D: Disk>(
 
     // The blocks of the version, and what they hold at Ok.
     ensures placed { (D.state disk.new).honest
-        → OnOk result (IsPlaced (D.state disk.old).contents (D.state disk.new).contents blocks.old.blocks
+        → OnOk result (IsPartlyPlaced (D.state disk.old).contents (D.state disk.new).contents blocks.old.blocks
         blocks.new.blocks at words.now kept.now.place kept.now.words first (at + blocks_of (length words.now))) }
 
     ensures long { length blocks.new.blocks ≡ length blocks.old.blocks }

@@ -7,7 +7,7 @@ ghost use Rattle.meaning.specs.Regions.{IsVolumeSize};
 ghost use Rattle.meaning.specs.Retrieval.{Prime as PrimeRecord, IsRetrieved, most_blocks};
 ghost use Rattle.meaning.specs.Faults.{InSpace, IsBadVersion};
 ghost use Rattle.retrieval.specs.Reading.{IsBadPrime, IsBadExtension, Overfills, IsStarted, Extends, IsVersionAt};
-ghost use Rattle.retrieval.specs.Reading.{IsReadAs, IsWholeVersion};
+ghost use Rattle.retrieval.specs.Reading.{IsReadAs, IsStandingVersion};
 ghost use Rattle.retrieval.specs.declared.error.RetrievalError.TheVariants.{BadRetrieval, Device, NoMemory};
 ghost use Rattle.retrieval.specs.Writing.{rib_count};
 
@@ -138,7 +138,7 @@ pub fn read_version<D: Disk>(
     // Whatever the disk answers, a block that is named is the prime block or lies in the free space.
     ensures named { (k : ℕ) → IsErrOf result (BadRetrieval k) → (k ≡ at) ⊎ InSpace (D.state disk.old).size k }
     ensures whole { (D.state disk.new).honest → (p : PrimeRecord) (ribs blocks : List ℕ)
-        → IsWholeVersion (D.state disk.old).size (D.state disk.old).contents at p ribs blocks → (k : ℕ)
+        → IsStandingVersion (D.state disk.old).size (D.state disk.old).contents at p ribs blocks → (k : ℕ)
         → IsErrOf result (BadRetrieval k) → ⊥ }
     ensures reads { (D.state disk.new).honest → (p : PrimeRecord) (ribs blocks : List ℕ)
         → IsRetrieved 1 (D.state disk.old).contents p at ribs blocks → p.place.name.ext < 2 ^ 18

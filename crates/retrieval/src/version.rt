@@ -1,6 +1,6 @@
 ghost use Rattle.std.specs.Prelude.{◌≡◌, ◌<◌, ◌++◌, ◌∷◌, [], slice_set, slice_get, slice_index, length, Some, IfOk};
 ghost use Rattle.std.specs.Prelude.{OnOk, OnErr};
-ghost use Rattle.retrieval.specs.Runs.{BlocksState, blocks_of_runs, pairs_of, longest};
+ghost use Rattle.retrieval.specs.Runs.{BlocksState, blocks_of_runs, pairs_of, longest_runs};
 ghost use Rattle.retrieval.specs.Versions.{VersionState};
 
 use crate::block_list::BlockList;
@@ -62,7 +62,7 @@ impl Version {
     /// The longest runs of the data blocks, in order.
     pub fn runs(&self) -> &[Run]
         ensures blocks { blocks_of_runs result.now ≡ self.now.blocks }
-        ensures are_longest { pairs_of result.now ≡ longest self.now.blocks }
+        ensures are_longest { pairs_of result.now ≡ longest_runs self.now.blocks }
     {
         self.blocks.runs()
     }

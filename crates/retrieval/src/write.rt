@@ -10,7 +10,7 @@ ghost use Rattle.meaning.specs.Retrieval.{IsRun, extension_block, AreExtensions,
 ghost use Rattle.alloctab.specs.TableState.{IsTable, IsFree, holds, space, used_in_space, with_held};
 ghost use Rattle.retrieval.specs.Runs.{pairs_of, ribs_of};
 ghost use Rattle.retrieval.specs.Primes.{with_length};
-ghost use Rattle.retrieval.specs.Reading.{IsWholeVersion};
+ghost use Rattle.retrieval.specs.Reading.{IsStandingVersion};
 ghost use Rattle.retrieval.specs.declared.error.RetrievalError.TheVariants.{BadRetrieval, Device, NoMemory};
 ghost use Rattle.retrieval.specs.Writing.{rib_count, Takes, AreApart, IsFixed, extensions_of};
 
@@ -180,7 +180,7 @@ pub fn write_version<D: Disk>(
         → IfOk result (λ n. IsRetrieved 1 (D.state disk.new).contents (with_length prime.now version.new.words)
         n version.new.ribs version.new.blocks) }
     ensures read_back { (D.state disk.new).honest → AllByRecursion (InSpace (D.state disk.old).size) version.old.blocks
-        → IfOk result (λ n. IsWholeVersion (D.state disk.new).size (D.state disk.new).contents n
+        → IfOk result (λ n. IsStandingVersion (D.state disk.new).size (D.state disk.new).contents n
         (with_length prime.now version.new.words) version.new.ribs version.new.blocks) }
     ensures kept { version.new ≡ record version.old { ribs = version.new.ribs } }
     ensures count { OnOk result (length version.new.ribs ≡ ribs_of version.new.blocks) }

@@ -1,6 +1,6 @@
 -- Command lists, read one command word after another.
 use Rattle.std.proofs.Common.{◌≡◌, ◌≢◌, ℕ, zero, suc, ◌+◌, ◌-◌, ◌^◌, ◌<◌, ◌≤◌, List, [], ◌∷◌, ◌++◌, length, Option}
-use Rattle.std.proofs.Common.{Some, None, refl, ap, sym, arith, append_assoc, append-nil, add-one, slice_index}
+use Rattle.std.proofs.Common.{Some, None, refl, ap, sym, ◌∙◌, arith, append_assoc, append-nil, add-one, slice_index}
 use Rattle.std.specs.Prelude.{option_map}
 use Rattle.std.proofs.lemmas.Bool.Decides.{nat_tests}
 use Rattle.words36.specs.Words.{left, right}
@@ -77,6 +77,21 @@ pub all_found : (core : List ℕ) (a : ℕ) (areas : List Area) (more : Option (
     → dump_list core a ≡ Some areas
 unfolding dump_list
 all_found core a areas more e n small = rw (e, n, append-nil) (grind (arith, nat_tests))
+
+nothing_before : (more : Option (List Area)) → prepend [] more ≡ more
+nothing_before None = refl
+nothing_before (Some areas) = refl
+
+-- a command word that names an area, and a word behind it that ends the list
+pub lone_found : (core : List ℕ) (a first count : ℕ) → a + 1 < length core → length core ≤ 131072
+    → left (slice_index core a) ≢ 0 → slice_index core (a + 1) ≡ 0 → first ≡ right (slice_index core a) + 1
+    → count ≡ 2 ^ 18 - left (slice_index core a) → first + count ≤ length core
+    → dump_list core a ≡ Some (record { first = first; count = count } ∷ [])
+lone_found core a first count h small l z f k b =
+    all_found core a (record { first = first; count = count } ∷ []) (areas_from core 511 (a + 1))
+    (sym (nothing_before (areas_from core 512 a))
+    ∙ areas-more core 512 511 a first count [] refl (omega (arith, h)) (λ none. l (ap left none)) l f k b)
+    (areas-end core 511 (a + 1) (omega arith) h z) (omega (arith, small, b))
 
 pub too_many : (core : List ℕ) (a : ℕ) (areas : List Area) (more : Option (List Area))
     → areas_from core 512 a ≡ prepend areas more → more ≡ Some [] → 131072 < word_count areas

@@ -15,7 +15,7 @@ use Rattle.meaning.specs.declared.area.Area.{Area}
 use Rattle.meaning.specs.CommandLists.{word_count}
 use Rattle.meaning.specs.Cores.{after_writes, placed, dealt, joined, lies_outside, first_free}
 use Rattle.meaning.specs.Rings.{base, buffer_at, buffer_words, unused_header, setup, ring_writes, buffer_writes}
-use Rattle.meaning.specs.Rings.{left_behind, filled, marked, in_writes, put_behind, target, out_writes}
+use Rattle.meaning.specs.Rings.{buffer_left, filled, marked, in_writes, put_behind, target, out_writes}
 use Rattle.meaning.proofs.CoreWrites.{writes_append, writes_length, spared, found}
 use Rattle.usercore.specs.CoreWords.{IsCore}
 use Rattle.usercore.specs.Steps.{filled_by, emptied_by, zeroed}
@@ -134,11 +134,11 @@ setup_parts core h size n first end there fits e f =
     ∷ unused_header h size (buffer_at (base core) 0))))
 
 pub in_parts : (core : List ℕ) (h size status : ℕ) (words : List ℕ)
-    → after_writes (after_writes core (left_behind core h)) (filled_by h size status (target core h) words
+    → after_writes (after_writes core (buffer_left core h)) (filled_by h size status (target core h) words
     (marked (slice_index core (target core h)))) ≡ after_writes core (in_writes core h size status words)
 unfolding in_writes
 in_parts core h size status words = sym
-    (writes_append core (left_behind core h) (filled core h size status (target core h) words))
+    (writes_append core (buffer_left core h) (filled core h size status (target core h) words))
 
 pub out_parts : (core : List ℕ) (h size : ℕ)
     → after_writes (after_writes core (put_behind core h)) (emptied_by h size (target core h))

@@ -1,4 +1,6 @@
-ghost use Rattle.std.specs.Prelude.{◌≡◌, ◌<◌, ◌≤◌, ◌+◌, All, Some, None, IfOk, IfErr, OnErr, length};
+ghost use Rattle.std.specs.Prelude.{◌≡◌, ◌<◌, ◌≤◌, ◌+◌, ◌-◌, ◌^◌, ◌↔◌, All, [], ◌∷◌, Some, None, IsSome, IfSome};
+ghost use Rattle.std.specs.Prelude.{IfOk, IfErr, OnErr, length, slice_index};
+ghost use Rattle.words36.specs.Words.{left, right};
 ghost use Rattle.meaning.specs.CommandLists.{dump_list, word_count};
 ghost use Rattle.usercore.specs.declared.error.CoreError.TheVariants.{AddressCheck};
 
@@ -9,6 +11,30 @@ use arrayvec::ArrayVec;
 pub const MAX_COMMANDS: usize = 512;
 
 impl Core {
+    /// The area that the command list at an address names, where its first word names one and the word behind it ends
+    /// the list: most lists are such, and nothing has to be kept of them.
+    pub fn lone_area(&self, address: u32) -> Option<Area>
+        ensures area { IfSome result (λ area. dump_list self.now address ≡ Some (area ∷ [])) }
+        ensures within { IfSome result (λ area. area.first + area.count ≤ length self.now) }
+        ensures some { IfSome result (λ area. 0 < area.count) }
+        ensures there { IsSome result ↔ ((address + 1 < length self.now) × (0 < left (slice_index self.now address))
+            × (slice_index self.now (address + 1) ≡ 0) × (right (slice_index self.now address) + 1
+            + (2 ^ 18 - left (slice_index self.now address)) ≤ length self.now)) }
+    {
+        let address = address as usize;
+        if address + 1 >= self.length() {
+            return None;
+        }
+        let (command, next) = (self.read(address), self.read(address + 1));
+        let (left, right) = (command.left().bits(), command.right().bits());
+        let first = right as usize + 1;
+        let count = (1 << 18) - left as usize;
+        if left == 0 || next.bits() != 0 || first + count > self.length() {
+            return None;
+        }
+        Some(Area { first, count })
+    }
+
     /// What the command list at an address names: areas of words that lie in this core. The whole list is
     /// read before anything is moved.
     ///

@@ -1,7 +1,7 @@
 ghost use Rattle.std.specs.Prelude.{◌≡◌, ◌<◌, ◌≤◌, ◌+◌, ◌*◌, ◌^◌, Some, IsSome, length};
 ghost use Rattle.meaning.specs.Cores.{after_writes};
 ghost use Rattle.meaning.specs.Rings.{data_words, buffer_words, base, buffer_writes, unused_header, setup, with_ring};
-ghost use Rattle.meaning.specs.Rings.{left_behind, in_writes, put_behind, out_writes};
+ghost use Rattle.meaning.specs.Rings.{buffer_left, in_writes, put_behind, out_writes};
 ghost use Rattle.usercore.specs.ByteSizes.{bits_of};
 ghost use Rattle.usercore.specs.Steps.{header_unset, header_words, filled_by, emptied_by, closed_by};
 
@@ -101,7 +101,7 @@ impl Core {
 
     /// The buffer that was the current one is no longer in use.
     fn leave_behind(&mut self, header: usize)
-        ensures left { self.new ≡ after_writes self.old (left_behind self.old header) }
+        ensures left { self.new ≡ after_writes self.old (buffer_left self.old header) }
         ensures length { length self.new ≡ length self.old }
     {
         if !self.is_unused(header) {

@@ -28,7 +28,7 @@ use Rattle.volume.specs.Facts.{facts_of, known_facts}
 use Rattle.volume.specs.Known.{Known, KnownVersion, KnownDirectory, IsKnownDirectory, IsHeld, IsWholeMap, IsBooked}
 use Rattle.volume.specs.Live.{VolumeCore, cost_beyond, IsWholeCore}
 use Rattle.volume.specs.Queries.{protection_answer, IsShown, IsFileAnswer, IsLookAnswer, IsNamedVersion}
-use Rattle.volume.specs.Rest.{IsSound, RestsAt}
+use Rattle.volume.specs.Rest.{IsSoundCore, RestsAt}
 use Rattle.volume.proofs.Costing.{booked_fits}
 use Rattle.volume.proofs.CostLaws.{cost_is}
 
@@ -38,7 +38,7 @@ pub record Holds (s : DiskState) (k : Known) (files : Files File) : Type 0 where
   pub held : IsHeld s.size k map s.contents
   pub files_are : files_of map ≡ files
 
-pub rest_holds : (s : DiskState) (c : VolumeCore) (failed : Bool) → IsSound s c failed → s.honest → failed ≡ false
+pub rest_holds : (s : DiskState) (c : VolumeCore) (failed : Bool) → IsSoundCore s c failed → s.honest → failed ≡ false
     → (files : Files File) → RestsAt s files → Holds s c.known files
 rest_holds s c failed sound honest alive files rest =
     let own = sound.rest honest alive in

@@ -30,7 +30,7 @@ use Rattle.volume.specs.Known.{KnownDirectory, blocks_reached, given_up, cost_be
 use Rattle.volume.specs.Live.{is_creation, VolumeCore, slot, pending_at, as_known, IsCurrent, IsKeyed, held_reaches}
 use Rattle.volume.specs.Live.{held_cost, IsWholeCore}
 use Rattle.volume.specs.LiveCores.{core_of, known_at, live_directory}
-use Rattle.volume.specs.Publishing.{Marks, PutsInUse, TakesPlaces, Retires, Entered, before, left_of, IsEnded}
+use Rattle.volume.specs.Publishing.{Marks, PutsInUse, TakesPlaces, Retires, Entered, before, live_left, IsEnded}
 use Rattle.volume.specs.Publishing.{HasOtherKey, IsEntryPut, MakesCurrent, IsPlaced}
 use Rattle.volume.proofs.BlockLists.{marks_none, marks_then}
 use Rattle.volume.proofs.FoundDirectories.{all_times_at}
@@ -107,8 +107,8 @@ module _ (m m' : LiveMap) (whole : IsWholeCore m.table.size (core_of m)) (key : 
       (entry : IsEntryPut dk dk' p.prime.file prime (as_known new) (before old)) (is_new : is_creation p
       ≡ is_none old) (keyed : IsKeyed m'.versions.slots dk' d'.keys.items)
       (marks : Marks t1 t2) (bits : (n : ℕ) → bit t2 n + given_up n (before old) ≡ bit t1 n) (held : (n : ℕ)
-      → holds t2 n ≡ holds t1 n + held_reaches n (left_of old)) (booked : t2.booked + cost_before (before old)
-      ≡ t1.booked + held_cost (left_of old)) (shared : (n : ℕ) → 0 < times n p.version.blocks → 0 < bit m.table n
+      → holds t2 n ≡ holds t1 n + held_reaches n (live_left old)) (booked : t2.booked + cost_before (before old)
+      ≡ t1.booked + held_cost (live_left old)) (shared : (n : ℕ) → 0 < times n p.version.blocks → 0 < bit m.table n
       → 0 < given_up n (before old)) where
     stay : (k : ℕ) (v : LiveVersion) → slot m.versions.slots k ≡ Some v → HasOtherKey old k
         → slot m'.versions.slots k ≡ Some v
@@ -128,7 +128,7 @@ module _ (m m' : LiveMap) (whole : IsWholeCore m.table.size (core_of m)) (key : 
         let set = puts_in_use.bits n in
         omega arith
 
-    held_after : (n : ℕ) → holds t3 n + times n p.version.blocks ≡ holds m.table n + held_reaches n (left_of old)
+    held_after : (n : ℕ) → holds t3 n + times n p.version.blocks ≡ holds m.table n + held_reaches n (live_left old)
     held_after n =
         let behind = places_behind n grown prime ribs p.version.blocks in
         let taken = takes.held n in
@@ -136,7 +136,7 @@ module _ (m m' : LiveMap) (whole : IsWholeCore m.table.size (core_of m)) (key : 
         let used = puts_in_use.held n in
         omega arith
 
-    booked_after : t3.booked + cost_before (before old) ≡ m.table.booked + held_cost (left_of old)
+    booked_after : t3.booked + cost_before (before old) ≡ m.table.booked + held_cost (live_left old)
     booked_after =
         let taken = takes.booked in
         let used = puts_in_use.booked in
@@ -212,8 +212,8 @@ module _ (m m' : LiveMap) (whole : IsWholeCore m.table.size (core_of m)) (key : 
   module _ (k i v : ℕ) (named : StandsAt name_cmp (map file_view d.chain.entries) p.prime.file v i)
       (key_at : slice_get d.keys.items i ≡ Some k) (keys : d'.keys.items ≡ slice_set d.keys.items i new_key)
       (retired : (u : LiveVersion) → slot m.versions.slots k ≡ Some u
-      → Retires t1 t2 u (left_of (Some (k, u)))) (left : (u : LiveVersion) → slot m.versions.slots k ≡ Some u
-      → slot m'.versions.slots k ≡ left_of (Some (k, u)))
+      → Retires t1 t2 u (live_left (Some (k, u)))) (left : (u : LiveVersion) → slot m.versions.slots k ≡ Some u
+      → slot m'.versions.slots k ≡ live_left (Some (k, u)))
       (others : (j : ℕ) → (j ≡ new_key → ⊥) → (j ≡ k → ⊥) → slot m'.versions.slots j ≡ slot m.versions.slots j) where
     had : (u : LiveVersion) × (slot m.versions.slots k ≡ Some u) × (u.is_current ≡ true) × (u.at ≡ v)
         × (slice_get dk.versions i ≡ Some (as_known u))
@@ -312,8 +312,8 @@ module _ (m m' : LiveMap) (whole : IsWholeCore m.table.size (core_of m)) (key : 
   module _ (versions : List (Option LiveVersion)) (put_others : (k : ℕ) → (k ≡ new_key → ⊥)
       → slot versions k ≡ slot m.versions.slots k) (o : Option ℕ)
       (retired : (k : ℕ) (u : LiveVersion) → o ≡ Some k → slot versions k ≡ Some u
-      → Retires t1 t2 u (left_of (Some (k, u)))) (left : (k : ℕ) (u : LiveVersion) → o ≡ Some k
-      → slot versions k ≡ Some u → slot m'.versions.slots k ≡ left_of (Some (k, u)))
+      → Retires t1 t2 u (live_left (Some (k, u)))) (left : (k : ℕ) (u : LiveVersion) → o ≡ Some k
+      → slot versions k ≡ Some u → slot m'.versions.slots k ≡ live_left (Some (k, u)))
       (others : (k j : ℕ) → o ≡ Some k → (j ≡ k → ⊥) → slot m'.versions.slots j ≡ slot versions j) (none : o ≡ None
       → (m'.versions.slots ≡ versions) × (t2 ≡ t1)) where
     was_there : (k : ℕ) (u : LiveVersion) → slot m.versions.slots k ≡ Some u → slot versions k ≡ Some u

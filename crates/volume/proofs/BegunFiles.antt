@@ -22,7 +22,7 @@ use Rattle.volume.specs.Known.{KnownVersion, KnownDirectory, Before, IsNamed, Is
 use Rattle.volume.specs.Known.{cost_of_version}
 use Rattle.volume.specs.Live.{VolumeCore, pending_at, as_written, is_create, IsWholeCore}
 use Rattle.volume.specs.Pins.{IsNoFile, IsVersionOf, IsFilePinned, IsPinAnswer, BeginsWithFile}
-use Rattle.volume.specs.Rest.{HasSomeBody, IsSound, RestsAt}
+use Rattle.volume.specs.Rest.{HasSomeBody, IsSoundCore, RestsAt}
 use Rattle.volume.specs.declared.error.CallError.{CallError}
 use Rattle.volume.specs.declared.error.CallError.TheVariants.{Refused}
 use Rattle.volume.specs.declared.handles.Pin.{Pin}
@@ -34,7 +34,7 @@ use Rattle.volume.proofs.MakingHeld.{element_at}
 use Rattle.volume.proofs.PinnedFiles.{IsFileOf, named_file, file_body, at_rest_holds, pin_refused}
 
 module _ (s : DiskState) (c c' : VolumeCore) (failed : Bool) (key : ℕ) (kind : Kind) (prime : Prime)
-    (sound : IsSound s c failed) (begins : IsBegun c c' key kind prime) (h : s.honest) (ok : failed ≡ false) where
+    (sound : IsSoundCore s c failed) (begins : IsBegun c c' key kind prime) (h : s.honest) (ok : failed ≡ false) where
   file_before : (files : Files File) → Holds s c.known files → (v : ℕ × KnownVersion) → begins.old ≡ Some v
       → IsFileOf s files prime.ppn prime.file v.1
   file_before files holds v is = named_file s c files holds prime.ppn prime.file begins.directory v begins.there
@@ -114,7 +114,7 @@ pub record IsFileKnown (c : VolumeCore) (ppn : ℕ) (name : FileName) (file : Fi
   pub named : IsNamed directory name (Some version)
   pub cost : cost_of_version version.1 ≡ version_cost (length file.body)
 
-module _ (s : DiskState) (c : VolumeCore) (failed : Bool) (sound : IsSound s c failed) (h : s.honest)
+module _ (s : DiskState) (c : VolumeCore) (failed : Bool) (sound : IsSoundCore s c failed) (h : s.honest)
     (ok : failed ≡ false) (files : Files File) (rest : RestsAt s files) (ppn : ℕ) (name : FileName)
     (directory : Directory File) (there : get files ppn ≡ Some directory) (file : File)
     (has : get directory.files name ≡ Some file) where

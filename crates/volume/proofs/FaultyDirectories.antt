@@ -10,7 +10,7 @@ use Rattle.meaning.specs.Maps.{EachOnce, times}
 use Rattle.meaning.specs.Files.{name_cmp}
 use Rattle.meaning.specs.Directories.{Node, MasterEntry, FileEntry, file_words, IsFileEntry, items}
 use Rattle.meaning.specs.Faults.{ReadDirectory, times_in_directory, IsFileRead, IsDirectoryRead}
-use Rattle.meaning.specs.Walks.{Leads}
+use Rattle.meaning.specs.Walks.{LeadsAlong}
 use Rattle.meaning.proofs.MapLists.{EachOnce-map, EachOnce-from_map}
 use Rattle.meaning.proofs.Walking.{once_front}
 use Rattle.alloctab.specs.Lists.{digit_at}
@@ -41,7 +41,7 @@ chain_twice size contents reached ppn first n met = record {
 -- Its chain was walked to the end, and a file of it is at fault.
 pub files_fault : (size : ℕ) (contents : Contents) (marks between : ℕ
     → ℕ) (ppn first : ℕ) (chain : ChainState FileEntry) (error : VolumeError) → IsChain name_cmp IsFileEntry chain
-    → Leads file_words contents first (nodes_of chain.blocks chain.entries) 0
+    → LeadsAlong file_words contents first (nodes_of chain.blocks chain.entries) 0
     → ((n : ℕ) → between n ≡ marks n + times n chain.blocks)
     → IsFaultOfFiles size contents between ppn chain.entries error
     → IsFaultOfDirectory size contents marks ppn first error

@@ -7,7 +7,7 @@ use Rattle.meaning.specs.Maps.{times}
 use Rattle.meaning.specs.Home.{IsHome}
 use Rattle.meaning.specs.Directories.{Node, MasterEntry, master_words, numbers, items}
 use Rattle.meaning.specs.Stands.{place_of}
-use Rattle.meaning.specs.Walks.{Leads, IsMasterWalk, IsDirectoryNamed, IsFileNamed}
+use Rattle.meaning.specs.Walks.{LeadsAlong, IsMasterWalk, IsDirectoryNamed, IsFileNamed}
 use Rattle.meaning.specs.Faults.{InSpace, IsMasterEntryOf, IsBadRetrieval, IsDirectoryRead}
 use Rattle.alloctab.specs.Lists.{digit_at}
 use Rattle.directory.specs.Loading.{IsBadChain, IsTwiceInChain}
@@ -56,7 +56,8 @@ master_twice size contents reached first n home fresh inside met = (
 -- The master directory was read, and one that it names is at fault.
 pub directories_fault : (size : ℕ) (contents : Contents) (first : ℕ) (nodes : List (Node MasterEntry))
     (entries : List MasterEntry) (marks : ℕ → ℕ) (error : VolumeError) → IsHome size contents (home_of_master first)
-    → Leads master_words contents first nodes 0 → items nodes ≡ entries → ((n : ℕ) → marks n ≡ times n (numbers nodes))
+    → LeadsAlong master_words contents first nodes 0 → items nodes ≡ entries
+    → ((n : ℕ) → marks n ≡ times n (numbers nodes))
     → NamesInSpace size error → IsFaultOfDirectories size contents marks entries error
     → SettledRefuses size contents error
 directories_fault size contents first nodes entries marks error home walk all marked = by_error error

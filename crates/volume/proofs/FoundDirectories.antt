@@ -16,7 +16,7 @@ use Rattle.meaning.specs.Directories.{MasterEntry, master_word, FileEntry, file_
 use Rattle.meaning.specs.Stands.{StoredFile, StoredDirectory, entry_of, reaches_in_directory, IsWhole}
 use Rattle.meaning.specs.Faults.{InSpace, ReadFile, ReadDirectory, times_in_file, times_in_directory, IsFileRead}
 use Rattle.meaning.specs.Readings.{found_directory}
-use Rattle.meaning.specs.Walks.{Leads}
+use Rattle.meaning.specs.Walks.{LeadsAlong}
 use Rattle.meaning.proofs.Reading.{directory_whole, directory_reaches}
 use Rattle.meaning.proofs.MapLists.{EachOnce-from_map, mapped-from_entries, get-from_entries}
 use Rattle.meaning.proofs.MapLaws.{some_same, some_none}
@@ -57,7 +57,7 @@ all_at P (a ∷ xs) (suc i) x all is = all_at P xs i x all.1 is
 pub directory_found : (contents : Contents) (ppn protection first : ℕ) (chain : ChainState FileEntry)
     (versions : List KnownVersion) (marks between after : ℕ → ℕ)
     → protection < 512 → IsChain name_cmp IsFileEntry chain → IsOn file_words contents chain
-    → head_or_zero chain.blocks ≡ first → Leads file_words contents first (nodes_of chain.blocks chain.entries) 0
+    → head_or_zero chain.blocks ≡ first → LeadsAlong file_words contents first (nodes_of chain.blocks chain.entries) 0
     → ((n : ℕ) → between n ≡ marks n + times n chain.blocks)
     → AreFilesRead contents ppn chain.entries versions between after
     → IsDirectoryFound contents (ppn, (master_word protection 0, first))

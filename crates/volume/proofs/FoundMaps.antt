@@ -25,13 +25,13 @@ use Rattle.directory.specs.Chains.{ChainState, nodes_of, IsChain, IsOn}
 use Rattle.directory.specs.ChainLaws.{chain_read, chain_items, numbers_of, master_chain}
 use Rattle.volume.specs.Homes.{home_of_master}
 use Rattle.volume.specs.Known.{KnownDirectory, IsKnownDirectory, IsKnownMap, IsHeld}
-use Rattle.volume.specs.Found.{IsOnlySpace, IsMapRead, IsWrongFor, IsRightFor}
+use Rattle.volume.specs.Found.{IsOnlySpace, IsMapFound, IsWrongFor, IsRightFor}
 use Rattle.volume.proofs.Lookups.{found_in_front}
 use Rattle.volume.proofs.FoundDirectories.{zip_at, mapped_at, all_at}
 
 module _ (size : ℕ) (contents : Contents) (first : ℕ) (master : ChainState MasterEntry)
     (directories : List KnownDirectory) (marks : ℕ
-    → ℕ) (r : IsMapRead size contents first master directories marks) where
+    → ℕ) (r : IsMapFound size contents first master directories marks) where
   nodes : List (Node MasterEntry)
   nodes = nodes_of master.blocks master.entries
 

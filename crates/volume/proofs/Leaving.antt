@@ -20,7 +20,7 @@ use Rattle.volume.specs.Cores.{file_view, master_view}
 use Rattle.volume.specs.Known.{KnownDirectory}
 use Rattle.volume.specs.Live.{creates}
 use Rattle.volume.specs.LiveCores.{live_directory}
-use Rattle.volume.specs.Moving.{MayLeave, Leaves, entries_there}
+use Rattle.volume.specs.Moving.{MayGiveUpEntry, GivesUpEntry, entries_there}
 use Rattle.volume.specs.Publishing.{Marks, ClearsBits}
 use Rattle.volume.proofs.FoundDirectories.{mapped_at}
 use Rattle.volume.proofs.Removals.{marks_booked, set_there}
@@ -37,7 +37,7 @@ place_inside m ppn place w stands aligned =
 
 module _ (m : LiveMap) (ppn : ℕ) (name : FileName) (place : ℕ) (w : ℕ × ℕ)
     (stands : StandsAt nat_cmp (map master_view m.master.entries) ppn w place)
-    (d : LiveDirectory) (at : slice_get m.directories.items place ≡ Some d) (may_leave : MayLeave m d ppn name)
+    (d : LiveDirectory) (at : slice_get m.directories.items place ≡ Some d) (may_leave : MayGiveUpEntry m d ppn name)
     (i v : ℕ) (named : StandsAt name_cmp (map file_view d.chain.entries) name v i)
     (d' : LiveDirectory) (left : List ℕ) (blocks : d.chain.blocks ≡ d'.chain.blocks ++ left)
     (items : map file_view d'.chain.entries ≡ removed name_cmp (map file_view d.chain.entries) name) where
@@ -78,7 +78,7 @@ module _ (m : LiveMap) (ppn : ℕ) (name : FileName) (place : ℕ) (w : ℕ × �
       (m' : LiveMap) (master : m'.master ≡ m.master) (versions : m'.versions ≡ m.versions)
       (pending : m'.pending ≡ m.pending)
       (directories : m'.directories.items ≡ slice_set m.directories.items place d') (table : m'.table ≡ t2) where
-    pub leaves : Leaves m m' ppn name before after
+    pub leaves : GivesUpEntry m m' ppn name before after
     leaves = record {
       place = place;
       word = w;

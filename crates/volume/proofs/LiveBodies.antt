@@ -14,7 +14,7 @@ use Rattle.volume.specs.declared.live.LiveVersion.{LiveVersion}
 use Rattle.volume.specs.declared.pending.PendingVersion.{PendingVersion}
 use Rattle.volume.specs.Known.{blocks_reached, reaches_in_known}
 use Rattle.volume.specs.Live.{VolumeCore, slot, pending_at, held_reaches, pending_reaches, IsWholeCore}
-use Rattle.volume.specs.Rest.{HasSomeBody, IsSound, KeepsRead, KeepsEachWritten}
+use Rattle.volume.specs.Rest.{HasSomeBody, IsSoundCore, KeepsRead, KeepsEachWritten}
 use Rattle.volume.proofs.MakingLaw.{bit_few}
 use Rattle.volume.proofs.Pinning.{total_at, current_stands}
 
@@ -84,7 +84,7 @@ pub body_stays : (old new : Contents) (v : VersionState) → HasSomeBody old v
 body_stays old new v has same = (has.0, has.1, body_kept old new v.blocks has.0 has.2 same)
 
 -- Where blocks in use stay, the words do.
-pub bodies_stay : (s : DiskState) (c : VolumeCore) (failed : Bool) (contents : Contents) → IsSound s c failed
+pub bodies_stay : (s : DiskState) (c : VolumeCore) (failed : Bool) (contents : Contents) → IsSoundCore s c failed
     → s.honest → failed ≡ false → ((n : ℕ) → IsUsed s.size c n → contents n ≡ s.contents n) → HaveBodies contents c
 bodies_stay s c failed contents sound h ok same = record {
   read = λ key v is some. body_stays s.contents contents v.version (sound.read h ok key v is some)

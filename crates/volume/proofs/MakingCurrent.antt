@@ -31,7 +31,7 @@ use Rattle.volume.specs.Known.{IsWholeVersion, prime_in}
 use Rattle.volume.specs.Live.{is_creation, VolumeCore, slot, pending_at, as_known, IsCurrent, IsKeyed, pending_reaches}
 use Rattle.volume.specs.Live.{pending_cost, creates, growths, IsWholeCore}
 use Rattle.volume.specs.LiveCores.{core_of, live_directory}
-use Rattle.volume.specs.Publishing.{MayRetire, TakesPlaces, Retires, left_of, IsPlaced}
+use Rattle.volume.specs.Publishing.{MayRetire, TakesPlaces, Retires, live_left, IsPlaced}
 use Rattle.volume.proofs.Beginnings.{same_directory}
 use Rattle.volume.proofs.Costing.{few_blocks}
 use Rattle.volume.proofs.FoundDirectories.{mapped_at, zip_at, all_at}
@@ -380,7 +380,7 @@ module _ (m : LiveMap) (whole : IsWholeCore m.table.size (core_of m)) (key : ℕ
 
     -- Once it is out of use, the blocks of the new one are held, and no bit of them is set.
     module _ (after : TableState) (retired : (k : ℕ) (v : LiveVersion) → o ≡ Some k → slot versions k ≡ Some v
-        → Retires t after v (left_of (Some (k, v)))) (none : o ≡ None → after ≡ t) where
+        → Retires t after v (live_left (Some (k, v)))) (none : o ≡ None → after ≡ t) where
       pub used_sound : IsTable after
       used_sound = by o refl (old_at o replaced)
         where

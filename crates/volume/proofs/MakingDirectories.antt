@@ -37,7 +37,7 @@ use Rattle.volume.specs.Live.{current_reaches, entry_reaches, pending_reaches, p
 use Rattle.volume.specs.Live.{AreWaiting, IsWholeCore}
 use Rattle.volume.specs.declared.pending.PendingVersion.{PendingVersion}
 use Rattle.volume.specs.Making.{LeadsTo, IsAligned, bare_known, entry_made, map_made, files_made, IsMade}
-use Rattle.volume.specs.Rest.{IsAtRest, IsSound, RestsAt, StandsForEither}
+use Rattle.volume.specs.Rest.{IsAtRest, IsSoundCore, RestsAt, StandsForOneOf}
 use Rattle.volume.proofs.Apart.{apart_same}
 use Rattle.volume.proofs.Pinning.{total_at}
 use Rattle.volume.proofs.PrimeBlocks.{prime_stays}
@@ -62,10 +62,10 @@ files_are s k m f rest rests = stands_same s.size s.contents (files_of m) f
 pub crash_for : (s s' : DiskState) (k k' : Known) (m m' : DiskMap) (f f' : Files File) → files_of m ≡ f
     → files_of m' ≡ f'
     → LeavesOnly s s' (λ c. SettlesTo s.size (IsHeld s.size k m) c ⊎ SettlesTo s.size (IsHeld s.size k' m') c)
-    → LeavesOnly s s' (StandsForEither s.size f f')
+    → LeavesOnly s s' (StandsForOneOf s.size f f')
 crash_for s s' k k' m m' f f' is is' leaves =
     leaves_weaker s s' (λ c. SettlesTo s.size (IsHeld s.size k m) c ⊎ SettlesTo s.size (IsHeld s.size k' m') c)
-    (StandsForEither s.size f f') leaves
+    (StandsForOneOf s.size f f') leaves
     (λ c. ⊎_elim (λ old. inl (old.0, old.1, (m, old.2.stands, is)))
     (λ new. inr (new.0, new.1, (m', new.2.stands, is'))))
 
@@ -78,7 +78,7 @@ rest_for s s' k' m' f' size is rest = record {
 
 pub sound_for : (s s' : DiskState) (c' : VolumeCore) (failed : Bool) → s'.size ≡ s.size → IsWholeCore s.size c'
     → (s'.honest → failed ≡ false → HaveBodies s'.contents c')
-    → (s'.honest → failed ≡ false → (m' : DiskMap) × AtRest s' (IsHeld s.size c'.known m')) → IsSound s' c' failed
+    → (s'.honest → failed ≡ false → (m' : DiskMap) × AtRest s' (IsHeld s.size c'.known m')) → IsSoundCore s' c' failed
 sound_for s s' c' failed size whole bodies rest = record {
   whole = subst (λ (b : ℕ). IsWholeCore b c') (sym size) whole;
   read = λ h ok. (bodies h ok).read;
@@ -89,7 +89,7 @@ sound_for s s' c' failed size whole bodies rest = record {
 
 -- a sound volume that has failed stays sound, whatever the disk does
 pub sound_failed : (s s' : DiskState) (c' : VolumeCore) (failed : Bool) → s'.size ≡ s.size → IsWholeCore s.size c'
-    → failed ≡ true → IsSound s' c' failed
+    → failed ≡ true → IsSoundCore s' c' failed
 sound_failed s s' c' failed size whole gone = record {
   whole = subst (λ (b : ℕ). IsWholeCore b c') (sym size) whole;
   rest = λ h ok. absurd (apart (sym gone ∙ ok));
@@ -362,7 +362,7 @@ module _ (s s' : DiskState) (k k' : Known) (ppn protection first : ℕ) (puts : 
       → ((m m' : DiskMap) → IsAligned k → IsAligned k' → AtRest s (IsHeld s.size k m) → bit k.table first ≡ 0
       → LeadsTo s.size s.contents first (replicate 128 0) puts k m k' m'
       → LeavesOnly s s' (λ c. SettlesTo s.size (IsHeld s.size k m) c ⊎ SettlesTo s.size (IsHeld s.size k' m') c))
-      → LeavesOnly s s' (StandsForEither s.size f (files_made f ppn protection))
+      → LeavesOnly s s' (StandsForOneOf s.size f (files_made f ppn protection))
   made_crash f rests transaction =
       let next = map_made at.map k'.master.blocks ppn protection first in
       let same = files_are s k at.map f at.rest rests in

@@ -15,7 +15,7 @@ use Rattle.meaning.specs.Faults.{IsMasterEntryOf}
 use Rattle.directory.specs.Chains.{ChainState, IsChain}
 use Rattle.directory.specs.Edits.{TakesBlock, PutsChain, inserted}
 use Rattle.volume.specs.Known.{KnownDirectory, Known}
-use Rattle.volume.specs.Making.{growth, entry_made, bare_known, IsEntered}
+use Rattle.volume.specs.Making.{chain_growth, entry_made, bare_known, IsEntered}
 
 -- an entry with a new key is the last one
 by_key : (b : Bool) (v : ℕ × ℕ) (x : Option (ℕ × ℕ)) → cond b (Some v) x ≡ None → (b ≡ false) × (x ≡ None)
@@ -30,22 +30,23 @@ inserted_new (y ∷ ys) e none =
     ap (λ (b : Bool). cond b (e ∷ ys) (y ∷ inserted nat_cmp ys e)) first.0
     ∙ ap (λ (zs : List MasterEntry). y ∷ zs) (inserted_new ys e first.1)
 
-growth_one : (chain : ChainState MasterEntry) → length chain.entries ≡ 42 * length chain.blocks → growth chain ≡ 1
+growth_one : (chain : ChainState MasterEntry) → length chain.entries ≡ 42 * length chain.blocks → chain_growth chain ≡ 1
 growth_one chain full = grind (arith, nat_tests)
 
 growth_zero : (chain : ChainState MasterEntry) → (length chain.entries ≡ 42 * length chain.blocks → ⊥)
-    → growth chain ≡ 0
+    → chain_growth chain ≡ 0
 growth_zero chain room = grind (arith, nat_tests)
 
-grows_at : (chain : ChainState MasterEntry) → 1 ≡ growth chain → length chain.entries ≡ 42 * length chain.blocks
+grows_at : (chain : ChainState MasterEntry) → 1 ≡ chain_growth chain → length chain.entries ≡ 42 * length chain.blocks
 grows_at chain is = ⊎_elim (λ same. same) (λ other. absurd (let e = growth_zero chain other in omega arith))
     (cases_eq (length chain.entries) (42 * length chain.blocks))
 
-stays_at : (chain : ChainState MasterEntry) → 0 ≡ growth chain → length chain.entries ≡ 42 * length chain.blocks → ⊥
+stays_at : (chain : ChainState MasterEntry) → 0 ≡ chain_growth chain → length chain.entries
+    ≡ 42 * length chain.blocks → ⊥
 stays_at chain is full = let e = growth_one chain full in omega arith
 
 pub blocks_entered : (chain : ChainState MasterEntry) (ppn : ℕ) (fresh : Option ℕ) (blocks : List ℕ)
-    → find nat_cmp ppn chain.entries ≡ None → length (option_to_list fresh) ≡ growth chain
+    → find nat_cmp ppn chain.entries ≡ None → length (option_to_list fresh) ≡ chain_growth chain
     → ((TakesBlock nat_cmp chain ppn → ⊥) → blocks ≡ chain.blocks)
     → ((n : ℕ) → TakesBlock nat_cmp chain ppn → fresh ≡ Some n → blocks ≡ chain.blocks ++ n ∷ [])
     → blocks ≡ chain.blocks ++ option_to_list fresh
@@ -78,10 +79,10 @@ directories_more known old new x first is same = ap (map known) is ∙ map-appen
 -- how many blocks the chain takes, by whether it grows
 pub count_grows : (grows : Bool) (n a b : ℕ) (chain : ChainState MasterEntry) → (IsTrue grows → a ≡ 42 * b)
     → (a ≡ 42 * b → IsTrue grows) → n ≡ (if grows then 1 else 0) → length chain.entries ≡ a → length chain.blocks ≡ b
-    → n ≡ growth chain
-count_grows true n a b chain full grown is ea eb = let same = full refl in let e : growth chain
+    → n ≡ chain_growth chain
+count_grows true n a b chain full grown is ea eb = let same = full refl in let e : chain_growth chain
     ≡ 1 = let f : length chain.entries ≡ 42 * length chain.blocks = omega arith in growth_one chain f in omega arith
-count_grows false n a b chain full grown is ea eb = let e : growth chain
+count_grows false n a b chain full grown is ea eb = let e : chain_growth chain
     ≡ 0 = growth_zero chain (λ same. never (grown (omega arith))) in omega arith
   where
     never : IsTrue false → ⊥

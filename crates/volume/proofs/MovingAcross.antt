@@ -39,7 +39,7 @@ use Rattle.volume.specs.Known.{KnownDirectory, IsWholeDirectory}
 use Rattle.volume.specs.Live.{VolumeCore, slot, as_known, creates, IsCurrent, IsKeyed, IsWholeCore}
 use Rattle.volume.specs.LiveCores.{core_of, known_at, live_directory}
 use Rattle.volume.specs.Making.{PutsTable}
-use Rattle.volume.specs.Moving.{IsPrimeMoved, MovesAcross, Arrives, MayLeave, Leaves, entries_there}
+use Rattle.volume.specs.Moving.{IsPrimeMoved, MovesAcross, Arrives, MayGiveUpEntry, GivesUpEntry, entries_there}
 use Rattle.volume.specs.Pins.{IsKeyOf}
 use Rattle.volume.specs.Publishing.{Marks, IsEntryPut}
 use Rattle.volume.specs.Removing.{IsEntryRemoved}
@@ -127,7 +127,7 @@ module _ (m m1 : LiveMap) (whole : IsWholeCore m.table.size (core_of m)) (ppn : 
 
   pub may_leave : (d : LiveDirectory) (place : ℕ) (w : ℕ × ℕ)
       → StandsAt nat_cmp (map master_view m1.master.entries) ppn w place
-      → slice_get m1.directories.items place ≡ Some d → MayLeave m1 d ppn name
+      → slice_get m1.directories.items place ≡ Some d → MayGiveUpEntry m1 d ppn name
   may_leave d place w stands1 at1 =
       let stands = stood_there place w stands1 in
       let at = was_at place d (other_place place w stands) at1 in
@@ -156,7 +156,7 @@ module _ (m m1 : LiveMap) (whole : IsWholeCore m.table.size (core_of m)) (ppn : 
 
   -- It has left.
 
-  module _ (m2 : LiveMap) (set2 : List Put) (leaves : Leaves m1 m2 ppn name set1 set2) where
+  module _ (m2 : LiveMap) (set2 : List Put) (leaves : GivesUpEntry m1 m2 ppn name set1 set2) where
     same_live : m2.versions.slots ≡ m.versions.slots
     same_live = ap (λ s. s.slots) leaves.versions ∙ ap (λ s. s.slots) arrives.versions
 

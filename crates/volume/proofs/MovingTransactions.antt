@@ -11,7 +11,7 @@ use Rattle.volume.specs.Claims.{claims}
 use Rattle.volume.specs.Known.{KnownVersion, KnownDirectory, IsKnownFile, IsKnownDirectory, IsHeld}
 use Rattle.volume.specs.Live.{VolumeCore, as_known, IsWholeCore}
 use Rattle.volume.specs.Moving.{files_moved, MovesAcross}
-use Rattle.volume.specs.Rest.{IsSound}
+use Rattle.volume.specs.Rest.{IsSoundCore}
 use Rattle.volume.specs.declared.live.LiveVersion.{LiveVersion}
 use Rattle.volume.proofs.MovingCore.{moved_across_whole}
 use Rattle.volume.proofs.MovingLaw.{map_moved_across, moved_across_files, moving_across_leads, moved_across_elsewhere}
@@ -97,7 +97,7 @@ module _ (size : ℕ) (c c' : VolumeCore) (ppn : ℕ) (name : FileName) (to_ppn 
 
 -- so it is where core says it of a disk of the size that it knows
 pub across_move : {s : DiskState} {c c' : VolumeCore} {ppn : ℕ} {name : FileName} {to_ppn : ℕ} {to : FileName}
-    {protection key : ℕ} {v : LiveVersion} {words : List ℕ} {puts : List Put} → IsSound s c false
+    {protection key : ℕ} {v : LiveVersion} {words : List ℕ} {puts : List Put} → IsSoundCore s c false
     → MovesAcross c.known.table.size c c' ppn name to_ppn to protection key v words puts → protection < 512
     → claims c.pending (place_of ppn name) ≡ false
     → IsMove s.size c c' ppn name to_ppn to protection key v words puts

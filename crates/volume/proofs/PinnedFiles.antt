@@ -25,7 +25,7 @@ use Rattle.volume.specs.Known.{Known, KnownVersion, KnownDirectory, IsNamed, IsK
 use Rattle.volume.specs.Known.{reaches_in_entries, reaches_in_known}
 use Rattle.volume.specs.Live.{VolumeCore, slot, pending_at, as_known, IsWholeCore}
 use Rattle.volume.specs.Pins.{IsKeyOf, IsNoFile, IsVersionOf, IsFilePinned, IsPinAnswer}
-use Rattle.volume.specs.Rest.{HasSomeBody, IsAtRest, IsSound}
+use Rattle.volume.specs.Rest.{HasSomeBody, IsAtRest, IsSoundCore}
 use Rattle.volume.proofs.Answering.{Holds, directory_none}
 
 entries_reach : (n : ℕ) (es : List FileEntry) (vs : List KnownVersion) (i : ℕ) (e : FileEntry) (v : KnownVersion)
@@ -139,16 +139,16 @@ pin_refused s c files holds ppn name live error answer is none = ⊎_elim
 
 -- The versions that readers hold have their words, with another number of readers under one key.
 
-pub at_rest_holds : (s : DiskState) (c : VolumeCore) (failed : Bool) → IsSound s c failed → (h : s.honest)
+pub at_rest_holds : (s : DiskState) (c : VolumeCore) (failed : Bool) → IsSoundCore s c failed → (h : s.honest)
     → (ok : failed ≡ false) → (files : Files File) × Holds s c.known files
 at_rest_holds s c failed sound h ok =
     let own = sound.rest h ok in
     (files_of own.map, record { map = own.map; held = own.rest.all s.contents (λ n closed. refl); files_are = refl })
 
 pub pinned_sound : (s : DiskState) (c c' : VolumeCore) (failed : Bool) (ppn : ℕ) (name : FileName) (key : ℕ)
-    → IsSound s c failed → (is : IsKeyOf c ppn name key) → IsWholeCore s.size c' → c' ≡ record c { live = c'.live }
+    → IsSoundCore s c failed → (is : IsKeyOf c ppn name key) → IsWholeCore s.size c' → c' ≡ record c { live = c'.live }
     → slot c'.live key ≡ Some (record is.version { readers = is.version.readers + 1 })
-    → ((k : ℕ) → (k ≡ key → ⊥) → slot c'.live k ≡ slot c.live k) → IsSound s c' failed
+    → ((k : ℕ) → (k ≡ key → ⊥) → slot c'.live k ≡ slot c.live k) → IsSoundCore s c' failed
 pinned_sound s c c' failed ppn name key sound is whole same here others = record {
   whole = whole;
   rest = λ h ok. subst (IsAtRest s) (ap (λ x. x.known) (sym same)) (sound.rest h ok);
@@ -170,12 +170,12 @@ one_or_more (suc zero) some other = absurd (other refl)
 one_or_more (suc (suc n)) some other = omega arith
 
 pub unpinned_sound : (s : DiskState) (c c' : VolumeCore) (failed : Bool) (key : ℕ) (v : LiveVersion)
-    → IsSound s c failed → slot c.live key ≡ Some v → IsWholeCore s.size c' → c'.pending ≡ c.pending
+    → IsSoundCore s c failed → slot c.live key ≡ Some v → IsWholeCore s.size c' → c'.pending ≡ c.pending
     → c'.known ≡ record c.known { table = c'.known.table }
     → ((n : ℕ) → bit c'.known.table n ≡ bit c.known.table n)
     → ((v.is_current ≡ true) ⊎ (1 < v.readers) → slot c'.live key ≡ Some (record v { readers = v.readers - 1 }))
     → (v.is_current ≡ false → v.readers ≡ 1 → slot c'.live key ≡ None)
-    → 0 < v.readers → ((k : ℕ) → (k ≡ key → ⊥) → slot c'.live k ≡ slot c.live k) → IsSound s c' failed
+    → 0 < v.readers → ((k : ℕ) → (k ≡ key → ⊥) → slot c'.live k ≡ slot c.live k) → IsSoundCore s c' failed
 unpinned_sound s c c' failed key v sound was whole pending known bits stays gone some others = record {
   whole = whole;
   rest = λ h ok.

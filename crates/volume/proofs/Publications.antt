@@ -14,29 +14,29 @@ use Rattle.volume.specs.Beginning.{IsDirectoryOf}
 use Rattle.volume.specs.Known.{KnownDirectory, Known}
 use Rattle.volume.specs.Live.{VolumeCore, pending_at, IsWholeCore}
 use Rattle.volume.specs.Publishing.{IsPlaced, IsSupplied}
-use Rattle.volume.specs.Rest.{RestsAt, StandsForEither}
+use Rattle.volume.specs.Rest.{RestsAt, StandsForOneOf}
 use Rattle.volume.specs.declared.pending.PendingVersion.{PendingVersion}
 use Rattle.volume.proofs.PuttingCore.{waits}
 
 -- Where nothing was done, a crash leaves what stands for the files.
 pub unchanged_leaves : (s : DiskState) (f g : Files File) → RestsAt s f
-    → ((c : Contents) → s.left_since s.clock c → MayLeave s c) → LeavesOnly s s (StandsForEither s.size f g)
-unchanged_leaves s f g rests only_now = leaves_start s (StandsForEither s.size f g) only_now
+    → ((c : Contents) → s.left_since s.clock c → MayLeave s c) → LeavesOnly s s (StandsForOneOf s.size f g)
+unchanged_leaves s f g rests only_now = leaves_start s (StandsForOneOf s.size f g) only_now
     (λ c left. inl (rest_settles s (λ d. SettledStands s.size d f) rests c left))
 
 -- Quiet writes leave the one.
 pub quiet_leaves_either : (s s' : DiskState) (f g : Files File) → LeavesOnly s s' (λ c. Stands s.size c f)
-    → LeavesOnly s s' (StandsForEither s.size f g)
-quiet_leaves_either s s' f g leaves = leaves_weaker s s' (λ c. Stands s.size c f) (StandsForEither s.size f g) leaves
+    → LeavesOnly s s' (StandsForOneOf s.size f g)
+quiet_leaves_either s s' f g leaves = leaves_weaker s s' (λ c. Stands s.size c f) (StandsForOneOf s.size f g) leaves
     (λ c is. inl is)
 
 -- Quiet writes, and then a publication.
 pub both_leave : (s mid s' : DiskState) (f g : Files File) → mid.size ≡ s.size
-    → LeavesOnly s mid (λ c. Stands s.size c f) → LeavesOnly mid s' (StandsForEither mid.size f g)
-    → LeavesOnly s s' (StandsForEither s.size f g)
+    → LeavesOnly s mid (λ c. Stands s.size c f) → LeavesOnly mid s' (StandsForOneOf mid.size f g)
+    → LeavesOnly s s' (StandsForOneOf s.size f g)
 both_leave s mid s' f g size first second =
-    leaves_on s mid s' (StandsForEither s.size f g) (StandsForEither mid.size f g)
-    (quiet_leaves_either s mid f g first) second (λ c. subst (λ (n : ℕ). StandsForEither n f g c) size)
+    leaves_on s mid s' (StandsForOneOf s.size f g) (StandsForOneOf mid.size f g)
+    (quiet_leaves_either s mid f g first) second (λ c. subst (λ (n : ℕ). StandsForOneOf n f g c) size)
 
 -- The chains stay when words are put.
 module _ (c c' : VolumeCore) (known : c'.known ≡ record c.known { table = c'.known.table }) where

@@ -15,7 +15,7 @@ use Rattle.volume.specs.Known.{Known, KnownVersion, KnownDirectory}
 use Rattle.volume.specs.Live.{VolumeCore, slot, IsWholeCore}
 use Rattle.volume.specs.Places.{prime_at}
 use Rattle.volume.specs.Known.{prime_in}
-use Rattle.volume.specs.Publishing.{IsPublished, Entered, before, left_of, IsEnded, HasOtherKey}
+use Rattle.volume.specs.Publishing.{IsPublished, Entered, before, live_left, IsEnded, HasOtherKey}
 use Rattle.volume.specs.Known.{Before, IsNamed}
 use Rattle.volume.specs.Publishing.{IsPublishedCore}
 use Rattle.volume.specs.declared.live.LiveVersion.{LiveVersion}
@@ -155,7 +155,7 @@ module _ (size : ℕ) (c c' : VolumeCore) (key : ℕ) (p : PendingVersion) (word
             let prime : v.at ≡ o.1.at = some_same (sym at ∙ (λ i. prime_at c (same.0 i) (same.1 i)) ∙ was) in
             let key_is : k ≡ o.0 = one_key size c whole k o.0 v o.1 there (was_live o ended.0) current ended.1 prime in
             ap (slot c'.live) key_is ∙ ended.2
-            ∙ ap (λ (u : LiveVersion). left_of (Some (o.0, u))) (is_before o ended.0 key_is)
+            ∙ ap (λ (u : LiveVersion). live_left (Some (o.0, u))) (is_before o ended.0 key_is)
             ∙ not_zero v.readers None (Some (record v { is_current = false })) held
 
     -- that of another place stays, and so does its place

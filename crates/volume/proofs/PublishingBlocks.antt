@@ -22,7 +22,7 @@ use Rattle.volume.specs.Known.{KnownDirectory, blocks_reached}
 use Rattle.volume.specs.Live.{VolumeCore, slot, pending_at, held_reaches, current_reaches, pending_reaches}
 use Rattle.volume.specs.Live.{entry_reaches, IsWholePending, IsWholeCore}
 use Rattle.volume.specs.Publishing.{before, MakesCurrent}
-use Rattle.volume.specs.Rest.{IsSound}
+use Rattle.volume.specs.Rest.{IsSoundCore}
 use Rattle.volume.specs.declared.live.LiveVersion.{LiveVersion}
 use Rattle.volume.specs.declared.pending.PendingVersion.{PendingVersion}
 use Rattle.volume.proofs.LiveBodies.{IsUsed, read_used, written_used}
@@ -42,7 +42,7 @@ pub record IsMadeCurrent (size : ℕ) (c c' : VolumeCore) (key : ℕ) (p : Pendi
   pub blocks : v.version.blocks ≡ p.version.blocks
 
 pub made_current_of : {s : DiskState} {c c' : VolumeCore} {key : ℕ} {p : PendingVersion} {v : LiveVersion}
-    {puts : List Put} {current : ℕ} → IsSound s c false
+    {puts : List Put} {current : ℕ} → IsSoundCore s c false
     → (at : ℕ) × (ribs : List ℕ) × (makes_current : MakesCurrent c.known.table.size c c' key p at ribs puts)
     × (current ≡ makes_current.new_key) → Some v ≡ slot c'.live current → IsMadeCurrent s.size c c' key p v puts
 made_current_of {s} {c} {c'} {key} {p} {v} {puts} sound made_current there =

@@ -25,7 +25,7 @@ use Rattle.volume.specs.Known.{cost_of_known, IsWholeVersion, IsWholeDirectory, 
 use Rattle.volume.specs.Live.{is_creation, VolumeCore, slot, as_known, held_reaches, held_cost, current_reaches}
 use Rattle.volume.specs.Live.{pending_reaches}
 use Rattle.volume.specs.Live.{pending_cost, creates, growths, cost_beyond, IsWholePending, IsWholeCore}
-use Rattle.volume.specs.Publishing.{added, before, left_of, IsEnded, MakesCurrent}
+use Rattle.volume.specs.Publishing.{added, before, live_left, IsEnded, MakesCurrent}
 use Rattle.volume.specs.Known.{given_up}
 use Rattle.volume.specs.declared.live.LiveVersion.{LiveVersion}
 use Rattle.volume.specs.declared.pending.PendingVersion.{PendingVersion}
@@ -64,7 +64,7 @@ module _ (size : ℕ) (c c' : VolumeCore) (key : ℕ) (p : PendingVersion) (at :
   counted n = counts c.live c'.live is.old n is.ended
 
   live_total : (f : Option LiveVersion → ℕ) → f None ≡ 0 → total f c'.live + f (entered is.old)
-      ≡ total f c.live + f (Some new) + f (left_of is.old)
+      ≡ total f c.live + f (Some new) + f (live_left is.old)
   live_total f none = made_current_total f none c.live c'.live is.old is.new_key
       (Some new) is.vacant is.here is.ended is.others
 

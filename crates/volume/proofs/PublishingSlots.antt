@@ -16,7 +16,7 @@ use Rattle.meaning.proofs.MapLaws.{some_same, some_none}
 use Rattle.volume.specs.Known.{KnownDirectory, blocks_reached, reaches_in_known}
 use Rattle.volume.specs.Live.{VolumeCore, slot, pending_at, held_reaches, held_cost, current_reaches, entry_reaches}
 use Rattle.volume.specs.Live.{growths}
-use Rattle.volume.specs.Publishing.{Entered, before, left_of, IsEnded, HasOtherKey, MakesCurrent}
+use Rattle.volume.specs.Publishing.{Entered, before, live_left, IsEnded, HasOtherKey, MakesCurrent}
 use Rattle.volume.specs.Known.{given_up, cost_before}
 use Rattle.volume.specs.Rest.{HasSomeBody}
 use Rattle.volume.specs.declared.live.LiveVersion.{LiveVersion}
@@ -87,7 +87,7 @@ entered (Some o) = Some o.1
 
 -- what is left of one
 abbrev pub left : LiveVersion → Option LiveVersion
-left v = left_of (Some (0, v))
+left v = live_left (Some (0, v))
 
 pub left_cases : (v : LiveVersion) → ((v.readers ≡ 0) × (left v ≡ None))
     ⊎ (left v ≡ Some (record v { is_current = false }))
@@ -115,9 +115,9 @@ pub record Counts (live : List (Option LiveVersion)) (old : Entered) (n : ℕ) :
   pub current : current_reaches n (entered old) ≡ given_up n (before old)
   pub unheld : held_reaches n (entered old) ≡ 0
   pub uncosted : held_cost (entered old) ≡ 0
-  pub ended : current_reaches n (left_of old) ≡ 0
-  pub held : held_reaches n (left_of old) ≤ given_up n (before old)
-  pub cost : held_cost (left_of old) ≤ cost_before (before old)
+  pub ended : current_reaches n (live_left old) ≡ 0
+  pub held : held_reaches n (live_left old) ≤ given_up n (before old)
+  pub cost : held_cost (live_left old) ≤ cost_before (before old)
   pub within : given_up n (before old) ≤ total (current_reaches n) live
 
 pub counts : (live live' : List (Option LiveVersion)) (old : Entered) (n : ℕ) → IsEnded live live' old
@@ -159,26 +159,27 @@ pub made_current_total : (f : Option LiveVersion → ℕ) → f None ≡ 0
     → (live live' : List (Option LiveVersion)) (old : Entered) (key : ℕ) (x : Option LiveVersion) → slot live key ≡ None
     → slot live' key ≡ x → IsEnded live live' old
     → ((k : ℕ) → (k ≡ key → ⊥) → HasOtherKey old k → slot live' k ≡ slot live k)
-    → total f live' + f (entered old) ≡ total f live + f x + f (left_of old)
+    → total f live' + f (entered old) ≡ total f live + f x + f (live_left old)
 made_current_total f none live live' None key x vacant here ended others =
     let all = total_updated f none live live' key x here (λ k other. others k other tt) in
     let was = ap f vacant in
     omega arith
 made_current_total f none live live' (Some o) key x vacant here ended others =
-    let mid = slice_set live o.0 (left_of (Some o)) in
+    let mid = slice_set live o.0 (live_left (Some o)) in
     let apart : key ≡ o.0 → ⊥ = λ same. some_none (sym ended.0 ∙ sym (ap (slot live) same) ∙ vacant) in
-    let first = total_updated f none live mid o.0 (left_of (Some o)) (set_here live o.0 o.1 (left_of (Some o)) ended.0)
+    let first = total_updated f none live mid o.0 (live_left (Some o))
+    (set_here live o.0 o.1 (live_left (Some o)) ended.0)
     (λ k other. elsewhere k other) in
     let second = total_updated f none mid live' key x here (λ k other. ⊎_elim
-    (λ (same : k ≡ o.0). ap (slot live') same ∙ ended.2 ∙ sym (set_here live o.0 o.1 (left_of (Some o)) ended.0)
+    (λ (same : k ≡ o.0). ap (slot live') same ∙ ended.2 ∙ sym (set_here live o.0 o.1 (live_left (Some o)) ended.0)
     ∙ sym (ap (slot mid) same))
     (λ differs. others k other differs ∙ sym (elsewhere k differs)) (cases_eq k o.0)) in
     let was = ap f ended.0 in
     let empty = ap f (elsewhere key apart ∙ vacant) in
     omega arith
   where
-    elsewhere : (k : ℕ) → (k ≡ o.0 → ⊥) → slot (slice_set live o.0 (left_of (Some o))) k ≡ slot live k
-    elsewhere k other = get_or-set_other live o.0 k (left_of (Some o)) None other
+    elsewhere : (k : ℕ) → (k ≡ o.0 → ⊥) → slot (slice_set live o.0 (live_left (Some o))) k ≡ slot live k
+    elsewhere k other = get_or-set_other live o.0 k (live_left (Some o)) None other
 
 -- another slot is as it was, or holds what is left of the one before
 pub made_current_slot : (live live' : List (Option LiveVersion)) (old : Entered) (key : ℕ) → IsEnded live live' old

@@ -21,7 +21,7 @@ use Rattle.volume.specs.Facts.{facts_of, known_facts}
 use Rattle.volume.specs.Known.{IsHeld}
 use Rattle.volume.specs.Live.{VolumeCore, slot, pending_at, IsWholeCore}
 use Rattle.volume.specs.Publishing.{file_of, files_published, before, IsPublished}
-use Rattle.volume.specs.Rest.{IsAtRest, IsSound, RestsAt, StandsForEither}
+use Rattle.volume.specs.Rest.{IsAtRest, IsSoundCore, RestsAt, StandsForOneOf}
 use Rattle.volume.specs.declared.live.LiveVersion.{LiveVersion}
 use Rattle.volume.specs.declared.pending.PendingVersion.{PendingVersion}
 use Rattle.volume.proofs.LiveBodies.{HaveBodies, body_stays}
@@ -52,16 +52,17 @@ retrieved_as contents prime prime' words words' at ribs blocks blocks' same long
 -- The retrieval blocks are written.
 
 module _ {s mid : DiskState} {c c' : VolumeCore} {key : ℕ} {p : PendingVersion} {v : LiveVersion} {puts : List Put}
-    (sound : IsSound s c false) (made_current : IsMadeCurrent s.size c c' key p v puts) (same : SameDisk s mid) where
-  pub new_whole : IsWholeCore s.size c'
-  new_whole = made_current_whole s.size c c' key p v.at v.version.ribs puts sound.whole made_current.makes_current
+    (sound : IsSoundCore s c false) (made_current : IsMadeCurrent s.size c c' key p v puts) (same : SameDisk s mid)
+  where
+    pub new_whole : IsWholeCore s.size c'
+    new_whole = made_current_whole s.size c c' key p v.at v.version.ribs puts sound.whole made_current.makes_current
 
-  -- a volume that failed stays sound, whatever the disk does
-  pub written_failed : IsSound mid c' true
-  written_failed = sound_failed s mid c' true same.size new_whole refl
+    -- a volume that failed stays sound, whatever the disk does
+    pub written_failed : IsSoundCore mid c' true
+    written_failed = sound_failed s mid c' true same.size new_whole refl
 
 module _ {s mid : DiskState} {c c' : VolumeCore} {key : ℕ} {p : PendingVersion} {v : LiveVersion} {puts : List Put}
-    (sound : IsSound s c false) (made_current : IsMadeCurrent s.size c c' key p v puts) (same : SameDisk s mid)
+    (sound : IsSoundCore s c false) (made_current : IsMadeCurrent s.size c c' key p v puts) (same : SameDisk s mid)
     (h : s.honest) (modified : Modifies (λ n. 0 < times n (v.at ∷ v.version.ribs)) s mid) where
   at_rest : IsAtRest s c.known
   at_rest = sound.rest h refl
@@ -85,10 +86,10 @@ module _ {s mid : DiskState} {c c' : VolumeCore} {key : ℕ} {p : PendingVersion
 
   -- no crash sees this
   pub written_crash : (f g : Files File) → RestsAt s f → ((d : Contents) → s.left_since s.clock d → MayLeave s d)
-      → LeavesOnly s mid (StandsForEither s.size f g)
+      → LeavesOnly s mid (StandsForOneOf s.size f g)
   written_crash f g rests only_now =
       let is = files_are s c.known at_rest.map f at_rest.rest rests in
-      leaves_weaker s mid (SettlesTo s.size (IsHeld s.size c.known at_rest.map)) (StandsForEither s.size f g)
+      leaves_weaker s mid (SettlesTo s.size (IsHeld s.size c.known at_rest.map)) (StandsForOneOf s.size f g)
       (quiet_stands s mid (IsHeld s.size c.known at_rest.map)
       (quiet_leaves (λ n. 0 < times n (v.at ∷ v.version.ribs)) s mid (IsHeld s.size c.known at_rest.map)
       ignores not_gate at_rest.rest only_now modified))
@@ -165,7 +166,7 @@ module _ {s mid : DiskState} {c c' : VolumeCore} {key : ℕ} {p : PendingVersion
     -- the commit leaves the files of before, or those with the new one
     pub committed_crash : (s' : DiskState) → LeavesOnly mid s' (AllOrNone puts mid) → (f : Files File)
         → RestsAt s f → ((d : Contents) → s.left_since s.clock d → MayLeave s d)
-        → LeavesOnly s s' (StandsForEither s.size f (files_published f p.prime.ppn p.prime.file (file_of p.prime body)))
+        → LeavesOnly s s' (StandsForOneOf s.size f (files_published f p.prime.ppn p.prime.file (file_of p.prime body)))
     committed_crash s' leaves f rests only_now =
         crash_for s s' c.known c'.known at_rest.map new_map f (new_files f)
         (files_are s c.known at_rest.map f at_rest.rest rests) (names f rests)
@@ -220,9 +221,9 @@ module _ {s mid : DiskState} {c c' : VolumeCore} {key : ℕ} {p : PendingVersion
 -- The whole of it: a volume that was sound is sound.
 
 module _ {s mid s' : DiskState} {c c' : VolumeCore} {key : ℕ} {p : PendingVersion} {v : LiveVersion} {puts : List Put}
-    (sound : IsSound s c false) (made_current : IsMadeCurrent s.size c c' key p v puts) (same : SameDisk s mid)
+    (sound : IsSoundCore s c false) (made_current : IsMadeCurrent s.size c c' key p v puts) (same : SameDisk s mid)
     (after : SameDisk mid s') where
-  pub committed_failed : IsSound s' c' true
+  pub committed_failed : IsSoundCore s' c' true
   committed_failed = sound_failed s s' c' true (after.size
       ∙ same.size) (new_whole sound made_current same) refl
 
@@ -232,7 +233,7 @@ module _ {s mid s' : DiskState} {c c' : VolumeCore} {key : ℕ} {p : PendingVers
       → (s'.honest → Modifies (λ n. IsGateOrLog mid.size n ⊎ IsPutIn puts n) mid s')
       → (s'.honest → SameOutside (IsGateOrLog mid.size) (with_puts puts mid.contents) s'.contents)
       → (s'.honest → NoneOpen s') → (s'.honest → IsShut mid → IsShut s')
-      → IsSound s' c' false
+      → IsSoundCore s' c' false
   committed_sound modified retrieved put all none shut = sound_for s s' c' false (after.size
       ∙ same.size) (new_whole sound made_current same)
       (λ h' ok.

@@ -30,7 +30,7 @@ use Rattle.volume.specs.Known.{Known, IsHeld, blocks_reached}
 use Rattle.volume.specs.Live.{VolumeCore, slot, pending_at, held_reaches, pending_reaches, IsWholeCore}
 use Rattle.volume.specs.Making.{IsAligned}
 use Rattle.volume.specs.Putting.{Regrown}
-use Rattle.volume.specs.Rest.{IsAtRest, HasSomeBody, IsSound, RestsAt, KeepsRead, KeepsWritten}
+use Rattle.volume.specs.Rest.{IsAtRest, HasSomeBody, IsSoundCore, RestsAt, KeepsRead, KeepsWritten}
 use Rattle.volume.proofs.LiveBodies.{HaveBodies, body_stays}
 use Rattle.volume.proofs.MakingDirectories.{files_are, rest_for, sound_for, sound_failed, whole_fixed}
 use Rattle.volume.proofs.MakingHeld.{held_kept}
@@ -168,7 +168,7 @@ module _ (size : ℕ) (c : VolumeCore) (whole : IsWholeCore size c) (key : ℕ) 
   keeps_written old new same k q other is n there = same n (written_apart k q other is n there)
 
   -- the words of all versions after the words are put
-  pub put_bodies : (s s' : DiskState) (failed : Bool) → IsSound s c failed → s.honest → failed ≡ false
+  pub put_bodies : (s s' : DiskState) (failed : Bool) → IsSoundCore s c failed → s.honest → failed ≡ false
       → SameOutside (IsOwn c.known.table p.version.blocks) s.contents s'.contents
       → (c' : VolumeCore) (v : VersionState) (block : ℕ) (words : List ℕ) → c'.live ≡ c.live
       → ((k : ℕ) → (k ≡ key → ⊥) → pending_at c'.pending k ≡ pending_at c.pending k)
@@ -219,7 +219,7 @@ none_damaged contents v has k there none = undamaged_at contents v.blocks has.2.
 
 -- The whole of it.
 
-module _ {s s' : DiskState} {c : VolumeCore} (sound : IsSound s c false) (same : SameDisk s s') (key : ℕ)
+module _ {s s' : DiskState} {c : VolumeCore} (sound : IsSoundCore s c false) (same : SameDisk s s') (key : ℕ)
     {p : PendingVersion} (was : pending_at c.pending key ≡ Some p) {t : TableState}
     (pending : List (Option PendingVersion)) {v : VersionState}
     (is : Regrown s.size c.known.table t pending key p v) (others : (k : ℕ) → (k ≡ key → ⊥)
@@ -228,7 +228,7 @@ module _ {s s' : DiskState} {c : VolumeCore} (sound : IsSound s c false) (same :
   gate_set : bit c.known.table 3 ≡ 1
   gate_set = whole_fixed s.size c.known sound.whole.map 3 (omega arith)
 
-  pub put_failed : IsSound s' (record c { known = record c.known { table = t }; pending = pending }) true
+  pub put_failed : IsSoundCore s' (record c { known = record c.known { table = t }; pending = pending }) true
   put_failed = sound_failed s s' (record c { known = record c.known { table = t }; pending = pending }) true same.size
       (put_whole s.size c sound.whole key p was t pending v is others) refl
 
@@ -236,7 +236,7 @@ module _ {s s' : DiskState} {c : VolumeCore} (sound : IsSound s c false) (same :
       ≡ Some (record p { version = w }) → w.words ≡ length_after p.version.words block (length words)
       → (s'.honest → (body : List ℕ) → length body ≡ p.version.words → HasBody s.contents p.version.blocks body
       → HasBody s'.contents w.blocks (splice body block words))
-      → IsSound s' (record c { known = record c.known { table = t }; pending = pending }) false
+      → IsSoundCore s' (record c { known = record c.known { table = t }; pending = pending }) false
   put_done w block words now long put = sound_for s s'
       (record c { known = record c.known { table = t }; pending = pending }) false same.size
       (put_whole s.size c sound.whole key p was t pending v is others)

@@ -25,7 +25,7 @@ use Rattle.volume.specs.declared.pending.PendingVersion.{PendingVersion}
 use Rattle.volume.specs.Known.{blocks_reached, IsHeld}
 use Rattle.volume.specs.Live.{VolumeCore, slot, held_reaches, IsWholePending, IsWholeCore}
 use Rattle.volume.specs.Pins.{version_under, IsReadable}
-use Rattle.volume.specs.Rest.{HasSomeBody, IsSound, RestsAt}
+use Rattle.volume.specs.Rest.{HasSomeBody, IsSoundCore, RestsAt}
 use Rattle.volume.proofs.LiveBodies.{read_used, body_stays}
 use Rattle.volume.proofs.Pinning.{total_at, each_slot, current_stands}
 use Rattle.volume.proofs.Starting.{rest_read}
@@ -38,7 +38,7 @@ rests_read s s' files size reads rests = subst (λ (n : ℕ). AtRest s' (λ c. S
     (rest_read s s' (λ c. SettledStands s.size c files) size reads rests)
 
 pub sound_read : (s s' : DiskState) (c : VolumeCore) (failed : Bool) → s'.size ≡ s.size → (s'.honest → s.honest)
-    → (s'.honest → OnlyReads s s') → IsSound s c failed → IsSound s' c failed
+    → (s'.honest → OnlyReads s s') → IsSoundCore s c failed → IsSoundCore s' c failed
 sound_read s s' c failed size honest reads sound = record {
   whole = subst (λ (n : ℕ). IsWholeCore n c) (sym size) sound.whole;
   rest = λ h ok.
@@ -106,7 +106,8 @@ module _ (size : ℕ) (c : VolumeCore) (whole : IsWholeCore size c) (table : IsT
 
 -- On an honest disk none of its blocks is damaged.
 
-pub readable_body : (s : DiskState) (c : VolumeCore) (failed : Bool) → IsSound s c failed → s.honest → failed ≡ false
+pub readable_body : (s : DiskState) (c : VolumeCore) (failed : Bool) → IsSoundCore s c failed → s.honest → failed
+    ≡ false
     → (handle : VersionHandle) (v : VersionState) → IsReadable c handle → version_under c handle ≡ Some v
     → HasSomeBody s.contents v
 readable_body s c failed sound h ok (Pinned pin) v readable is =

@@ -39,7 +39,7 @@ use Rattle.volume.specs.Live.{VolumeCore, slot, as_known, IsCurrent, IsKeyed, he
 use Rattle.volume.specs.Live.{pending_reaches, pending_cost, creates, IsWholeCore}
 use Rattle.volume.specs.LiveCores.{core_of, known_at, live_directory}
 use Rattle.volume.specs.Pins.{IsKeyOf}
-use Rattle.volume.specs.Publishing.{Marks, ClearsBits, MayRetire, Retires, left_of}
+use Rattle.volume.specs.Publishing.{Marks, ClearsBits, MayRetire, Retires, live_left}
 use Rattle.volume.specs.Removing.{IsEntryRemoved, RemovesFile}
 use Rattle.volume.proofs.Beginnings.{same_directory}
 use Rattle.volume.proofs.BlockLists.{marks_then}
@@ -278,8 +278,8 @@ module _ (m : LiveMap) (whole : IsWholeCore m.table.size (core_of m)) (ppn : ℕ
 
         -- Once its version is out of use.
         module _ (t1 : TableState) (retired : (x : LiveVersion) → slot m.versions.slots k ≡ Some x
-            → Retires m.table t1 x (left_of (Some (k, x)))) where
-          gone : Retires m.table t1 u (left_of (Some (k, u)))
+            → Retires m.table t1 x (live_left (Some (k, x)))) where
+          gone : Retires m.table t1 u (live_left (Some (k, u)))
           gone = retired had.0 had.1
 
           pub left_sound : IsTable t1
@@ -325,7 +325,7 @@ module _ (m : LiveMap) (whole : IsWholeCore m.table.size (core_of m)) (ppn : ℕ
                   → AllByRecursion (IsTarget t3.size) (targets puts))
                   (few_table : length puts ≤ length set + changed_blocks t3)
                   (left : (x : LiveVersion) → slot m.versions.slots k ≡ Some x
-                  → slot m'.versions.slots k ≡ left_of (Some (k, x)))
+                  → slot m'.versions.slots k ≡ live_left (Some (k, x)))
                   (others : (j : ℕ) → (j ≡ k → ⊥) → slot m'.versions.slots j ≡ slot m.versions.slots j)
                   (keys : d'.keys.items ≡ take i d.keys.items ++ last_first (drop (suc i) d.keys.items)) where
                 only : (j : ℕ) → slice_get d.keys.items j ≡ Some k → j ≡ i
@@ -430,5 +430,5 @@ module _ (m : LiveMap) (whole : IsWholeCore m.table.size (core_of m)) (ppn : ℕ
                     had_current : u.is_current ≡ true
                     had_current = had.2
 
-                    had_left : slot m'.versions.slots k ≡ left_of (Some (k, u))
+                    had_left : slot m'.versions.slots k ≡ live_left (Some (k, u))
                     had_left = left had.0 had.1

@@ -27,7 +27,7 @@ use Rattle.volume.specs.Known.{prime_in, cost_of_known, IsWholeVersion, IsWholeD
 use Rattle.volume.specs.Live.{VolumeCore, slot, pending_at, as_known, held_reaches, held_cost, current_reaches, IsApart}
 use Rattle.volume.specs.Live.{IsCurrentAt, pending_reaches, pending_cost, creates, growths, cost_beyond}
 use Rattle.volume.specs.Live.{AreWaiting, IsWholeCore}
-use Rattle.volume.specs.Publishing.{left_of}
+use Rattle.volume.specs.Publishing.{live_left}
 use Rattle.volume.specs.Removing.{RemovesFile}
 use Rattle.volume.specs.declared.live.LiveVersion.{LiveVersion}
 use Rattle.volume.specs.declared.pending.PendingVersion.{PendingVersion}
@@ -53,9 +53,9 @@ module _ (size : ℕ) (c c' : VolumeCore) (ppn : ℕ) (name : FileName) (key : �
   counted n = counts c.live c'.live (Some (key, v)) n (is.there, is.current, is.ended)
 
   live_total : (f : Option LiveVersion → ℕ) → f None ≡ 0 → total f c'.live + f (Some v)
-      ≡ total f c.live + f (left_of (Some (key, v)))
+      ≡ total f c.live + f (live_left (Some (key, v)))
   live_total f none =
-      let all = total_updated f none c.live c'.live key (left_of (Some (key, v))) is.ended is.others in
+      let all = total_updated f none c.live c'.live key (live_left (Some (key, v))) is.ended is.others in
       let was = ap f is.there in
       omega arith
 

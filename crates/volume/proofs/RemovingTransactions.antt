@@ -17,7 +17,7 @@ use Rattle.alloctab.specs.TableState.{IsTable}
 use Rattle.volume.specs.Known.{IsHeld}
 use Rattle.volume.specs.Live.{VolumeCore, slot, pending_at, as_known, IsWholeCore}
 use Rattle.volume.specs.Removing.{files_removed, RemovesFile}
-use Rattle.volume.specs.Rest.{IsAtRest, IsSound, HasSomeBody, RestsAt, StandsForEither, KeepsRead, KeepsEachWritten}
+use Rattle.volume.specs.Rest.{IsAtRest, IsSoundCore, HasSomeBody, RestsAt, StandsForOneOf, KeepsRead, KeepsEachWritten}
 use Rattle.volume.specs.declared.live.LiveVersion.{LiveVersion}
 use Rattle.volume.proofs.LiveBodies.{HaveBodies, body_stays}
 use Rattle.volume.proofs.MakingCurrent.{part_of}
@@ -35,7 +35,7 @@ module _ (s s' : DiskState) (c c' : VolumeCore) (ppn : ℕ) (name : FileName) (k
   now_whole = removed_whole s.size c c' ppn name key v puts whole is table
 
   -- a volume that failed stays sound, whatever the disk does
-  pub removed_failed : SameDisk s s' → IsSound s' c' true
+  pub removed_failed : SameDisk s s' → IsSoundCore s' c' true
   removed_failed same = sound_failed s s' c' true same.size now_whole refl
 
   -- A block of a version in use isn't put.
@@ -108,7 +108,7 @@ module _ (s s' : DiskState) (c c' : VolumeCore) (ppn : ℕ) (name : FileName) (k
         ∙ ap (λ (x : Files File). files_removed x ppn name) (files_are s c.known at_rest.map f at_rest.rest rests)
 
     pub removed_crash : (f : Files File) → RestsAt s f → (IsShut s → LeavesOnly s s' (AllOrNone puts s))
-        → LeavesOnly s s' (StandsForEither s.size f (files_removed f ppn name))
+        → LeavesOnly s s' (StandsForOneOf s.size f (files_removed f ppn name))
     removed_crash f rests leaves =
         crash_for s s' c.known c'.known at_rest.map new_map f (files_removed f ppn name)
         (files_are s c.known at_rest.map f at_rest.rest rests) (names f rests)
@@ -132,11 +132,11 @@ module _ (s s' : DiskState) (c c' : VolumeCore) (ppn : ℕ) (name : FileName) (k
     removed_at all none shut = (new_map, committed all none shut)
 
   -- a volume that was sound is sound
-  pub removed_sound : (failed : Bool) → IsSound s c failed → SameDisk s s'
+  pub removed_sound : (failed : Bool) → IsSoundCore s c failed → SameDisk s s'
       → (s'.honest → Modifies (λ n. IsGateOrLog s.size n ⊎ IsPutIn puts n) s s')
       → (s'.honest → SameOutside (IsGateOrLog s.size) (with_puts puts s.contents) s'.contents)
       → (s'.honest → NoneOpen s') → (s'.honest → IsShut s → IsShut s')
-      → IsSound s' c' failed
+      → IsSoundCore s' c' failed
   removed_sound failed sound same modified all none shut = sound_for s s' c' failed same.size now_whole
       (λ h' ok.
       let h = same.was_honest h' in

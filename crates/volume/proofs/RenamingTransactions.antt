@@ -30,7 +30,7 @@ use Rattle.volume.specs.Known.{KnownVersion, KnownDirectory, IsKnownFile, IsKnow
 use Rattle.volume.specs.Live.{VolumeCore, slot, pending_at, as_known, held_reaches, pending_reaches, IsWholeCore}
 use Rattle.volume.specs.Moving.{files_moved, MovesWithin}
 use Rattle.volume.specs.Pins.{IsKeyOf}
-use Rattle.volume.specs.Rest.{IsAtRest, IsSound, RestsAt, StandsForEither, KeepsRead, KeepsEachWritten}
+use Rattle.volume.specs.Rest.{IsAtRest, IsSoundCore, RestsAt, StandsForOneOf, KeepsRead, KeepsEachWritten}
 use Rattle.volume.specs.declared.live.LiveVersion.{LiveVersion}
 use Rattle.volume.specs.declared.pending.PendingVersion.{PendingVersion}
 use Rattle.volume.proofs.LiveBodies.{HaveBodies}
@@ -110,46 +110,47 @@ ignores_nothing Q c d same is = subst Q (sym (same_contents c d (λ n. same n (�
 
 -- The prime block is read.
 
-module _ (s mid : DiskState) (c : VolumeCore) (sound : IsSound s c false) (same : SameDisk s mid) (h : s.honest) where
-  abbrev at_rest : IsAtRest s c.known
-  at_rest = sound.rest h refl
+module _ (s mid : DiskState) (c : VolumeCore) (sound : IsSoundCore s c false) (same : SameDisk s mid) (h : s.honest)
+  where
+    abbrev at_rest : IsAtRest s c.known
+    at_rest = sound.rest h refl
 
-  abbrev Held : Contents → Type 0
-  Held = IsHeld s.size c.known at_rest.map
+    abbrev Held : Contents → Type 0
+    Held = IsHeld s.size c.known at_rest.map
 
-  held_now : IsHeld s.size c.known at_rest.map s.contents
-  held_now = at_rest.rest.all s.contents (λ n closed. refl)
+    held_now : IsHeld s.size c.known at_rest.map s.contents
+    held_now = at_rest.rest.all s.contents (λ n closed. refl)
 
-  -- that of a file isn't damaged
-  pub prime_stands : (ppn : ℕ) (name : FileName) (key : ℕ) (file : IsKeyOf c ppn name key)
-      → s.contents file.version.at ≡ None → ⊥
-  prime_stands ppn name key file none =
-      let found = held_now.known.each file.place (ppn, file.word) file.directory file.there.is file.directory_at in
-      let stored = found.2.each file.index (name, file.prime) (as_known file.version) file.at.is file.known in
-      let version = (held_now.stands.mapped.directories ppn found.0 found.1).files name stored.0 stored.1 in
-      let prime : stored.0.prime ≡ file.version.at = ap (λ (x : Facts). x.prime) stored.2 ∙ sym file.prime_is in
-      some_none (sym version.retrieved.prime_is ∙ ap s.contents prime ∙ none)
+    -- that of a file isn't damaged
+    pub prime_stands : (ppn : ℕ) (name : FileName) (key : ℕ) (file : IsKeyOf c ppn name key)
+        → s.contents file.version.at ≡ None → ⊥
+    prime_stands ppn name key file none =
+        let found = held_now.known.each file.place (ppn, file.word) file.directory file.there.is file.directory_at in
+        let stored = found.2.each file.index (name, file.prime) (as_known file.version) file.at.is file.known in
+        let version = (held_now.stands.mapped.directories ppn found.0 found.1).files name stored.0 stored.1 in
+        let prime : stored.0.prime ≡ file.version.at = ap (λ (x : Facts). x.prime) stored.2 ∙ sym file.prime_is in
+        some_none (sym version.retrieved.prime_is ∙ ap s.contents prime ∙ none)
 
-  module _ (keeps : Keeps s mid) where
-    pub quiet : Modifies Nowhere s mid
-    quiet = still_modifies Nowhere s mid (keeps_still s mid keeps)
+    module _ (keeps : Keeps s mid) where
+      pub quiet : Modifies Nowhere s mid
+      quiet = still_modifies Nowhere s mid (keeps_still s mid keeps)
 
-    pub mid_rest : AtRest mid (IsHeld s.size c.known at_rest.map)
-    mid_rest = quiet_rest Nowhere s mid (IsHeld s.size c.known at_rest.map)
-        (ignores_nothing (IsHeld s.size c.known at_rest.map)) (λ none. none) same.size at_rest.rest quiet
+      pub mid_rest : AtRest mid (IsHeld s.size c.known at_rest.map)
+      mid_rest = quiet_rest Nowhere s mid (IsHeld s.size c.known at_rest.map)
+          (ignores_nothing (IsHeld s.size c.known at_rest.map)) (λ none. none) same.size at_rest.rest quiet
 
-    pub read_shut : IsShut mid
-    read_shut = mid_rest.shut
+      pub read_shut : IsShut mid
+      read_shut = mid_rest.shut
 
-    pub read_crash : (f g : Files File) → RestsAt s f → ((d : Contents) → s.left_since s.clock d → MayLeave s d)
-        → LeavesOnly s mid (StandsForEither s.size f g)
-    read_crash f g rests only_now =
-        let is = files_are s c.known at_rest.map f at_rest.rest rests in
-        leaves_weaker s mid (SettlesTo s.size (IsHeld s.size c.known at_rest.map)) (StandsForEither s.size f g)
-        (quiet_stands s mid (IsHeld s.size c.known at_rest.map)
-        (quiet_leaves Nowhere s mid (IsHeld s.size c.known at_rest.map)
-        (ignores_nothing (IsHeld s.size c.known at_rest.map)) (λ none. none) at_rest.rest only_now quiet))
-        (λ d held. inl (held.0, held.1, (at_rest.map, held.2.stands, is)))
+      pub read_crash : (f g : Files File) → RestsAt s f → ((d : Contents) → s.left_since s.clock d → MayLeave s d)
+          → LeavesOnly s mid (StandsForOneOf s.size f g)
+      read_crash f g rests only_now =
+          let is = files_are s c.known at_rest.map f at_rest.rest rests in
+          leaves_weaker s mid (SettlesTo s.size (IsHeld s.size c.known at_rest.map)) (StandsForOneOf s.size f g)
+          (quiet_stands s mid (IsHeld s.size c.known at_rest.map)
+          (quiet_leaves Nowhere s mid (IsHeld s.size c.known at_rest.map)
+          (ignores_nothing (IsHeld s.size c.known at_rest.map)) (λ none. none) at_rest.rest only_now quiet))
+          (λ d held. inl (held.0, held.1, (at_rest.map, held.2.stands, is)))
 
 -- What a move does, whichever directory the file comes to: its version stays where it is, and the puts make of any map
 -- that the disk has the one with the file so.
@@ -172,7 +173,7 @@ pub record IsMove (size : ℕ) (c c' : VolumeCore) (ppn : ℕ) (name : FileName)
 -- The puts are committed.
 
 module _ {s mid : DiskState} {c c' : VolumeCore} {ppn : ℕ} {name : FileName} {to_ppn : ℕ} {to : FileName}
-    {protection key : ℕ} {v : LiveVersion} {words : List ℕ} {puts : List Put} (sound : IsSound s c false)
+    {protection key : ℕ} {v : LiveVersion} {words : List ℕ} {puts : List Put} (sound : IsSoundCore s c false)
     (move : IsMove s.size c c' ppn name to_ppn to protection key v words puts) (same : SameDisk s mid) where
   -- what is asked of them
   pub move_in_range : IsTable c.known.table → AllByRecursion (IsTarget mid.size) (targets puts)
@@ -227,7 +228,7 @@ module _ {s mid : DiskState} {c c' : VolumeCore} {ppn : ℕ} {name : FileName} {
     -- the commit leaves the files of before, or those with the file so
     pub move_crash : (s' : DiskState) → LeavesOnly mid s' (AllOrNone puts mid) → (files : Files File)
         → RestsAt s files → ((d : Contents) → s.left_since s.clock d → MayLeave s d)
-        → LeavesOnly s s' (StandsForEither s.size files (files_moved files ppn name to_ppn to protection))
+        → LeavesOnly s s' (StandsForOneOf s.size files (files_moved files ppn name to_ppn to protection))
     move_crash s' leaves files rests only_now =
         crash_for s s' c.known c'.known rest.map new_map files (files_moved files ppn name to_ppn to protection)
         (files_are s c.known rest.map files rest.rest rests) (names files rests)
@@ -257,14 +258,14 @@ module _ {s mid : DiskState} {c c' : VolumeCore} {ppn : ℕ} {name : FileName} {
   -- The whole of it: a volume that was sound is sound.
 
   module _ (s' : DiskState) (after : SameDisk mid s') where
-    pub move_failed : IsSound s' c' true
+    pub move_failed : IsSoundCore s' c' true
     move_failed = sound_failed s s' c' true (after.size ∙ same.size) move.whole refl
 
     pub move_sound : (mid.honest → Keeps s mid) → (mid.honest → s.contents v.at ≡ Some words)
         → (s'.honest → Modifies (λ n. IsGateOrLog mid.size n ⊎ IsPutIn puts n) mid s')
         → (s'.honest → SameOutside (IsGateOrLog mid.size) (with_puts puts mid.contents) s'.contents)
         → (s'.honest → NoneOpen s') → (s'.honest → IsShut mid → IsShut s')
-        → IsSound s' c' false
+        → IsSoundCore s' c' false
     move_sound keeps read put all none shut = sound_for s s' c' false (after.size ∙ same.size) move.whole
         (λ h' ok.
         let m = after.was_honest h' in
@@ -335,7 +336,7 @@ module _ (size : ℕ) (c c' : VolumeCore) (ppn : ℕ) (name to : FileName) (prot
 
 -- so it is where core says it of a disk of the size that it knows
 pub within_move : {s : DiskState} {c c' : VolumeCore} {ppn : ℕ} {name to : FileName} {protection key : ℕ}
-    {v : LiveVersion} {words : List ℕ} {puts : List Put} → IsSound s c false
+    {v : LiveVersion} {words : List ℕ} {puts : List Put} → IsSoundCore s c false
     → MovesWithin c.known.table.size c c' ppn name to protection key v words puts → protection < 512
     → claims c.pending (place_of ppn name) ≡ false → IsMove s.size c c' ppn name ppn to protection key v words puts
 within_move {s} {c} {c'} {ppn} {name} {to} {protection} {key} {v} {words} {puts} sound moves fits unclaimed =

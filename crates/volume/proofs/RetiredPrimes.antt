@@ -3,16 +3,16 @@ use Rattle.std.proofs.Common.{◌≡◌, ⊎_elim, ℕ, ◌+◌, true, Some, sym
 use Rattle.std.proofs.lemmas.Bool.{cases_eq}
 use Rattle.alloctab.specs.TableState.{holds}
 use Rattle.volume.specs.Live.{VolumeCore, slot, held_reaches, IsWholeCore}
-use Rattle.volume.specs.Publishing.{left_of}
+use Rattle.volume.specs.Publishing.{live_left}
 use Rattle.volume.specs.declared.live.LiveVersion.{LiveVersion}
 use Rattle.volume.proofs.OnePlace.{first_elsewhere}
 use Rattle.volume.proofs.PublishingCore.{not_left}
 use Rattle.volume.proofs.PublishingSlots.{counts}
 
 pub retired_primes : (size : ℕ) (c c' : VolumeCore) (key : ℕ) (v : LiveVersion) → IsWholeCore size c
-    → slot c.live key ≡ Some v → v.is_current ≡ true → slot c'.live key ≡ left_of (Some (key, v))
+    → slot c.live key ≡ Some v → v.is_current ≡ true → slot c'.live key ≡ live_left (Some (key, v))
     → ((k : ℕ) → (k ≡ key → ⊥) → slot c'.live k ≡ slot c.live k)
-    → ((n : ℕ) → holds c'.known.table n ≡ holds c.known.table n + held_reaches n (left_of (Some (key, v))))
+    → ((n : ℕ) → holds c'.known.table n ≡ holds c.known.table n + held_reaches n (live_left (Some (key, v))))
     → (k : ℕ) (u : LiveVersion) → slot c'.live k ≡ Some u → u.is_current ≡ true → holds c'.known.table u.at ≡ 0
 retired_primes size c c' key v whole there current ended others held k u at of_file = ⊎_elim
     (λ (same : k ≡ key). absurd (not_left v u (sym ended ∙ ap (slot c'.live) (sym same) ∙ at) of_file))

@@ -10,7 +10,7 @@ use Rattle.alloctab.specs.TableState.{holds}
 use Rattle.retrieval.specs.declared.prime.Prime.{Prime}
 use Rattle.volume.specs.Known.{prime_in}
 use Rattle.volume.specs.Live.{VolumeCore, slot, pending_at, IsCurrentAt}
-use Rattle.volume.specs.Rest.{HasSomeBody, IsSound, KeepsRead, KeepsEachWritten}
+use Rattle.volume.specs.Rest.{HasSomeBody, IsSoundCore, KeepsRead, KeepsEachWritten}
 use Rattle.volume.specs.declared.live.LiveVersion.{LiveVersion}
 use Rattle.volume.proofs.LiveBodies.{HaveBodies, body_stays}
 use Rattle.volume.proofs.LiveTotals.{total_updated}
@@ -28,7 +28,7 @@ module _ (c c' : VolumeCore) (key : ℕ) (v : LiveVersion) (prime : Prime) (ther
       ))
       (λ other. (u.prime, others k other ∙ at)) (cases_eq k key)
 
-  pub versions_have : (s : DiskState) (d : Contents) → IsSound s c false → s.honest → c'.pending ≡ c.pending
+  pub versions_have : (s : DiskState) (d : Contents) → IsSoundCore s c false → s.honest → c'.pending ≡ c.pending
       → KeepsRead s.contents d c → KeepsEachWritten s.contents d c → HaveBodies d c'
   versions_have s d sound h pending readers writers = record {
     read = λ k u at some. ⊎_elim

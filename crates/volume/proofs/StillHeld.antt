@@ -10,7 +10,7 @@ use Rattle.volume.specs.declared.pending.PendingVersion.{PendingVersion}
 use Rattle.volume.specs.declared.pending.Kind.{Kind}
 use Rattle.volume.specs.Known.{Known, KnownVersion, Before, IsHeld, IsWholeMap}
 use Rattle.volume.specs.Live.{VolumeCore, slot, pending_at, IsWholeCore}
-use Rattle.volume.specs.Rest.{IsAtRest, HasSomeBody, IsSound}
+use Rattle.volume.specs.Rest.{IsAtRest, HasSomeBody, IsSoundCore}
 use Rattle.volume.specs.Beginning.{is_update, no_words, shared_body, begun_version, begun, IsBegun}
 
 -- other counts in the table
@@ -50,12 +50,12 @@ counts_whole size k held booked whole = record {
 -- The same map and the same versions in use, with other counts, and versions that are written each as they
 -- were, or of no words.
 pub counts_sound : (s : DiskState) (c c' : VolumeCore) (failed : Bool) (size : ℕ) (held : List ℕ) (booked : ℕ)
-    → IsSound s c failed → size ≡ s.size → IsWholeCore size c' → c'.live ≡ c.live
+    → IsSoundCore s c failed → size ≡ s.size → IsWholeCore size c' → c'.live ≡ c.live
     → c'.known ≡ counting c.known held booked
     → ((k : ℕ) (p : PendingVersion) → pending_at c'.pending k ≡ Some p → (contents : Contents)
     → ((q : PendingVersion) → pending_at c.pending k ≡ Some q → HasSomeBody contents q.version)
     → HasSomeBody contents p.version)
-    → IsSound s c' failed
+    → IsSoundCore s c' failed
 counts_sound s c c' failed size held booked sound same whole live known written = record {
   whole = subst (λ (b : ℕ). IsWholeCore b c') same whole;
   rest = λ h ok. subst (IsAtRest s) (sym known) (counts_rest s c.known held booked (sound.rest h ok));
@@ -80,10 +80,10 @@ begun_body contents kind old has = by (is_update kind) old has
     by true (Some v) has = let body = has v refl in (body.0, body.1, body.2)
 
 pub begun_sound : (s : DiskState) (c c' : VolumeCore) (failed : Bool) (size key : ℕ) (kind : Kind) (prime : Prime)
-    → IsSound s c failed → size ≡ c'.known.table.size → IsWholeCore size c' → (begins : IsBegun c c' key kind prime)
+    → IsSoundCore s c failed → size ≡ c'.known.table.size → IsWholeCore size c' → (begins : IsBegun c c' key kind prime)
     → (s.honest → failed ≡ false → (v : ℕ × KnownVersion) → begins.old ≡ Some v
     → HasSomeBody s.contents v.1.version)
-    → IsSound s c' failed
+    → IsSoundCore s c' failed
 begun_sound s c c' failed size key kind prime sound is whole begins has = record {
   whole = subst (λ (b : ℕ). IsWholeCore b c') (is ∙ ap (λ k. k.table.size) begins.known
       ∙ sound.whole.map.size_is) whole;
@@ -100,9 +100,9 @@ begun_sound s c c' failed size key kind prime sound is whole begins has = record
 
 -- a version less
 pub dropped_sound : (s : DiskState) (c c' : VolumeCore) (failed : Bool) (size key : ℕ) (held : List ℕ) (booked : ℕ)
-    → IsSound s c failed → size ≡ c'.known.table.size → IsWholeCore size c' → pending_at c'.pending key ≡ None
+    → IsSoundCore s c failed → size ≡ c'.known.table.size → IsWholeCore size c' → pending_at c'.pending key ≡ None
     → ((k : ℕ) → (k ≡ key → ⊥) → pending_at c'.pending k ≡ pending_at c.pending k) → c'.live ≡ c.live
-    → c'.known ≡ counting c.known held booked → IsSound s c' failed
+    → c'.known ≡ counting c.known held booked → IsSoundCore s c' failed
 dropped_sound s c c' failed size key held booked sound is whole gone others live known =
     counts_sound s c c' failed size held booked sound (is ∙ ap (λ k. k.table.size) known
     ∙ sound.whole.map.size_is) whole live known

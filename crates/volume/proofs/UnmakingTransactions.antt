@@ -15,7 +15,7 @@ use Rattle.volume.specs.declared.error.CallError.TheVariants.{Refused, Device}
 use Rattle.volume.specs.Known.{Known, IsHeld, IsWholeMap}
 use Rattle.volume.specs.Live.{VolumeCore}
 use Rattle.volume.specs.RemovingDirectories.{directory_removed, IsDirectoryRemoved, RemovesDirectory}
-use Rattle.volume.specs.Rest.{IsAtRest, IsSound, RestsAt, StandsForEither, KeepsRead, KeepsEachWritten}
+use Rattle.volume.specs.Rest.{IsAtRest, IsSoundCore, RestsAt, StandsForOneOf, KeepsRead, KeepsEachWritten}
 use Rattle.volume.proofs.LiveBodies.{bodies_stay, bodies_of, used_read, used_written}
 use Rattle.volume.proofs.MakingDirectories.{files_are, crash_for, rest_for, sound_for, sound_failed}
 use Rattle.volume.proofs.MakingHeld.{ignores_log}
@@ -46,7 +46,7 @@ module _ (s s' : DiskState) (k k' : Known) (ppn : ℕ) (puts : List Put) (whole 
       ∙ ap (λ (z : Files File). directory_removed z ppn) (files_are s k at.map f at.rest rests)
 
   pub removed_crash : (f : Files File) → RestsAt s f → LeavesOnly s s' (AllOrNone puts s)
-      → LeavesOnly s s' (StandsForEither s.size f (directory_removed f ppn))
+      → LeavesOnly s s' (StandsForOneOf s.size f (directory_removed f ppn))
   removed_crash f rests leaves =
       crash_for s s' k k' at.map next f (directory_removed f ppn) (files_are s k at.map f at.rest rests)
       (files_next f rests)
@@ -65,9 +65,10 @@ module _ (s s' : DiskState) (k k' : Known) (ppn : ℕ) (puts : List Put) (whole 
     removed_done f rests size = rest_for s s' k' next (directory_removed f ppn) size (files_next f rests) rest
 
 -- The whole of it: a volume that was sound is sound.
-module _ (s s' : DiskState) (c c' : VolumeCore) (failed : Bool) (ppn : ℕ) (puts : List Put) (sound : IsSound s c failed)
+module _ (s s' : DiskState) (c c' : VolumeCore) (failed : Bool) (ppn : ℕ) (puts : List Put)
+    (sound : IsSoundCore s c failed)
     (removes : RemovesDirectory s.size c c' ppn puts) where
-  pub volume_failed : s'.size ≡ s.size → IsSound s' c' true
+  pub volume_failed : s'.size ≡ s.size → IsSoundCore s' c' true
   volume_failed size = sound_failed s s' c' true size (removed_core s.size c c' ppn puts sound.whole removes) refl
 
   module _ (modified : Modifies (λ n. IsGateOrLog s.size n ⊎ IsPutIn puts n) s s') where
@@ -84,7 +85,7 @@ module _ (s s' : DiskState) (c c' : VolumeCore) (failed : Bool) (ppn : ℕ) (put
   pub volume_sound : s'.size ≡ s.size → (s'.honest → s.honest)
       → (s'.honest → Modifies (λ n. IsGateOrLog s.size n ⊎ IsPutIn puts n) s s')
       → (s'.honest → SameOutside (IsGateOrLog s.size) (with_puts puts s.contents) s'.contents)
-      → (s'.honest → NoneOpen s') → (s'.honest → IsShut s → IsShut s') → IsSound s' c' failed
+      → (s'.honest → NoneOpen s') → (s'.honest → IsShut s → IsShut s') → IsSoundCore s' c' failed
   volume_sound size was modified all none shut =
       sound_for s s' c' failed size (removed_core s.size c c' ppn puts sound.whole removes)
       (λ h' ok. bodies_of s'.contents c c' removes.live removes.pending

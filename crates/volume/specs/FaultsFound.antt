@@ -10,7 +10,7 @@ use Rattle.meaning.specs.Maps.{EachOnce, total}
 use Rattle.meaning.specs.Files.{Place, name_cmp}
 use Rattle.meaning.specs.Directories.{Node, items, MasterEntry, FileEntry, file_words, IsFileEntry}
 use Rattle.meaning.specs.Stands.{place_of}
-use Rattle.meaning.specs.Walks.{Leads}
+use Rattle.meaning.specs.Walks.{LeadsAlong}
 use Rattle.meaning.specs.Faults.{InSpace, IsBadVersion, ReadFile, ReadDirectory, times_in_file, times_in_directory}
 use Rattle.meaning.specs.Faults.{IsFileRead, IsDirectoryRead, IsSettledFault, HasFault}
 use Rattle.meaning.specs.Faults as faults
@@ -102,12 +102,12 @@ IsBadFileChain size contents first n = IsBadChain name_cmp file_words IsFileEntr
 pub record IsInChain (contents : Contents) (first : ℕ) (Fault : List FileEntry → Type 0) : Type 0 where
   pub nodes : List (Node FileEntry)
   pub last : ℕ
-  pub walk : Leads file_words contents first nodes last
+  pub walk : LeadsAlong file_words contents first nodes last
   pub fault : Fault (items nodes)
 
 pub record IsTwiceInDirectory (contents : Contents) (marks : ℕ → ℕ) (ppn first n : ℕ) : Type 0 where
   pub directory : ReadDirectory
-  pub walk : Leads file_words contents first directory.nodes directory.last
+  pub walk : LeadsAlong file_words contents first directory.nodes directory.last
   pub once : EachOnce name_cmp directory.files
   pub read : AllByRecursion (IsFileRead 1 contents ppn (items directory.nodes)) directory.files
   pub twice : 2 ≤ marks n + times_in_directory n directory

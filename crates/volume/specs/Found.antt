@@ -8,7 +8,7 @@ use Rattle.meaning.specs.Files.{name_cmp}
 use Rattle.meaning.specs.Directories.{items, MasterEntry, master_words, FileEntry, file_words}
 use Rattle.meaning.specs.Stands.{StoredFile, StoredDirectory, place_of, entry_of, reaches_in_file, reaches_in_directory}
 use Rattle.meaning.specs.Stands.{IsVersion, IsWhole}
-use Rattle.meaning.specs.Walks.{Leads}
+use Rattle.meaning.specs.Walks.{LeadsAlong}
 use Rattle.meaning.specs.Faults.{InSpace, IsMasterEntryOf, ReadDirectory, times_in_directory, IsFileRead}
 use Rattle.meaning.specs.Regions.{IsVolumeSize, table_blocks, table_start}
 use Rattle.meaning.specs.Blocks.{head_or_zero}
@@ -57,7 +57,7 @@ pub record AreFilesRead (contents : Contents) (ppn : ℕ) (entries : List FileEn
 
 -- The chain and the files of a directory that this entry names, as they were read.
 pub record IsEntryRead (contents : Contents) (entry : MasterEntry) (directory : ReadDirectory) : Type 0 where
-  pub walk : Leads file_words contents entry.1.1 directory.nodes directory.last
+  pub walk : LeadsAlong file_words contents entry.1.1 directory.nodes directory.last
   pub once : EachOnce name_cmp directory.files
   pub files : AllByRecursion (IsFileRead 1 contents entry.0 (items directory.nodes)) directory.files
 
@@ -89,7 +89,7 @@ pub record AreDirectoriesRead (contents : Contents) (entries : List MasterEntry)
   pub marked : (n : ℕ) → marks' n ≡ marks n + total (λ e. reaches_in_directory n e.1) found
 
 -- What was read: the master directory, and the directories that it names.
-pub record IsMapRead (size : ℕ) (contents : Contents) (first : ℕ) (master : ChainState MasterEntry)
+pub record IsMapFound (size : ℕ) (contents : Contents) (first : ℕ) (master : ChainState MasterEntry)
     (directories : List KnownDirectory) (marks : ℕ → ℕ) : Type 0 where
   pub volume : IsVolumeSize size
   pub home : IsHome size contents (home_of_master first)

@@ -84,8 +84,8 @@ pub record PutsTable (size : ℕ) (t t' : TableState) (before after : List Put) 
 -- A directory is made.
 
 -- how many blocks the master directory takes for one entry more
-abbrev pub growth : ChainState MasterEntry → ℕ
-growth chain = if length chain.entries == 42 * length chain.blocks then 1 else 0
+abbrev pub chain_growth : ChainState MasterEntry → ℕ
+chain_growth chain = if length chain.entries == 42 * length chain.blocks then 1 else 0
 
 -- the blocks that a new directory takes, its own first
 abbrev pub fresh_list : FreshBlocks → List ℕ
@@ -121,7 +121,7 @@ pub record IsMade (size : ℕ) (k k' : Known) (ppn protection first : ℕ) (puts
   pub absent : find nat_cmp ppn k.master.entries ≡ None
   -- the blocks that the chain of the master directory takes
   pub grown : List ℕ
-  pub count : length grown ≡ growth k.master
+  pub count : length grown ≡ chain_growth k.master
   pub inside : AllByRecursion (InSpace size) (first ∷ grown)
   pub free : AllByRecursion (IsFree k.table) (first ∷ grown)
   pub chain_puts : List Put

@@ -289,7 +289,7 @@ pub record Arrives (m m' : LiveMap) (ppn : ℕ) (name : FileName) (key : ℕ) (p
   pub booked : m'.table.booked ≡ m.table.booked + growth (entries_there m directory ppn)
 
 -- What is so of a directory that is to give up its entry of this name.
-pub record MayLeave (m : LiveMap) (d : LiveDirectory) (ppn : ℕ) (name : FileName) : Type 0 where
+pub record MayGiveUpEntry (m : LiveMap) (d : LiveDirectory) (ppn : ℕ) (name : FileName) : Type 0 where
   pub named : IsSome (find name_cmp name (map file_view d.chain.entries))
   pub aligned : length d.keys.items ≡ length d.chain.entries
   pub few : entries_there m d ppn < 2 ^ 64
@@ -297,7 +297,7 @@ pub record MayLeave (m : LiveMap) (d : LiveDirectory) (ppn : ℕ) (name : FileNa
   pub set : (n : ℕ) → times n d.chain.blocks ≤ bit m.table n
 
 -- A directory has no entry of this name any more; the last one has moved into its place, as has its key.
-pub record Leaves (m m' : LiveMap) (ppn : ℕ) (name : FileName) (before after : List Put) : Type 0 where
+pub record GivesUpEntry (m m' : LiveMap) (ppn : ℕ) (name : FileName) (before after : List Put) : Type 0 where
   pub place : ℕ
   pub word : ℕ × ℕ
   pub there : StandsAt nat_cmp (map master_view m.master.entries) ppn word place

@@ -172,13 +172,14 @@ before None = None
 before (Some o) = Some (o.1.at, as_known o.1)
 
 -- what is left of it: nothing, or while readers hold it a version that is no longer current
-abbrev pub left_of : Entered → Option LiveVersion
-left_of None = None
-left_of (Some o) = if o.1.readers == 0 then None else Some (record o.1 { is_current = false })
+abbrev pub live_left : Entered → Option LiveVersion
+live_left None = None
+live_left (Some o) = if o.1.readers == 0 then None else Some (record o.1 { is_current = false })
 
 abbrev pub IsEnded : List (Option LiveVersion) → List (Option LiveVersion) → Entered → Type 0
 IsEnded live live' None = Unit {0}
-IsEnded live live' (Some o) = (slot live o.0 ≡ Some o.1) × (o.1.is_current ≡ true) × (slot live' o.0 ≡ left_of (Some o))
+IsEnded live live' (Some o) = (slot live o.0 ≡ Some o.1) × (o.1.is_current ≡ true)
+    × (slot live' o.0 ≡ live_left (Some o))
 
 abbrev pub HasOtherKey : Entered → ℕ → Type 0
 HasOtherKey None k = Unit {0}
@@ -209,8 +210,8 @@ pub record MakesCurrent (size : ℕ) (c c' : VolumeCore) (key : ℕ) (p : Pendin
   -- its blocks are held no more; those of the one before are while readers hold it
   pub unheld : (n : ℕ) → 0 < times n (published.grown ++ at ∷ ribs) → holds c.known.table n ≡ 0
   pub held : (n : ℕ) → holds c'.known.table n + times n p.version.blocks
-      ≡ holds c.known.table n + held_reaches n (left_of old)
-  pub booked : c'.known.table.booked + cost_before (before old) ≡ c.known.table.booked + held_cost (left_of old)
+      ≡ holds c.known.table n + held_reaches n (live_left old)
+  pub booked : c'.known.table.booked + cost_before (before old) ≡ c.known.table.booked + held_cost (live_left old)
   pub unchanged : c'.known.table.changed ≡ replicate (table_blocks size) false
   -- no block is held past the end of the disk
   pub sound : IsTable c'.known.table

@@ -89,8 +89,8 @@ IsLine d name l = (facts : FileFacts) × IsNamedVersion d name facts
     })
 
 -- What a list is refused by.
-abbrev pub IsListRefusal : CallError → Type 0
-IsListRefusal (Refused code) = code ≡ NoDirectory
-IsListRefusal Device = ⊥
-IsListRefusal NoMemory = Unit {0}
-IsListRefusal Failed = Unit {0}
+abbrev pub IsListError : CallError → Type 0
+IsListError (Refused code) = code ≡ NoDirectory
+IsListError Device = ⊥
+IsListError NoMemory = Unit {0}
+IsListError Failed = Unit {0}

@@ -19,7 +19,7 @@ use Rattle.volume.specs.Known.{IsNamed, KnownVersion, KnownDirectory, Known, blo
 use Rattle.volume.specs.Known.{cost_of_version}
 use Rattle.volume.specs.Live.{VolumeCore, as_known, slot, IsKeyed, held_reaches, held_cost}
 use Rattle.volume.specs.Making.{PutsTable}
-use Rattle.volume.specs.Publishing.{left_of}
+use Rattle.volume.specs.Publishing.{live_left}
 use Rattle.volume.specs.declared.live.LiveVersion.{LiveVersion}
 
 -- Files.
@@ -83,16 +83,16 @@ pub record RemovesFile (size : ℕ) (c c' : VolumeCore) (ppn : ℕ) (name : File
   pub pending : c'.pending ≡ c.pending
   pub there : slot c.live key ≡ Some v
   pub current : v.is_current ≡ true
-  pub ended : slot c'.live key ≡ left_of (Some (key, v))
+  pub ended : slot c'.live key ≡ live_left (Some (key, v))
   pub others : (k : ℕ) → (k ≡ key → ⊥) → slot c'.live k ≡ slot c.live k
   pub keyed : AllZip (IsKeyed c'.live) c'.known.directories c'.keys
   -- while readers hold the version, its blocks are held and its cost stays booked
-  pub held : (n : ℕ) → holds c'.known.table n ≡ holds c.known.table n + held_reaches n (left_of (Some (key, v)))
+  pub held : (n : ℕ) → holds c'.known.table n ≡ holds c.known.table n + held_reaches n (live_left (Some (key, v)))
   -- what the directory costs less is not booked any more; names that are being created count as its entries
   pub booked : c'.known.table.booked + cost_of_version (as_known v)
       + (directory_cost (entries_with c removed.directory ppn)
       - directory_cost (entries_with c removed.directory ppn - 1))
-      ≡ c.known.table.booked + held_cost (left_of (Some (key, v)))
+      ≡ c.known.table.booked + held_cost (live_left (Some (key, v)))
   pub unchanged : c'.known.table.changed ≡ replicate (table_blocks size) false
   -- no block is held past the end of the disk
   pub sound : IsTable c'.known.table

@@ -23,7 +23,7 @@ HasSomeBody contents v = (body : List ℕ) × (length body ≡ v.words) × HasBo
 
 -- What is in core is whole, and while the disk is honest and the volume hasn't failed it is the disk's; the
 -- versions that readers hold, and those that are being written, have their words then.
-pub record IsSound (s : DiskState) (c : VolumeCore) (failed : Bool) : Type 0 where
+pub record IsSoundCore (s : DiskState) (c : VolumeCore) (failed : Bool) : Type 0 where
   pub whole : IsWholeCore s.size c
   pub rest : s.honest → failed ≡ false → IsAtRest s c.known
   pub read : s.honest → failed ≡ false → (key : ℕ) (v : LiveVersion) → slot c.live key ≡ Some v → 0 < v.readers
@@ -36,8 +36,8 @@ abbrev pub RestsAt : DiskState → Files File → Type 0
 RestsAt s files = AtRest s (λ c. SettledStands s.size c files)
 
 -- it stands for the one or for the other, whatever its gate
-abbrev pub StandsForEither : ℕ → Files File → Files File → Contents → Type 0
-StandsForEither size f g c = Stands size c f ⊎ Stands size c g
+abbrev pub StandsForOneOf : ℕ → Files File → Files File → Contents → Type 0
+StandsForOneOf size f g c = Stands size c f ⊎ Stands size c g
 
 -- it stands for whatever something stood for that a crash could leave at s
 abbrev pub StandsLikeBefore : DiskState → Contents → Type 0

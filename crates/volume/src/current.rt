@@ -16,7 +16,7 @@ ghost use Rattle.volume.specs.Cores.{file_view, master_view};
 ghost use Rattle.volume.specs.Known.{blocks_reached};
 ghost use Rattle.volume.specs.Live.{slot, pending_at, IsWholeCore};
 ghost use Rattle.volume.specs.LiveCores.{core_of};
-ghost use Rattle.volume.specs.Publishing.{ClearsBits, PutsInUse, MayRetire, Retires, TakesPlaces, left_of};
+ghost use Rattle.volume.specs.Publishing.{ClearsBits, PutsInUse, MayRetire, Retires, TakesPlaces, live_left};
 ghost use Rattle.volume.specs.Publishing.{MakesCurrent, IsPlaced, IsSupplied};
 ghost use Rattle.volume.specs.declared.live.LiveDirectory.{LiveDirectory};
 ghost use Rattle.volume.specs.declared.live.LiveVersion.{LiveVersion};
@@ -294,9 +294,9 @@ pub(crate) fn retire(versions: &mut Slab<LiveVersion>, table: &mut Table, key: u
     requires sound { IsTable table.old }
     requires may { MayRetire table.old versions.old.slots key }
     ensures retired { (v : LiveVersion) → slot versions.old.slots key ≡ Some v
-        → Retires table.old table.new v (left_of (Some (key, v))) }
+        → Retires table.old table.new v (live_left (Some (key, v))) }
     ensures left { (v : LiveVersion) → slot versions.old.slots key ≡ Some v
-        → slot versions.new.slots key ≡ left_of (Some (key, v)) }
+        → slot versions.new.slots key ≡ live_left (Some (key, v)) }
     ensures others { (k : ℕ) → (k ≡ key → ⊥) → slot versions.new.slots k ≡ slot versions.old.slots k }
 {
     let Some(version) = versions.get_mut(key) else {
@@ -317,9 +317,9 @@ fn retire_before(versions: &mut Slab<LiveVersion>, table: &mut Table, old: Optio
     requires sound { IsTable table.old }
     requires may { IfSome old (λ key. MayRetire table.old versions.old.slots key) }
     ensures retired { (key : ℕ) (v : LiveVersion) → old ≡ Some key → slot versions.old.slots key ≡ Some v
-        → Retires table.old table.new v (left_of (Some (key, v))) }
+        → Retires table.old table.new v (live_left (Some (key, v))) }
     ensures left { (key : ℕ) (v : LiveVersion) → old ≡ Some key → slot versions.old.slots key ≡ Some v
-        → slot versions.new.slots key ≡ left_of (Some (key, v)) }
+        → slot versions.new.slots key ≡ live_left (Some (key, v)) }
     ensures others { (key k : ℕ) → old ≡ Some key → (k ≡ key → ⊥)
         → slot versions.new.slots k ≡ slot versions.old.slots k }
     ensures none { old ≡ None → (versions.new ≡ versions.old) × (table.new ≡ table.old) }

@@ -15,7 +15,7 @@ ghost use Rattle.volume.specs.Live.{IsWholeCore};
 ghost use Rattle.volume.specs.LiveCores.{core_of};
 ghost use Rattle.volume.specs.Places.{prime_at};
 ghost use Rattle.volume.specs.RemovingDirectories.{directory_removed, IsEmptyAt, HasEntries, RemovesDirectory};
-ghost use Rattle.volume.specs.Rest.{RestsAt, StandsForEither, KeepsRead, KeepsEachWritten};
+ghost use Rattle.volume.specs.Rest.{RestsAt, StandsForOneOf, KeepsRead, KeepsEachWritten};
 ghost use Rattle.volume.specs.declared.error.CallError.TheVariants.{Refused, Device, Failed, NoMemory};
 
 use crate::CallError;
@@ -90,7 +90,7 @@ impl<D: Disk> Volume<D> {
         // f without the directory.
         ensures crash { (D.state self.new.disk).honest → (f : Files File) → RestsAt (D.state self.old.disk) f
             → LeavesOnly (D.state self.old.disk) (D.state self.new.disk)
-            (StandsForEither (D.state self.old.disk).size f (directory_removed f ppn)) }
+            (StandsForOneOf (D.state self.old.disk).size f (directory_removed f ppn)) }
         // At Ok all that a crash may leave stands for f without the directory.
         ensures done { (D.state self.new.disk).honest → (f : Files File) → RestsAt (D.state self.old.disk) f
             → OnOk result (RestsAt (D.state self.new.disk) (directory_removed f ppn)) }

@@ -10,7 +10,7 @@ ghost use Rattle.volume.specs.Cores.{file_view, master_view};
 ghost use Rattle.volume.specs.Found.{IsAdded};
 ghost use Rattle.volume.specs.Live.{IsKeyed, AreStanding};
 ghost use Rattle.volume.specs.LiveCores.{live_directory};
-ghost use Rattle.volume.specs.Queries.{line, IsLine, IsListRefusal};
+ghost use Rattle.volume.specs.Queries.{line, IsLine, IsListError};
 ghost use Rattle.volume.specs.Rest.{RestsAt};
 ghost use Rattle.volume.specs.declared.error.CallError.TheVariants.{Refused, NoMemory, Failed};
 
@@ -127,7 +127,7 @@ impl<D: Disk> Volume<D> {
             → RestsAt (D.state self.now.disk) files
             → (IsErrOf result (Refused NoDirectory) ↔ (get files ppn ≡ None)) }
         ensures failed { IsErrOf result Failed ↔ IsTrue self.now.failed }
-        ensures only { IfErr result IsListRefusal }
+        ensures only { IfErr result IsListError }
     {
         if self.failed {
             return Err(CallError::Failed);

@@ -18,10 +18,10 @@ ghost use Rattle.volume.specs.Beginning.{IsDirectoryOf};
 ghost use Rattle.volume.specs.Known.{KnownDirectory};
 ghost use Rattle.volume.specs.Live.{IsWholeCore};
 ghost use Rattle.volume.specs.LiveCores.{core_of};
-ghost use Rattle.volume.specs.Making.{put_in_use, Uses, TakesBlocks, PutsTable, growth, fresh_list, files_made};
+ghost use Rattle.volume.specs.Making.{put_in_use, Uses, TakesBlocks, PutsTable, chain_growth, fresh_list, files_made};
 ghost use Rattle.volume.specs.Making.{IsEntered, IsMade};
 ghost use Rattle.volume.specs.Places.{prime_at};
-ghost use Rattle.volume.specs.Rest.{RestsAt, StandsForEither, KeepsRead, KeepsEachWritten};
+ghost use Rattle.volume.specs.Rest.{RestsAt, StandsForOneOf, KeepsRead, KeepsEachWritten};
 ghost use Rattle.volume.specs.declared.error.CallError.TheVariants.{Refused, Device, Failed};
 
 use crate::CallError;
@@ -126,7 +126,7 @@ fn enter(
     set: &mut ChangeSet,
 ) -> Result<(), NoMemory>
     requires absent { find nat_cmp entry.ppn (core_of core.old).known.master.entries ≡ None }
-    requires count { length (option_to_list fresh) ≡ growth (core_of core.old).known.master }
+    requires count { length (option_to_list fresh) ≡ chain_growth (core_of core.old).known.master }
     requires new { (n : ℕ) → fresh ≡ Some n → times n core.old.master.blocks ≡ 0 }
     requires empty { set.old ≡ [] }
     ensures entered { OnOk result (IsEntered (core_of core.old).known
@@ -174,7 +174,7 @@ fn make_in_core(
         ↔ (find nat_cmp ppn (core_of core.old).known.master.entries ≡ None → ⊥) }
     ensures room { find nat_cmp ppn (core_of core.old).known.master.entries ≡ None
         → (IsErrOf result (Refused NoRoom)
-        ↔ (space core.old.table.size < core.old.table.booked + 1 + growth (core_of core.old).known.master)) }
+        ↔ (space core.old.table.size < core.old.table.booked + 1 + chain_growth (core_of core.old).known.master)) }
     ensures codes { (code : ErrorCode) → IsErrOf result (Refused code) → (code ≡ NameExists) ⊎ (code ≡ NoRoom) }
     ensures plain { (IsErrOf result Device → ⊥) × (IsErrOf result Failed → ⊥) }
 {
@@ -233,7 +233,7 @@ impl<D: Disk> Volume<D> {
         // f with the directory.
         ensures crash { (D.state self.new.disk).honest → (f : Files File) → RestsAt (D.state self.old.disk) f
             → LeavesOnly (D.state self.old.disk) (D.state self.new.disk)
-            (StandsForEither (D.state self.old.disk).size f (files_made f ppn protection)) }
+            (StandsForOneOf (D.state self.old.disk).size f (files_made f ppn protection)) }
         // At Ok all that a crash may leave stands for f with the directory.
         ensures done { (D.state self.new.disk).honest → (f : Files File) → RestsAt (D.state self.old.disk) f
             → OnOk result (RestsAt (D.state self.new.disk) (files_made f ppn protection)) }
@@ -266,7 +266,7 @@ impl<D: Disk> Volume<D> {
         ensures room { self.old.failed ≡ false → find nat_cmp ppn self.old.core.known.master.entries ≡ None
             → (IsErrOf result (Refused NoRoom)
             ↔ (space (D.state self.old.disk).size < self.old.core.known.table.booked + 1
-            + growth self.old.core.known.master)) }
+            + chain_growth self.old.core.known.master)) }
         ensures codes { (code : ErrorCode) → IsErrOf result (Refused code) → (code ≡ NameExists) ⊎ (code ≡ NoRoom) }
         ensures device { IsErrOf result Device → self.new.failed ≡ true }
         ensures counted { IsErrOf result Device → (D.state self.new.disk).failures

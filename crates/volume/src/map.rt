@@ -39,14 +39,14 @@ pub struct Volume<D: Disk> {
 
 impl<D: Disk> Model for Volume<D> {
     ghost use Rattle.volume.specs.LiveCores.{core_of};
-    ghost use Rattle.volume.specs.Rest.{IsSound};
+    ghost use Rattle.volume.specs.Rest.{IsSoundCore};
     ghost use Rattle.volume.specs.States.{VolumeState};
 
     ghost Value = { VolumeState D };
 
     ghost view = { λ v. record { disk = v.disk; core = core_of v.map; failed = v.failed } };
 
-    ghost invariant = { λ v. IsSound (D.state v.disk) (core_of v.map) v.failed };
+    ghost invariant = { λ v. IsSoundCore (D.state v.disk) (core_of v.map) v.failed };
 }
 
 impl<D: Disk> Volume<D> {

@@ -9,7 +9,7 @@ ghost use Rattle.meaning.specs.Home.{IsHome};
 ghost use Rattle.meaning.specs.Maps.{times};
 ghost use Rattle.meaning.specs.Regions.{IsVolumeSize, table_blocks};
 ghost use Rattle.meaning.specs.Stands.{DiskMap as MapValue};
-ghost use Rattle.meaning.specs.Walks.{Leads};
+ghost use Rattle.meaning.specs.Walks.{LeadsAlong};
 ghost use Rattle.meaning.specs.Faults.{InSpace, IsMasterEntryOf};
 ghost use Rattle.alloctab.specs.Lists.{digit_at};
 ghost use Rattle.alloctab.specs.Reached.{wanted_bit};
@@ -18,7 +18,7 @@ ghost use Rattle.directory.specs.Chains.{nodes_of, IsChain, IsOn, viewed};
 ghost use Rattle.volume.specs.Cores.{master_view, known_directory, known_of};
 ghost use Rattle.volume.specs.Homes.{home_of_master};
 ghost use Rattle.volume.specs.Known.{known_reaches, IsWholeDirectory, IsWholeMap, IsBooked, IsHeld};
-ghost use Rattle.volume.specs.Found.{IsOnlySpace, IsMapRead, IsRightFor, IsWrongFor};
+ghost use Rattle.volume.specs.Found.{IsOnlySpace, IsMapFound, IsRightFor, IsWrongFor};
 ghost use Rattle.volume.specs.FaultsFound.{NamesInSpace, SettledRefuses, IsTableRefusal};
 ghost use Rattle.volume.specs.declared.error.VolumeError.TheVariants.{Device, TableWrong};
 
@@ -48,7 +48,7 @@ fn load_master<D: Disk>(
     ensures on { (D.state disk.new).honest
         → IfOk result (λ chain. IsOn master_words (D.state disk.old).contents (viewed master_view chain)) }
     ensures walk { (D.state disk.new).honest
-        → IfOk result (λ chain. Leads master_words (D.state disk.old).contents first
+        → IfOk result (λ chain. LeadsAlong master_words (D.state disk.old).contents first
         (nodes_of chain.blocks (map master_view chain.entries)) 0) }
     ensures begins { IfOk result (λ chain. head_or_zero chain.blocks ≡ first) }
     ensures chain { IfOk result (λ chain. IsChain nat_cmp (IsMasterEntryOf 1) (viewed master_view chain)) }
@@ -89,7 +89,7 @@ fn read_tree<D: Disk>(
     // What was read, or met where it is refused.
     ensures read { (D.state disk.new).honest
         → IsHome (D.state disk.old).size (D.state disk.old).contents (home_of_master first)
-        → IfOk result (λ tree. IsMapRead (D.state disk.old).size (D.state disk.old).contents first
+        → IfOk result (λ tree. IsMapFound (D.state disk.old).size (D.state disk.old).contents first
         (viewed master_view tree.0) (map known_directory tree.1.items) (digit_at reached.new)) }
     ensures fault { (D.state disk.new).honest
         → IsHome (D.state disk.old).size (D.state disk.old).contents (home_of_master first)

@@ -19,7 +19,7 @@ ghost use Rattle.volume.specs.LiveCores.{core_of};
 ghost use Rattle.volume.specs.Publishing.{MakesCurrent, IsPlaced, IsPublishedCore, IsSupplied, file_of};
 ghost use Rattle.volume.specs.Publishing.{files_published};
 ghost use Rattle.volume.specs.Putting.{HasNoPlace};
-ghost use Rattle.volume.specs.Rest.{IsSound, RestsAt, StandsForEither, KeepsRead, KeepsWritten};
+ghost use Rattle.volume.specs.Rest.{IsSoundCore, RestsAt, StandsForOneOf, KeepsRead, KeepsWritten};
 ghost use Rattle.volume.specs.declared.error.CallError.TheVariants.{Refused, Device, Failed, NoMemory};
 ghost use Rattle.volume.specs.declared.live.LiveVersion.{LiveVersion};
 ghost use Rattle.volume.specs.declared.pending.PendingVersion.{PendingVersion};
@@ -86,7 +86,7 @@ fn publish_written<D: Disk>(
     supplies: Supplies,
 ) -> Result<(), CallError>
     // What the caller sees to.
-    requires sound { IsSound (D.state disk.old) (core_of map.old) false }
+    requires sound { IsSoundCore (D.state disk.old) (core_of map.old) false }
     requires alive { failed.old ≡ false }
     requires there { IsSome (pending_at (core_of map.old).pending key) }
     requires placed { (p : PendingVersion) → pending_at (core_of map.old).pending key ≡ Some p
@@ -98,14 +98,14 @@ fn publish_written<D: Disk>(
     requires slot { HasRoomFor map.old.versions 1 }
 
     // What it does to core and disk.
-    ensures sound { IsSound (D.state disk.new) (core_of map.new) failed.new }
+    ensures sound { IsSoundCore (D.state disk.new) (core_of map.new) failed.new }
     ensures made_current { (p : PendingVersion) → pending_at (core_of map.old).pending key ≡ Some p
         → (at : ℕ) × (ribs : List ℕ) × (puts : List Put)
         × MakesCurrent (D.state disk.old).size (core_of map.old) (core_of map.new) key p at ribs puts }
     ensures crash { (D.state disk.new).honest → (f : Files File) → RestsAt (D.state disk.old) f → (p : PendingVersion)
         → pending_at (core_of map.old).pending key ≡ Some p
         → (body : List ℕ) → length body ≡ p.version.words → HasBody (D.state disk.old).contents p.version.blocks body
-        → LeavesOnly (D.state disk.old) (D.state disk.new) (StandsForEither (D.state disk.old).size f
+        → LeavesOnly (D.state disk.old) (D.state disk.new) (StandsForOneOf (D.state disk.old).size f
         (files_published f p.prime.ppn p.prime.file (file_of p.prime body))) }
     ensures done { (D.state disk.new).honest → (f : Files File) → RestsAt (D.state disk.old) f → (p : PendingVersion)
         → pending_at (core_of map.old).pending key ≡ Some p
@@ -178,7 +178,7 @@ impl<D: Disk> Volume<D> {
             → (body : List ℕ) → length body ≡ p.version.words
             → HasBody (D.state self.old.disk).contents p.version.blocks body
             → LeavesOnly (D.state self.old.disk) (D.state self.new.disk)
-            (StandsForEither (D.state self.old.disk).size f
+            (StandsForOneOf (D.state self.old.disk).size f
             (files_published f p.prime.ppn p.prime.file (file_of p.prime (splice body block words.now)))) }
         // At Ok all that a crash may leave stands for the latter.
         ensures done { (D.state self.new.disk).honest → (f : Files File) → RestsAt (D.state self.old.disk) f

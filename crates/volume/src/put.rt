@@ -20,7 +20,7 @@ ghost use Rattle.retrieval.specs.declared.error.BodyError.TheVariants as body;
 ghost use Rattle.volume.specs.Live.{IsWholeCore, pending_at};
 ghost use Rattle.volume.specs.LiveCores.{core_of};
 ghost use Rattle.volume.specs.Putting.{HasNoPlace, IsReady, Regrows, Regrown};
-ghost use Rattle.volume.specs.Rest.{IsSound, RestsAt, KeepsRead, KeepsWritten};
+ghost use Rattle.volume.specs.Rest.{IsSoundCore, RestsAt, KeepsRead, KeepsWritten};
 ghost use Rattle.volume.specs.declared.error.CallError.TheVariants.{Refused, Device, Failed, NoMemory};
 ghost use Rattle.volume.specs.declared.pending.PendingVersion.{PendingVersion};
 
@@ -221,11 +221,11 @@ pub(crate) fn put_in_core<D: Disk>(
     block: u32,
     words: &[Word],
 ) -> Result<(), CallError>
-    requires sound { IsSound (D.state disk.old) (core_of map.old) failed.old }
+    requires sound { IsSoundCore (D.state disk.old) (core_of map.old) failed.old }
     requires live { IsSome (pending_at (core_of map.old).pending key) }
     requires first { 0 < block }
 
-    ensures sound { IsSound (D.state disk.new) (core_of map.new) failed.new }
+    ensures sound { IsSoundCore (D.state disk.new) (core_of map.new) failed.new }
 
     // Its writes are quiet: whatever a crash leaves at any moment stands for the files from before.
     ensures quiet { (D.state disk.new).honest → (f : Files File) → RestsAt (D.state disk.old) f

@@ -11,7 +11,7 @@ ghost use Rattle.volume.specs.Cores.{file_view, master_view};
 ghost use Rattle.volume.specs.Live.{IsKeyed, AreStanding, cost_beyond};
 ghost use Rattle.volume.specs.LiveCores.{live_directory};
 ghost use Rattle.volume.specs.Queries.{room_of, protection_answer, IsPlainRefusal, IsNamedVersion, IsLookAnswer};
-ghost use Rattle.volume.specs.Rest.{IsSound, RestsAt};
+ghost use Rattle.volume.specs.Rest.{IsSoundCore, RestsAt};
 ghost use Rattle.volume.specs.declared.error.CallError.TheVariants.{Refused, Failed};
 
 use crate::CallError;
@@ -87,7 +87,7 @@ impl<D: Disk> Volume<D> {
     /// What its contract says of soundness is so of every volume, whatever the answer: a caller has it by asking.
     pub fn has_failed(&self) -> bool
         ensures value { result ≡ self.now.failed }
-        ensures sound { IsSound (D.state self.now.disk) self.now.core self.now.failed }
+        ensures sound { IsSoundCore (D.state self.now.disk) self.now.core self.now.failed }
     {
         self.failed
     }

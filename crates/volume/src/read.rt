@@ -7,7 +7,7 @@ ghost use Rattle.meaning.specs.Files.{name_cmp};
 ghost use Rattle.meaning.specs.Maps.{EachOnce, times, total};
 ghost use Rattle.meaning.specs.Regions.{IsVolumeSize};
 ghost use Rattle.meaning.specs.Stands.{place_of};
-ghost use Rattle.meaning.specs.Walks.{Leads};
+ghost use Rattle.meaning.specs.Walks.{LeadsAlong};
 ghost use Rattle.meaning.specs.Faults.{InSpace};
 ghost use Rattle.std.specs.Ordering.{nat_cmp};
 ghost use Rattle.alloctab.specs.Lists.{digit_at};
@@ -45,7 +45,7 @@ fn load_files<D: Disk>(
     ensures on { (D.state disk.new).honest
         → IfOk result (λ chain. IsOn file_words (D.state disk.old).contents (viewed file_view chain)) }
     ensures walk { (D.state disk.new).honest
-        → IfOk result (λ chain. Leads file_words (D.state disk.old).contents first
+        → IfOk result (λ chain. LeadsAlong file_words (D.state disk.old).contents first
         (nodes_of chain.blocks (map file_view chain.entries)) 0) }
     ensures begins { IfOk result (λ chain. head_or_zero chain.blocks ≡ first) }
     ensures chain { IfOk result (λ chain. IsChain name_cmp IsFileEntry (viewed file_view chain)) }

@@ -20,12 +20,12 @@ ghost use Rattle.volume.specs.Cores.{master_view};
 ghost use Rattle.volume.specs.Known.{KnownDirectory};
 ghost use Rattle.volume.specs.Live.{slot, IsWholeCore};
 ghost use Rattle.volume.specs.LiveCores.{core_of};
-ghost use Rattle.volume.specs.Moving.{files_moved, HasFile, HasNoRoom, MovesAcross, MayArrive, Arrives, MayLeave};
-ghost use Rattle.volume.specs.Moving.{Leaves};
+ghost use Rattle.volume.specs.Moving.{files_moved, HasFile, HasNoRoom, MovesAcross, MayArrive, Arrives, MayGiveUpEntry};
+ghost use Rattle.volume.specs.Moving.{GivesUpEntry};
 ghost use Rattle.volume.specs.Pins.{IsKeyOf};
 ghost use Rattle.volume.specs.Places.{prime_at};
 ghost use Rattle.volume.specs.Publishing.{PutsInUse};
-ghost use Rattle.volume.specs.Rest.{IsSound, RestsAt, StandsForEither, KeepsRead, KeepsEachWritten};
+ghost use Rattle.volume.specs.Rest.{IsSoundCore, RestsAt, StandsForOneOf, KeepsRead, KeepsEachWritten};
 ghost use Rattle.volume.specs.declared.error.CallError.TheVariants.{Refused, Device, Failed, NoMemory};
 ghost use Rattle.volume.specs.declared.live.LiveDirectory.{LiveDirectory};
 ghost use Rattle.volume.specs.declared.live.LiveVersion.{LiveVersion};
@@ -144,10 +144,10 @@ fn leave(core: &mut LiveMap, ppn: Ppn, name: &FileName, set: &mut ChangeSet)
     requires aligned { length core.old.directories.items ≡ length core.old.master.entries }
     requires may_leave { (d : LiveDirectory) (place : ℕ) (v : ℕ × ℕ)
         → StandsAt nat_cmp (map master_view core.old.master.entries) ppn v place
-        → slice_get core.old.directories.items place ≡ Some d → MayLeave core.old d ppn name.now }
+        → slice_get core.old.directories.items place ≡ Some d → MayGiveUpEntry core.old d ppn name.now }
     requires booked { 0 < core.old.table.booked }
     requires room { length set.old ≤ 2 }
-    ensures { Leaves core.old core.new ppn name.now set.old set.new }
+    ensures { GivesUpEntry core.old core.new ppn name.now set.old set.new }
 {
     let place = place_of(&core.master, ppn);
     let GivenUp { block, .. } = remove_entry(&mut core.directories[place], name, set);
@@ -207,7 +207,7 @@ fn move_across<D: Disk>(
     supplies: EntrySupplies,
 ) -> Result<(), CallError>
     // What the caller sees to.
-    requires sound { IsSound (D.state disk.old) (core_of core.old) false }
+    requires sound { IsSoundCore (D.state disk.old) (core_of core.old) false }
     requires alive { failed.old ≡ false }
     requires there { IsKeyOf (core_of core.old) ppn name.now key }
     requires apart { to_ppn ≡ ppn → ⊥ }
@@ -217,7 +217,7 @@ fn move_across<D: Disk>(
     requires unclaimed { claims (core_of core.old).pending (place_of ppn name.now) ≡ false }
 
     // What it does to core and disk.
-    ensures sound { IsSound (D.state disk.new) (core_of core.new) failed.new }
+    ensures sound { IsSoundCore (D.state disk.new) (core_of core.new) failed.new }
     ensures moved { OnOk result ((v : LiveVersion) × (words : List ℕ) × (puts : List Put)
         × MovesAcross (D.state disk.old).size (core_of core.old) (core_of core.new) ppn name.now to_ppn to.now
         protection key v words puts × ((D.state disk.new).honest → (D.state disk.old).contents v.at ≡ Some words)) }
@@ -225,7 +225,7 @@ fn move_across<D: Disk>(
     ensures held { (k : ℕ) (v : LiveVersion) → slot (core_of core.old).live k ≡ Some v
         → (prime : PrimeValue) × (slot (core_of core.new).live k ≡ Some (record v { prime = prime })) }
     ensures crash { (D.state disk.new).honest → (f : Files File) → RestsAt (D.state disk.old) f
-        → LeavesOnly (D.state disk.old) (D.state disk.new) (StandsForEither (D.state disk.old).size f
+        → LeavesOnly (D.state disk.old) (D.state disk.new) (StandsForOneOf (D.state disk.old).size f
         (files_moved f ppn name.now to_ppn to.now protection)) }
     ensures done { (D.state disk.new).honest → (f : Files File) → RestsAt (D.state disk.old) f
         → OnOk result (RestsAt (D.state disk.new) (files_moved f ppn name.now to_ppn to.now protection)) }
@@ -289,7 +289,7 @@ impl<D: Disk> Volume<D> {
         // What it does to the files.
         ensures crash { (D.state self.new.disk).honest → (f : Files File) → RestsAt (D.state self.old.disk) f
             → LeavesOnly (D.state self.old.disk) (D.state self.new.disk)
-            (StandsForEither (D.state self.old.disk).size f (files_moved f ppn name.now to_ppn to.now protection)) }
+            (StandsForOneOf (D.state self.old.disk).size f (files_moved f ppn name.now to_ppn to.now protection)) }
         ensures done { (D.state self.new.disk).honest → (f : Files File) → RestsAt (D.state self.old.disk) f
             → OnOk result (RestsAt (D.state self.new.disk) (files_moved f ppn name.now to_ppn to.now protection)) }
 

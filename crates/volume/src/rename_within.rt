@@ -25,7 +25,7 @@ ghost use Rattle.volume.specs.LiveCores.{core_of};
 ghost use Rattle.volume.specs.Moving.{files_moved, IsFreeFor, IsPrimeMoved, IsMoveRefusal, MovesWithin};
 ghost use Rattle.volume.specs.Pins.{IsKeyOf};
 ghost use Rattle.volume.specs.Places.{prime_at};
-ghost use Rattle.volume.specs.Rest.{IsSound, RestsAt, StandsForEither, KeepsRead, KeepsEachWritten};
+ghost use Rattle.volume.specs.Rest.{IsSoundCore, RestsAt, StandsForOneOf, KeepsRead, KeepsEachWritten};
 ghost use Rattle.volume.specs.declared.error.CallError.{CallError};
 ghost use Rattle.volume.specs.declared.error.CallError.TheVariants.{Refused, Device, Failed, NoMemory};
 ghost use Rattle.volume.specs.declared.live.LiveVersion.{LiveVersion};
@@ -245,7 +245,7 @@ fn move_within<D: Disk>(
     key: usize,
 ) -> Result<(), CallError>
     // What the caller sees to.
-    requires sound { IsSound (D.state disk.old) (core_of map.old) false }
+    requires sound { IsSoundCore (D.state disk.old) (core_of map.old) false }
     requires alive { failed.old ≡ false }
     requires there { IsKeyOf (core_of map.old) ppn name.now key }
     requires free { (d : KnownDirectory) → IsDirectoryOf (core_of map.old) ppn d → IsFreeFor d name.now to.now }
@@ -254,7 +254,7 @@ fn move_within<D: Disk>(
     requires unclaimed { claims (core_of map.old).pending (place_of ppn name.now) ≡ false }
 
     // What it does to core and disk.
-    ensures sound { IsSound (D.state disk.new) (core_of map.new) failed.new }
+    ensures sound { IsSoundCore (D.state disk.new) (core_of map.new) failed.new }
     ensures moved { OnOk result ((v : LiveVersion) × (words : List ℕ) × (puts : List Put)
         × MovesWithin (D.state disk.old).size (core_of map.old) (core_of map.new) ppn name.now to.now protection key v
         words puts × ((D.state disk.new).honest → (D.state disk.old).contents v.at ≡ Some words)) }
@@ -262,7 +262,7 @@ fn move_within<D: Disk>(
     ensures held { (k : ℕ) (v : LiveVersion) → slot (core_of map.old).live k ≡ Some v
         → (prime : PrimeValue) × (slot (core_of map.new).live k ≡ Some (record v { prime = prime })) }
     ensures crash { (D.state disk.new).honest → (f : Files File) → RestsAt (D.state disk.old) f
-        → LeavesOnly (D.state disk.old) (D.state disk.new) (StandsForEither (D.state disk.old).size f
+        → LeavesOnly (D.state disk.old) (D.state disk.new) (StandsForOneOf (D.state disk.old).size f
         (files_moved f ppn name.now ppn to.now protection)) }
     ensures done { (D.state disk.new).honest → (f : Files File) → RestsAt (D.state disk.old) f
         → OnOk result (RestsAt (D.state disk.new) (files_moved f ppn name.now ppn to.now protection)) }
@@ -328,7 +328,7 @@ impl<D: Disk> Volume<D> {
         // f with the file so.
         ensures crash { (D.state self.new.disk).honest → (f : Files File) → RestsAt (D.state self.old.disk) f
             → LeavesOnly (D.state self.old.disk) (D.state self.new.disk)
-            (StandsForEither (D.state self.old.disk).size f (files_moved f ppn name.now ppn to.now protection)) }
+            (StandsForOneOf (D.state self.old.disk).size f (files_moved f ppn name.now ppn to.now protection)) }
         // At Ok all that a crash may leave stands for the latter.
         ensures done { (D.state self.new.disk).honest → (f : Files File) → RestsAt (D.state self.old.disk) f
             → OnOk result (RestsAt (D.state self.new.disk) (files_moved f ppn name.now ppn to.now protection)) }

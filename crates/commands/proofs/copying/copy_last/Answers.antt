@@ -1,6 +1,6 @@
 use Rattle.std.proofs.Common.{◌∷◌, [], ◌++◌}
 use Rattle.std.proofs.lemmas.Result.{err_from_is_err_and}
-use Rattle.meaning.specs.Plans.{each, sizes, lists, goes_to, takes, puts}
+use Rattle.meaning.specs.Plans.{each, sizes, lists, goes_to, takes, asks_out}
 use Rattle.commands.proofs.LedLaws.{led_on}
 use Rattle.commands.proofs.CopyingLaws.{led_each, led_first}
 use Rattle.commands.proofs.copying.copy_last.Goals as goal
@@ -8,7 +8,7 @@ use Rattle.commands.proofs.copying.copy_last.Goals as goal
 pub returns-in_err-ask_all : goal.returns-in_err-ask_all
 returns-in_err-ask_all g c =
     let p = err_from_is_err_and c.from_residual-in_err-ask_all.result c.from_residual-in_err-ask_all.ensures.1 in
-    let behind = goes_to c.args.moment c.args.n ∷ takes c.args.moment ∷ puts c.args.moment ∷ [] in
+    let behind = goes_to c.args.moment c.args.n ∷ takes c.args.moment ∷ asks_out c.args.moment ∷ [] in
     rw (p.1, p.2) (λ next. led_on g.S.FileService.machine _ _ _
     (sizes c.args.moment c.args.n c.args.size (λ count. each c.args.moment (lists count ++ behind) next))
     (each c.args.moment (lists c.in_ok-count.count ++ behind) next) _
@@ -18,7 +18,7 @@ returns-in_err-ask_all g c =
 
 pub returns : goal.returns
 returns g c next =
-    let behind = goes_to c.args.moment c.args.n ∷ takes c.args.moment ∷ puts c.args.moment ∷ [] in
+    let behind = goes_to c.args.moment c.args.n ∷ takes c.args.moment ∷ asks_out c.args.moment ∷ [] in
     led_on g.S.FileService.machine _ _ _
     (sizes c.args.moment c.args.n c.args.size (λ count. each c.args.moment (lists count ++ behind) next))
     (each c.args.moment (lists c.in_ok-count.count ++ behind) next) _

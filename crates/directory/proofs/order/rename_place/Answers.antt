@@ -1,6 +1,6 @@
 use Rattle.std.proofs.Common.{◌≡◌, ◌++◌, map, take, drop, suc, None, sym, subst}
 use Rattle.std.specs.FinMap.Entries.{find}
-use Rattle.directory.specs.Indexes.{IsEntered}
+use Rattle.directory.specs.Indexes.{IsInserted}
 use Rattle.directory.proofs.Indexing.{left_rising, left_alone, index_set, seen_inside}
 use Rattle.directory.proofs.order.rename_place.Goals as goal
 
@@ -25,5 +25,5 @@ returns-clause-index g c =
     index_set g.met.E.Entry.total g.met.E.Entry.exact items c.args.place (g.E.Entry.view c.args.entry.now)
     c.args.order.now.items c.leave.new.order.items c.enter.new.order.items
     (seen_inside g.E.Entry.view c.args.list.now c.args.place c.requires.within) c.requires.index c.leave.ensures.left
-    (subst (λ k. IsEntered g.E.Entry.order items k c.args.place c.leave.new.order.items c.enter.new.order.items)
+    (subst (λ k. IsInserted g.E.Entry.order items k c.args.place c.leave.new.order.items c.enter.new.order.items)
     c.key.ensures c.enter.ensures.entered)

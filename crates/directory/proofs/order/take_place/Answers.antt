@@ -1,6 +1,6 @@
 use Rattle.std.proofs.Common.{map, length, get_or, sym, subst, ap, ◌-◌, ◌≡◌, ◌∙◌, arith}
 use Rattle.std.proofs.lemmas.List.{length-map, get_or_default}
-use Rattle.directory.specs.Indexes.{IsIndex, IsLeft, IsEntered}
+use Rattle.directory.specs.Indexes.{IsIndex, IsLeft, IsInserted}
 use Rattle.directory.proofs.Indexing.{left_rising, left_others, left_twice, left_both, index_shorter, index_moved}
 use Rattle.directory.proofs.Indexing.{seen_inside, seen_swapped, last_seen, key_at}
 use Rattle.directory.proofs.order.take_place.Goals as goal
@@ -71,5 +71,5 @@ returns-clause-index g c x =
     (omega arith) (λ s. c.if-place-last.false (s ∙ same_last)) (last_seen g.E.Entry.view list x (omega arith))
     c.requires.index c.leave.ensures.left
     (subst (λ n. IsLeft n c.leave.new.order.items c.leave-2.new.order.items) (sym same_last) c.leave-2.ensures.left)
-    (subst (λ k. IsEntered g.E.Entry.order items k c.args.place c.leave-2.new.order.items c.enter.new.order.items) key
+    (subst (λ k. IsInserted g.E.Entry.order items k c.args.place c.leave-2.new.order.items c.enter.new.order.items) key
     c.enter.ensures.entered))

@@ -4,24 +4,24 @@ use Rattle.std.specs.List.{All}
 use Rattle.imagefile.specs.File.{window}
 use Rattle.imagefile.specs.Unseen.{Unseen, size_of}
 use Rattle.imagefile.specs.Recorded.{after_calls, IsHonestRecord}
-use Rattle.imagefile.specs.Answered.{Asked, Measure, ReadAt, WriteAt, SyncAll, IsWithin, answered}
+use Rattle.imagefile.specs.Answered.{HostCall, Measure, ReadAt, WriteAt, SyncAll, IsInFile, answered}
 use Rattle.imagefile.proofs.CallLaws.{length-window}
 use Rattle.imagefile.proofs.seeking.a_file_by_the_model_is_honest.Goals as goal
 
-honest : (u : Unseen) (asked : List Asked) → All (IsWithin (size_of u)) asked → IsHonestRecord u (answered u asked)
+honest : (u : Unseen) (asked : List HostCall) → All (IsInFile (size_of u)) asked → IsHonestRecord u (answered u asked)
 honest u [] within = tt
-honest u (Measure ∷ before) within = (honest u before (All-tail (IsWithin (size_of u)) Measure before within), refl)
+honest u (Measure ∷ before) within = (honest u before (All-tail (IsInFile (size_of u)) Measure before within), refl)
 honest u (ReadAt at count ∷ before) within =
     let b = (after_calls u (answered u before)).bytes in
     let long : length (window b at count) ≡ count = length-window b at count in
-    let inside : at + count ≤ size_of u = All-head (IsWithin (size_of u)) (ReadAt at count) before within in (
-      (honest u before (All-tail (IsWithin (size_of u)) (ReadAt at count) before within), refl),
+    let inside : at + count ≤ size_of u = All-head (IsInFile (size_of u)) (ReadAt at count) before within in (
+      (honest u before (All-tail (IsInFile (size_of u)) (ReadAt at count) before within), refl),
       (omega (arith, long, inside), sym (ap (window b at) long)),
     )
 honest u (WriteAt at given ∷ before) within =
-    let inside : at + length given ≤ size_of u = All-head (IsWithin (size_of u)) (WriteAt at given) before within in
-    ((honest u before (All-tail (IsWithin (size_of u)) (WriteAt at given) before within), refl), (inside, omega arith))
-honest u (SyncAll ∷ before) within = (honest u before (All-tail (IsWithin (size_of u)) SyncAll before within), tt)
+    let inside : at + length given ≤ size_of u = All-head (IsInFile (size_of u)) (WriteAt at given) before within in
+    ((honest u before (All-tail (IsInFile (size_of u)) (WriteAt at given) before within), refl), (inside, omega arith))
+honest u (SyncAll ∷ before) within = (honest u before (All-tail (IsInFile (size_of u)) SyncAll before within), tt)
 
 pub returns : goal.returns
 returns c = honest

@@ -5,7 +5,7 @@ use Rattle.words36.specs.Words.{IsPpn}
 use Rattle.meaning.specs.Codes.{number_of}
 use Rattle.meaning.specs.declared.code.ErrorCode.TheVariants.{NoDirectory, NotEmpty}
 use Rattle.volume.specs.RemovingDirectories.{HasEntries}
-use Rattle.monitor.specs.DeleteDirRows.{IsDeleteDir, IsNowhere, IsThere, IsFree, IsKeptBy, is_strange}
+use Rattle.monitor.specs.DeleteDirRows.{IsDeleteDir, IsNowhere, IsThere, IsRemovable, IsKeptBy, is_strange}
 use Rattle.monitor.specs.DirectoryRows.{asked_owner}
 use Rattle.monitor.proofs.DeleteDirs.{crash_asked, done_asked, nowhere_numbered, nowhere_known, there_by, kept_by}
 use Rattle.monitor.proofs.MakeDirs.{keeps_core}
@@ -47,7 +47,7 @@ returns-in-Ok-clause-outcome g c =
     let inside = sym c.lies_outside.ensures.value ∙ c.if-lies_outside.false in (
       refl,
       inside,
-      subst (IsFree d old.core c.args.job.now.ppn) (c.in-Some.ensures.value ∙ c.word_at.ensures.value)
+      subst (IsRemovable d old.core c.args.job.now.ppn) (c.in-Some.ensures.value ∙ c.word_at.ensures.value)
           (there, own, bare),
     )
 
@@ -114,7 +114,7 @@ returns-in-Err-Device-clause-outcome g c =
     let inside = sym c.lies_outside.ensures.value ∙ c.if-lies_outside.false in (
       refl,
       inside,
-      subst (IsFree d old.core c.args.job.now.ppn) (c.in-Some.ensures.value ∙ c.word_at.ensures.value)
+      subst (IsRemovable d old.core c.args.job.now.ppn) (c.in-Some.ensures.value ∙ c.word_at.ensures.value)
           (there, own, bare),
     )
 

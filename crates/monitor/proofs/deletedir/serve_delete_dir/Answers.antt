@@ -1,6 +1,6 @@
 use Rattle.std.proofs.Common.{◌≡◌, false, Some, refl, subst, ap, slice_set}
 use Rattle.meaning.proofs.SlotLaws.{slot-set_other}
-use Rattle.volume.specs.Rest.{IsSound}
+use Rattle.volume.specs.Rest.{IsSoundCore}
 use Rattle.monitor.proofs.DeleteDirAnswers.{never_failed, takes_none, refused_so, fails_by, idle_same, still_placed}
 use Rattle.monitor.proofs.DeleteDirAnswers.{crashes_by, delete_dir_answered}
 use Rattle.monitor.proofs.Dropped.{keeps_keyed}
@@ -19,7 +19,7 @@ returns g c = record {
       let jobs' = slice_set jobs n (Some job') in
       let is = c.delete_dir.ensures in
       let reply = c.delete_dir.result in
-      let sound = subst (IsSound d old.core) c.requires.ready.alive c.requires.ready.sound in
+      let sound = subst (IsSoundCore d old.core) c.requires.ready.alive c.requires.ready.sound in
       let keyed = keeps_keyed old.core.pending new.core.pending jobs n job job' among.keyed among.there is.keeps in
       let reading = keeps_reading old.core.live new.core.live jobs n job job' among.reading among.there is.reads in
       let fails = fails_by d old.core (new.disk ≡ old.disk) (new.core ≡ old.core) job job' c.args.address reply

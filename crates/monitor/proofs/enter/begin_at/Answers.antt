@@ -5,7 +5,7 @@ use Rattle.meaning.specs.Looking.{place_at}
 use Rattle.meaning.specs.Published.{without_serials}
 use Rattle.meaning.specs.Stands.{place_of}
 use Rattle.meaning.specs.declared.call.Reply.TheVariants.{Done, Refused}
-use Rattle.volume.specs.Rest.{IsSound}
+use Rattle.volume.specs.Rest.{IsSoundCore}
 use Rattle.monitor.specs.Finding.{IsAnswer, begin_answer_at}
 use Rattle.monitor.specs.Serving.{pack_of}
 use Rattle.monitor.specs.Sides.{job_of}
@@ -16,7 +16,7 @@ use Rattle.monitor.proofs.enter.begin_at.Goals as goal
 pub returns-in_default-clause-answered : goal.returns-in_default-clause-answered
 returns-in_default-clause-answered g c h alive s known w =
     no_owner (g.D.Disk.state c.args.volume.now.disk) c.args.volume.now.core s known
-    (subst (IsSound (g.D.Disk.state c.args.volume.now.disk) c.args.volume.now.core) alive c.requires.sound)
+    (subst (IsSoundCore (g.D.Disk.state c.args.volume.now.disk) c.args.volume.now.core) alive c.requires.sound)
     h w c.args.job.now
     (place_at (job_of w c.args.job.now) c.args.address) c.in_default.ensures.none
 
@@ -27,7 +27,7 @@ returns-in-Err-clause-answered g c h alive s known w =
     subst (λ p. begin_answer_at (pack_of d) s (job_of w c.args.job.now) p ≡ Refused (number_of c.in-Err.code))
     (at_place w c.args.job.now c.args.address c.in-Some.ppn c.name_at-file.result c.in-Some.ensures.there
     c.name_at-file.ensures.0 c.name_at-file.ensures.1)
-    (refused d map s known (subst (IsSound d map) alive c.requires.sound) h w c.args.job.now
+    (refused d map s known (subst (IsSoundCore d map) alive c.requires.sound) h w c.args.job.now
     (place_of c.in-Some.ppn c.name_at-file.result) c.in-Err.code
     (c.in-Err.ensures.found h alive (without_serials s.files) known.files))
 
@@ -37,7 +37,7 @@ returns-in-Ok-begin-clause-answered g c h alive s known w =
     let d = g.D.Disk.state c.args.volume.now.disk in
     let map = c.args.volume.now.core in
     let prime = c.prime_for-prime.result in
-    let sound = subst (IsSound d map) alive c.requires.sound in
+    let sound = subst (IsSoundCore d map) alive c.requires.sound in
     subst (λ p. begin_answer_at (pack_of d) s (job_of w c.args.job.now) p ≡ Done)
     (at_place w c.args.job.now c.args.address prime.ppn prime.file
     (c.prime_for-prime.ensures.ppn ∙ c.in-Some.ensures.there)
@@ -55,7 +55,7 @@ returns-in-Err-begin-clause-answered g c h alive s known w =
     let d = g.D.Disk.state c.args.volume.now.disk in
     let map = c.args.volume.now.core in
     let prime = c.prime_for-prime.result in
-    let sound = subst (IsSound d map) alive c.requires.sound in
+    let sound = subst (IsSoundCore d map) alive c.requires.sound in
     subst (λ p. IsAnswer {X = ℕ} (Err c.in-Err-begin.error) (begin_answer_at (pack_of d) s (job_of w c.args.job.now) p))
     (at_place w c.args.job.now c.args.address prime.ppn prime.file
     (c.prime_for-prime.ensures.ppn ∙ c.in-Some.ensures.there)

@@ -1,6 +1,6 @@
 use Rattle.std.proofs.Common.{false, Some, refl, sym, subst, ◌∙◌, slice_set}
 use Rattle.meaning.specs.declared.call.Call.TheVariants.{Enter}
-use Rattle.volume.specs.Rest.{IsSound}
+use Rattle.volume.specs.Rest.{IsSoundCore}
 use Rattle.monitor.proofs.EnterAnswers.{enters_keyed, enters_reading, enter_answered}
 use Rattle.monitor.proofs.Promised.{quiet_serves}
 use Rattle.monitor.proofs.ReadingJobs.{job_held, few_readers}
@@ -27,7 +27,7 @@ returns-in-Some g c = record {
       let job = c.args.job.now in
       let job' = c.update.new.job in
       let jobs' = slice_set jobs n (Some job') in
-      let sound = subst (IsSound (state old.disk) map) c.requires.ready.alive c.requires.ready.sound in
+      let sound = subst (IsSoundCore (state old.disk) map) c.requires.ready.alive c.requires.ready.sound in
       quiet_serves state g.met.D.Disk.only_now old.disk new.disk map map' old.failed new.failed job job'
       (Enter c.args.channel c.args.address) moment c.update.result c.requires.ready.alive c.update.ensures.untouched
       c.update.ensures.only (c.update.ensures.placed c.requires.ready.placed) (λ light. absurd light)
@@ -60,7 +60,7 @@ returns-in-None g c = record {
       let job = c.args.job.now in
       let job' = c.enter.new.job in
       let jobs' = slice_set jobs n (Some job') in
-      let sound = subst (IsSound (state old.disk) map) c.requires.ready.alive c.requires.ready.sound in
+      let sound = subst (IsSoundCore (state old.disk) map) c.requires.ready.alive c.requires.ready.sound in
       quiet_serves state g.met.D.Disk.only_now old.disk new.disk map map' old.failed new.failed job job'
       (Enter c.args.channel c.args.address) moment c.enter.result c.requires.ready.alive c.enter.ensures.untouched
       c.enter.ensures.only (c.enter.ensures.placed c.requires.ready.placed) (λ light. absurd light)

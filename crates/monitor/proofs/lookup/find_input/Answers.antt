@@ -4,7 +4,7 @@ use Rattle.meaning.specs.Looking.{lookup_answer, place_at}
 use Rattle.meaning.specs.Published.{without_serials, file_at}
 use Rattle.meaning.specs.Stands.{place_of}
 use Rattle.meaning.specs.declared.call.Reply.TheVariants.{Done, Refused}
-use Rattle.volume.specs.Rest.{IsSound}
+use Rattle.volume.specs.Rest.{IsSoundCore}
 use Rattle.monitor.specs.Sides.{job_of}
 use Rattle.monitor.proofs.Entering.{at_place}
 use Rattle.monitor.proofs.LookupAnswers.{nowhere, refused, done, held, not_held}
@@ -13,7 +13,8 @@ use Rattle.monitor.proofs.lookup.find_input.Goals as goal
 pub returns-in_default-clause-answered : goal.returns-in_default-clause-answered
 returns-in_default-clause-answered g c h s known w m free inside =
     nowhere (g.D.Disk.state c.args.volume.now.disk) c.args.volume.now.core s known
-    (subst (IsSound (g.D.Disk.state c.args.volume.now.disk) c.args.volume.now.core) c.requires.alive c.requires.sound)
+    (subst (IsSoundCore (g.D.Disk.state c.args.volume.now.disk) c.args.volume.now.core) c.requires.alive
+    c.requires.sound)
     h w c.args.job.now m
     c.args.address free inside (place_at (job_of w c.args.job.now) c.args.address) c.in_default.ensures.none
 
@@ -25,7 +26,7 @@ returns-in-Err-clause-answered g c h s known w m free inside =
     subst (λ p. lookup_answer s (job_of w job) m c.args.address p ≡ Refused (number_of c.in-Err.code))
     (at_place w job c.args.address c.in-Some.ppn c.name_at-file.result c.in-Some.ensures.there c.name_at-file.ensures.0
     c.name_at-file.ensures.1)
-    (refused d map s known (subst (IsSound d map) c.requires.alive c.requires.sound) h w job m c.args.address
+    (refused d map s known (subst (IsSoundCore d map) c.requires.alive c.requires.sound) h w job m c.args.address
     free inside (place_of c.in-Some.ppn c.name_at-file.result) c.in-Err.code
     (c.in-Err.ensures.found h c.requires.alive (without_serials s.files) known.files))
 
@@ -38,7 +39,7 @@ returns-in-Ok-pin-clause-answered g c h s known w m free inside =
     let place = place_of c.in-Some.ppn c.name_at-file.result in
     let named : place ≡ place_at (job_of w job) c.args.address = at_place w job c.args.address c.in-Some.ppn
     c.name_at-file.result c.in-Some.ensures.there c.name_at-file.ensures.0 c.name_at-file.ensures.1 in
-    let sound = subst (IsSound d map) c.requires.alive c.requires.sound in
+    let sound = subst (IsSoundCore d map) c.requires.alive c.requires.sound in
     let may = c.in-Ok.ensures.found was c.requires.alive (without_serials s.files) known.files in
     let x = held d map s known sound was w job m c.args.address free inside place c.in-Ok.facts may
     c.pin.new.self.core.live c.in-Ok-pin.pin
@@ -64,7 +65,7 @@ returns-in-Err-pin-clause-answered g c h s known w m free inside =
     let map = c.args.volume.now.core in
     let may = c.in-Ok.ensures.found was c.requires.alive (without_serials s.files) known.files in
     absurd
-    (not_held d map s known (subst (IsSound d map) c.requires.alive c.requires.sound) was w c.args.job.now
+    (not_held d map s known (subst (IsSoundCore d map) c.requires.alive c.requires.sound) was w c.args.job.now
     m c.args.address free inside (place_of c.in-Some.ppn c.name_at-file.result) c.in-Ok.facts may
     c.pin.new.self.core.live c.in-Err-pin.field-0
     (c.in-Err-pin.ensures.value h c.requires.alive (without_serials s.files) known.files))

@@ -1,6 +1,6 @@
 use Rattle.std.proofs.Common.{false, Some, refl, subst, slice_set}
 use Rattle.meaning.specs.declared.call.Call.TheVariants.{Lookup}
-use Rattle.volume.specs.Rest.{IsSound}
+use Rattle.volume.specs.Rest.{IsSoundCore}
 use Rattle.monitor.proofs.Knowing.{known}
 use Rattle.monitor.proofs.LookupCalls.{lookup_keyed, lookup_reading, lookup_answered}
 use Rattle.monitor.proofs.Lookups.{placed_still}
@@ -27,7 +27,7 @@ returns g c = record {
       let job = c.args.job.now in
       let job' = c.lookup.new.job in
       let jobs' = slice_set jobs n (Some job') in
-      let sound = subst (IsSound (state old.disk) map) c.requires.ready.alive c.requires.ready.sound in
+      let sound = subst (IsSoundCore (state old.disk) map) c.requires.ready.alive c.requires.ready.sound in
       quiet_serves state g.met.D.Disk.only_now old.disk new.disk map map' old.failed new.failed job job'
       (Lookup c.args.channel c.args.address) moment c.lookup.result c.requires.ready.alive c.lookup.ensures.untouched
       (c.lookup.ensures.only.0, c.lookup.ensures.only.1)

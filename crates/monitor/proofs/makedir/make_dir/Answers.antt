@@ -2,7 +2,7 @@ use Rattle.std.proofs.Common.{refl, ap, ◌∙◌}
 use Rattle.meaning.specs.Entering.{protection_or}
 use Rattle.volume.specs.Making.{files_made}
 use Rattle.volume.proofs.Publications.{unchanged_leaves}
-use Rattle.monitor.specs.DirectoryRows.{asked_owner, asked_protection}
+use Rattle.monitor.specs.DirectoryRows.{asked_owner, directory_protection_asked}
 use Rattle.monitor.proofs.MakeDirs.{crash_asked, done_asked, keeps_core}
 use Rattle.monitor.proofs.makedir.make_dir.Goals as goal
 
@@ -10,7 +10,7 @@ pub returns-then-lies_outside-clause-crash : goal.returns-then-lies_outside-clau
 returns-then-lies_outside-clause-crash g c h f rests =
     unchanged_leaves (g.D.Disk.state c.args.volume.now.disk) f
     (files_made f (asked_owner c.args.job.now.core c.args.address)
-    (asked_protection c.args.job.now.core c.args.address)) rests
+    (directory_protection_asked c.args.job.now.core c.args.address)) rests
     (λ d left. g.met.D.Disk.only_now c.args.volume.now.disk d h left)
 
 pub returns-then-lies_outside-clause-keeps : goal.returns-then-lies_outside-clause-keeps
@@ -21,7 +21,7 @@ pub returns-in_default-clause-crash : goal.returns-in_default-clause-crash
 returns-in_default-clause-crash g c h f rests =
     unchanged_leaves (g.D.Disk.state c.args.volume.now.disk) f
     (files_made f (asked_owner c.args.job.now.core c.args.address)
-    (asked_protection c.args.job.now.core c.args.address)) rests
+    (directory_protection_asked c.args.job.now.core c.args.address)) rests
     (λ d left. g.met.D.Disk.only_now c.args.volume.now.disk d h left)
 
 pub returns-in_default-clause-keeps : goal.returns-in_default-clause-keeps
@@ -32,7 +32,7 @@ pub returns-then-ne-clause-crash : goal.returns-then-ne-clause-crash
 returns-then-ne-clause-crash g c h f rests =
     unchanged_leaves (g.D.Disk.state c.args.volume.now.disk) f
     (files_made f (asked_owner c.args.job.now.core c.args.address)
-    (asked_protection c.args.job.now.core c.args.address)) rests
+    (directory_protection_asked c.args.job.now.core c.args.address)) rests
     (λ d left. g.met.D.Disk.only_now c.args.volume.now.disk d h left)
 
 pub returns-then-ne-clause-keeps : goal.returns-then-ne-clause-keeps

@@ -1,6 +1,6 @@
 use Rattle.std.proofs.Common.{◌≡◌, false, Some, refl, subst, ap, slice_set}
 use Rattle.meaning.proofs.SlotLaws.{slot-set_other}
-use Rattle.volume.specs.Rest.{IsSound}
+use Rattle.volume.specs.Rest.{IsSoundCore}
 use Rattle.monitor.specs.DirectoryRows.{IsMakeDir}
 use Rattle.monitor.proofs.Called.{still_serves}
 use Rattle.monitor.proofs.MakeDirAnswers.{never_failed, fails_by, idle_same, made_keyed, made_reading, crashes_by}
@@ -21,7 +21,7 @@ returns g c = record {
       let job = c.args.job.now in
       let job' = c.make_dir.new.job in
       let jobs' = slice_set jobs n (Some job') in
-      let sound = subst (IsSound (state old.disk) map) c.requires.ready.alive c.requires.ready.sound in
+      let sound = subst (IsSoundCore (state old.disk) map) c.requires.ready.alive c.requires.ready.sound in
       let same = (new.disk ≡ old.disk) × (map' ≡ map) in
       let size = (state old.disk).size in
       let keyed = made_keyed state old.disk new.disk map map' jobs jobs' n job job' c.args.address moment

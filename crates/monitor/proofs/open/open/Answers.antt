@@ -2,7 +2,7 @@ use Rattle.std.proofs.Common.{◌≡◌, refl, sym, ap, ◌∙◌, subst, true, 
 use Rattle.std.specs.Prelude.{is_some}
 use Rattle.meaning.specs.declared.call.Call.TheVariants.{Open}
 use Rattle.meaning.specs.declared.call.Reply.TheVariants.{Done, Refused}
-use Rattle.monitor.specs.Rows.{IsRow, Keeps, KeepsReading, improper_at, opened_at, rings_opened}
+use Rattle.monitor.specs.Rows.{IsRow, KeepsSides, KeepsReading, improper_at, opened_at, rings_opened}
 use Rattle.monitor.proofs.Calling.{keeps_same, keeps_core, reads_core}
 use Rattle.monitor.proofs.Opens.{answer_is, no_channel_row, refused_row, done_row, keeps_opened}
 use Rattle.monitor.proofs.Opens.{reads_opened, opened_job}
@@ -63,7 +63,7 @@ returns-clause-row c =
 pub returns-clause-keeps : goal.returns-clause-keeps
 returns-clause-keeps c pending =
     let channel = opened_at c.in-Some.mode c.args.job.now.core c.args.address in
-    subst (Keeps pending pending c.args.job.now) (sym (opened c))
+    subst (KeepsSides pending pending c.args.job.now) (sym (opened c))
     (keeps_core pending pending c.args.job.now _ (rings_opened c.args.job.now.core channel)
     (keeps_opened pending c.args.job.now c.args.number channel
     (ap is_some (sym c.channel.ensures) ∙ sym c.is_some.ensures ∙ c.if-is_some.false) refl))

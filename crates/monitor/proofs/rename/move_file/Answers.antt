@@ -7,7 +7,7 @@ use Rattle.meaning.specs.Stands.{place_of}
 use Rattle.meaning.specs.declared.code.ErrorCode.TheVariants.{NoDirectory}
 use Rattle.meaning.specs.declared.call.Call.TheVariants.{Rename}
 use Rattle.meaning.specs.declared.call.Reply.TheVariants as replies
-use Rattle.volume.specs.Rest.{IsSound}
+use Rattle.volume.specs.Rest.{IsSoundCore}
 use Rattle.monitor.specs.Changing.{changed_job, changed_reply}
 use Rattle.monitor.specs.Serving.{pack_of}
 use Rattle.monitor.specs.Sides.{job_of}
@@ -43,7 +43,7 @@ returns-in-Err g c = record {
       let ready = c.requires.ready in
       refusing_serves g.D.Disk.state g.met.D.Disk.only_now volume.disk volume.core volume.failed ready.alive job
       c.args.number c.args.address c.args.channel input c.requires.there c.requires.side c.requires.free
-      c.requires.inside (subst (IsSound d volume.core) ready.alive ready.sound) ready.placed c.in-Err.code
+      c.requires.inside (subst (IsSoundCore d volume.core) ready.alive ready.sound) ready.placed c.in-Err.code
       (λ h s known w. rename_stops s (job_of w job) c.args.address (place_of input.ppn input.file) (pack_of d)
       (number_of c.in-Err.code) (c.in-Err.ensures.answered h ready.alive s known (job_of w job) c.args.address refl
       (asks_for w job c.args.address (c.bits.result / 2 ^ 27)
@@ -92,7 +92,7 @@ returns-in_default-owner_at g c = record {
       let input = c.args.input in
       let d = g.D.Disk.state volume.disk in
       let ready = c.requires.ready in
-      let sound = subst (IsSound d volume.core) ready.alive ready.sound in
+      let sound = subst (IsSoundCore d volume.core) ready.alive ready.sound in
       let moves = ne_eqb _ 0 c.requires.named in
       refusing_serves g.D.Disk.state g.met.D.Disk.only_now volume.disk volume.core volume.failed ready.alive job
       c.args.number c.args.address c.args.channel input c.requires.there c.requires.side c.requires.free
@@ -119,7 +119,7 @@ returns-in-Err-may_come g c = record {
       let input = c.args.input in
       let d = g.D.Disk.state volume.disk in
       let ready = c.requires.ready in
-      let sound = subst (IsSound d volume.core) ready.alive ready.sound in
+      let sound = subst (IsSoundCore d volume.core) ready.alive ready.sound in
       let moves = ne_eqb _ 0 c.requires.named in
       let name = c.name_at-name.result in
       refusing_serves g.D.Disk.state g.met.D.Disk.only_now volume.disk volume.core volume.failed ready.alive job
@@ -163,7 +163,7 @@ returns g c = record {
       (sym c.answer_change.ensures.untouched.1) (sym c.answer_change.ensures.job) (sym c.answer_change.ensures.answered)
       (move_serves state g.met.D.Disk.only_now volume.disk moved.disk volume.core moved.core moved.failed job
       c.args.number e c.args.channel c.requires.there input c.requires.side c.requires.free c.requires.inside
-      c.requires.named (subst (IsSound d volume.core) ready.alive ready.sound) ready.placed c.in-Some.ppn name
+      c.requires.named (subst (IsSoundCore d volume.core) ready.alive ready.sound) ready.placed c.in-Some.ppn name
       (c.bits.result / 2 ^ 27)
       (λ w. at_place w job e c.in-Some.ppn name c.in-Some.ensures.there c.name_at-name.ensures.0
       c.name_at-name.ensures.1)

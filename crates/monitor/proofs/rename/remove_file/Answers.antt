@@ -1,6 +1,6 @@
 use Rattle.std.proofs.Common.{◌≤◌, refl, ap, subst}
 use Rattle.meaning.specs.Codes.{number_of}
-use Rattle.volume.specs.Rest.{IsSound}
+use Rattle.volume.specs.Rest.{IsSoundCore}
 use Rattle.monitor.specs.Serving.{pack_of}
 use Rattle.monitor.specs.Sides.{job_of}
 use Rattle.meaning.specs.Stands.{place_of}
@@ -25,7 +25,7 @@ returns-in-Err g c = record {
       let ready = c.requires.ready in
       refusing_serves g.D.Disk.state g.met.D.Disk.only_now volume.disk volume.core volume.failed ready.alive job
       c.args.number c.args.address c.args.channel input c.requires.there c.requires.side c.requires.free
-      c.requires.inside (subst (IsSound d volume.core) ready.alive ready.sound) ready.placed c.in-Err.code
+      c.requires.inside (subst (IsSoundCore d volume.core) ready.alive ready.sound) ready.placed c.in-Err.code
       (λ h s known w. rename_stops s (job_of w job) c.args.address (place_of input.ppn input.file) (pack_of d)
       (number_of c.in-Err.code) (c.in-Err.ensures.answered h ready.alive s known (job_of w job) c.args.address refl
       (asks_none w job c.args.address c.requires.deletes)))
@@ -63,7 +63,7 @@ returns g c = record {
       deleting_serves g.D.Disk.state g.met.D.Disk.only_now volume.disk deleted.disk volume.core deleted.core
       after.volume.core volume.failed deleted.failed ready.alive job c.args.number c.args.address c.args.channel input
       c.requires.there c.requires.side c.requires.free c.requires.inside c.requires.deletes
-      (subst (IsSound d volume.core) ready.alive ready.sound) ready.placed c.in_default.ensures.free
+      (subst (IsSoundCore d volume.core) ready.alive ready.sound) ready.placed c.in_default.ensures.free
       (λ h s known w. c.in_default.ensures.answered h ready.alive s known (job_of w job) c.args.address refl
       (asks_none w job c.args.address c.requires.deletes))
       c.delete-changed.result

@@ -2,7 +2,7 @@ use Rattle.std.proofs.Common.{rules, refl, sym, ap, ◌∙◌, subst, slice_set,
 use Rattle.meaning.specs.Rings.{setup, buffers_of}
 use Rattle.retrieval.specs.Modes.{mode_number}
 use Rattle.meaning.specs.declared.call.Reply.TheVariants.{Done}
-use Rattle.monitor.specs.Rows.{Keeps, KeepsReading}
+use Rattle.monitor.specs.Rows.{KeepsSides, KeepsReading}
 use Rattle.monitor.specs.Sides.{job_of}
 use Rattle.monitor.proofs.Calling.{keeps_same, keeps_core, reads_core}
 use Rattle.monitor.proofs.RingsMade.{ring_done, ring_there, ok_gives}
@@ -30,7 +30,7 @@ returns-clause-row c w =
 
 pub returns-clause-keeps : goal.returns-clause-keeps
 returns-clause-keeps c pending =
-    subst (Keeps pending pending c.args.job.now) (sym c.set_channel.ensures)
+    subst (KeepsSides pending pending c.args.job.now) (sym c.set_channel.ensures)
     (keeps_core pending pending c.args.job.now _ c.ring_setup.new.self
     (keeps_status c.args.job.now c.args.number 0 c.args.channel c.requires.there pending _ c.cleared-status.result
     refl))

@@ -8,7 +8,7 @@ use Rattle.meaning.specs.Stands.{place_of}
 use Rattle.meaning.specs.declared.call.Reply.TheVariants.{Done}
 use Rattle.volume.specs.Live.{pending_at}
 use Rattle.volume.specs.Pins.{BeginsWithFile}
-use Rattle.volume.specs.Rest.{IsSound}
+use Rattle.volume.specs.Rest.{IsSoundCore}
 use Rattle.monitor.specs.Finding.{IsAnswer}
 use Rattle.monitor.specs.Serving.{pack_of}
 use Rattle.monitor.specs.Sides.{job_of}
@@ -43,7 +43,7 @@ returns-in-Err-clause-answered g c h alive s known w =
     let map = c.args.volume.now.core in
     let job = c.args.job.now in
     let input = c.args.input.now in
-    refused d map s known (subst (IsSound d map) alive c.requires.sound) h w job
+    refused d map s known (subst (IsSoundCore d map) alive c.requires.sound) h w job
     (place_of input.ppn input.file) c.in-Err.code
     ((λ i. allowed_update (sym (c.find-found.ensures h alive (without_serials s.files) known.files) i) job.ppn input.ppn
     (sym c.bits-is_zero.ensures.value i == 0) (sym c.is_claimed-claimed.ensures i)) ∙ sym c.in-Err.ensures)
@@ -56,7 +56,7 @@ returns-in-Ok-begin-clause-answered g c h alive s known w =
     let job = c.args.job.now in
     let input = c.args.input.now in
     let prime = c.place_of.result in
-    let sound = subst (IsSound d map) alive c.requires.sound in
+    let sound = subst (IsSoundCore d map) alive c.requires.sound in
     let at : place_of prime.ppn prime.file ≡ place_of input.ppn input.file =
     λ i. place_of (c.place_of.ensures.0 i) (c.place_of.ensures.1 i) in
     let with_file = updates c.find-found.result job.ppn input.ppn _ _ c.in-Ok.kind (sym c.in-Ok.ensures) in
@@ -78,7 +78,7 @@ returns-in-Err-begin-clause-answered g c h alive s known w =
     let job = c.args.job.now in
     let input = c.args.input.now in
     let prime = c.place_of.result in
-    let sound = subst (IsSound d map) alive c.requires.sound in
+    let sound = subst (IsSoundCore d map) alive c.requires.sound in
     let at : place_of prime.ppn prime.file ≡ place_of input.ppn input.file =
     λ i. place_of (c.place_of.ensures.0 i) (c.place_of.ensures.1 i) in
     let with_file = updates c.find-found.result job.ppn input.ppn _ _ c.in-Ok.kind (sym c.in-Ok.ensures) in

@@ -1,6 +1,6 @@
 use Rattle.std.proofs.Common.{◌<◌, ◌∙◌, ap, sym, length, flat_map, slice_set, refl, rules}
 use Rattle.meaning.specs.Retrieval.{run_blocks}
-use Rattle.retrieval.specs.Runs.{blocks_of_runs, longest, part_blocks}
+use Rattle.retrieval.specs.Runs.{blocks_of_runs, longest_runs, part_blocks}
 use Rattle.retrieval.proofs.LongestRuns.{blocks_of_longest}
 use Rattle.retrieval.proofs.KeptRuns.{parts_put, put_in, offset_at}
 use Rattle.retrieval.proofs.block_list.put_at.Goals as goal
@@ -9,7 +9,7 @@ pub returns-clause-are_longest : goal.returns-clause-are_longest
 returns-clause-are_longest c =
     let all = c.join_all.ensures.are_longest in
     let same = ap (flat_map run_blocks) all ∙ blocks_of_longest (blocks_of_runs c.insert_part-2.new.runs.items) in
-    all ∙ ap longest (sym same)
+    all ∙ ap longest_runs (sym same)
 
 pub returns-clause-blocks : goal.returns-clause-blocks
 returns-clause-blocks c =

@@ -5,7 +5,7 @@ use Rattle.std.proofs.lemmas.List.{length-map, take-map}
 use Rattle.meaning.specs.Blocks.{head_or_zero}
 use Rattle.meaning.specs.Retrieval.{Run, IsRun, pointer}
 use Rattle.retrieval.specs.Primes.{with_length}
-use Rattle.retrieval.specs.Runs.{pair_of, pairs_of, longest}
+use Rattle.retrieval.specs.Runs.{pair_of, pairs_of, longest_runs}
 use Rattle.retrieval.proofs.Building.{block_written, all_first, runs_fit}
 use Rattle.retrieval.proofs.build.prime_block.Goals as goal
 
@@ -28,7 +28,7 @@ returns c =
     let runs = c.runs-runs.result.now in
     let part = take count runs in
     let are = c.runs-runs.ensures.are_longest in
-    block_written (with_length c.args.prime.now v.words) (longest v.blocks) part c.put_pointers.new.words count
+    block_written (with_length c.args.prime.now v.words) (longest_runs v.blocks) part c.put_pointers.new.words count
     (head_or_zero v.ribs)
     (c.min-count.ensures ∙ ap (λ (n : ℕ). min n 112) (sym (length-map runs pair_of) ∙ ap length are))
     (sym (take-map pair_of count runs) ∙ ap (λ (l : List Run). take count l) are)

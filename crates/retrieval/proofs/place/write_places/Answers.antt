@@ -5,7 +5,7 @@ use Rattle.blockdisk.specs.Laws.{same_disk_start, same_disk_on, modifies_start, 
 use Rattle.meaning.specs.Faults.{InSpace}
 use Rattle.meaning.specs.Maps.{times}
 use Rattle.retrieval.specs.Bodies.{IsOwn, AddsFree, KeepsOwn}
-use Rattle.retrieval.specs.Placing.{IsPlaced}
+use Rattle.retrieval.specs.Placing.{IsPartlyPlaced}
 use Rattle.retrieval.proofs.Placed.{placed_none, placed_more, same_on, size_same, own_before, held_again, inside_set}
 use Rattle.retrieval.proofs.Placed.{adds_set, few_more, stays_more}
 use Rattle.retrieval.proofs.place.write_places.Goals as goal
@@ -113,7 +113,7 @@ loop-i-preserved g c =
           (stays_more t c.loop-i.table xs c.loop-i.blocks.blocks i n c.loop-i.invariant.table c.loop-i.invariant.held
           c.requires.held c.loop-i.invariant.few c.loop-i.invariant.long c.loop-i.invariant.stays
           c.own_place-n.ensures.stays);
-      placed = λ h. subst (λ (l : List ℕ). IsPlaced s.contents new.contents xs l c.args.at c.args.words.now
+      placed = λ h. subst (λ (l : List ℕ). IsPartlyPlaced s.contents new.contents xs l c.args.at c.args.words.now
           c.args.kept.now.place c.args.kept.now.words c.args.first (i + 1)) (sym blocks_are)
           (placed_more s.contents xs c.args.at c.args.words.now c.args.kept.now.place c.args.kept.now.words
           c.args.first now.contents new.contents c.loop-i.blocks.blocks i n c.new_block-block.result

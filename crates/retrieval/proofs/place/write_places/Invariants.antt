@@ -6,7 +6,7 @@ use Rattle.meaning.specs.Faults.{InSpace}
 use Rattle.meaning.specs.Maps.{times}
 use Rattle.alloctab.specs.TableState.{holds, uses}
 use Rattle.retrieval.specs.Bodies.{IsOwn, AddsFree, KeepsOwn}
-use Rattle.retrieval.specs.Placing.{IsPlaced}
+use Rattle.retrieval.specs.Placing.{IsPartlyPlaced}
 use Rattle.retrieval.proofs.place.write_places.Given as goal
 
 abbrev pub invariant-loop-i : goal.invariant-loop-i
@@ -25,6 +25,6 @@ invariant-loop-i g l = record {
   few : (n : ℕ) → times n l.fn.blocks.blocks ≤ 1 → times n l.blocks.blocks ≤ 1;
   stays : KeepsOwn l.fn.table l.fn.blocks.blocks l.blocks.blocks;
   placed : (g.D.Disk.state l.disk).honest
-      → IsPlaced (g.D.Disk.state l.fn.disk).contents (g.D.Disk.state l.disk).contents l.fn.blocks.blocks
+      → IsPartlyPlaced (g.D.Disk.state l.fn.disk).contents (g.D.Disk.state l.disk).contents l.fn.blocks.blocks
       l.blocks.blocks l.at l.words l.kept.place l.kept.words l.first l.i;
 }

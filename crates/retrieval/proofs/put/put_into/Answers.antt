@@ -4,7 +4,7 @@ use Rattle.blockdisk.specs.Laws.{modifies_on, modifies_wider, still_modifies, ke
 use Rattle.meaning.specs.Costs.{blocks_of}
 use Rattle.meaning.specs.Faults.{InSpace}
 use Rattle.retrieval.specs.Bodies.{IsOwn}
-use Rattle.retrieval.specs.Placing.{IsPlaced}
+use Rattle.retrieval.specs.Placing.{IsPartlyPlaced}
 use Rattle.retrieval.proofs.Growing.{grown, grown_length, grown_keeps, after_some}
 use Rattle.retrieval.proofs.Holding.{used_le_uses}
 use Rattle.retrieval.proofs.Placed.{size_same, booked_same, fixed_on, room_on, same_on, held_on, own_before, held_again}
@@ -141,7 +141,7 @@ returns-in-Ok-clause-body g c h body is has =
     in
     let counted = c.requires.counted in
     let is_first : c.min-first.result ≡ min (c.args.block - 1) (c.args.old / 128) = c.min-first.ensures in
-    let placed = subst (λ (f : ℕ). IsPlaced (g.D.Disk.state c.prepare.new.disk).contents
+    let placed = subst (λ (f : ℕ). IsPartlyPlaced (g.D.Disk.state c.prepare.new.disk).contents
     (g.D.Disk.state c.write_places.new.disk).contents xs1 c.write_places.new.blocks.blocks
     (c.args.block - 1) c.args.words.now
     c.in_ok-kept.kept.place c.in_ok-kept.kept.words f (c.args.block - 1 + blocks_of (length c.args.words.now))) is_first

@@ -4,7 +4,7 @@ use Rattle.std.proofs.lemmas.List.{drop-map}
 use Rattle.blockdisk.specs.Laws.{modifies_wider, modifies_write}
 use Rattle.blockdisk.specs.Disk.{Modifies}
 use Rattle.meaning.specs.Retrieval.{AreExtensions, IsPrime, IsRun}
-use Rattle.retrieval.specs.Runs.{pair_of, pairs_of, longest}
+use Rattle.retrieval.specs.Runs.{pair_of, pairs_of, longest_runs}
 use Rattle.retrieval.proofs.Building.{runs_fit, all_later}
 use Rattle.retrieval.proofs.LongestRuns.{blocks_of_longest}
 use Rattle.retrieval.specs.Writing.{extensions_of}
@@ -35,7 +35,7 @@ returns-clause-written g c h =
     let whole = c.runs-runs.ensures.blocks in
     let count = c.min-here.result in
     let part = pairs_of (take (length runs - count) (drop count runs)) in
-    let fit : AllByRecursion IsRun (longest v.blocks) = subst (AllByRecursion IsRun) are
+    let fit : AllByRecursion IsRun (longest_runs v.blocks) = subst (AllByRecursion IsRun) are
     (runs_fit runs (subst (AllByRecursion (λ n. n < 2 ^ 18)) (sym whole) c.requires.fit)
     (subst (λ (l : List ℕ). length l ≤ 16384) (sym whole) (let a = c.requires.enough in let b = c.requires.words in
     omega arith))) in
@@ -46,7 +46,8 @@ returns-clause-written g c h =
       date = p.date_fits;
       few = c.requires.words;
     } in
-    retrieved_on now.contents new.contents (with_length p v.words) c.args.at v.ribs v.blocks (longest v.blocks) part
+    retrieved_on now.contents new.contents (with_length p v.words) c.args.at v.ribs v.blocks (longest_runs v.blocks)
+    part
     c.write.result c.prime_block-words.result
     (subst (λ (l : List ℕ). AreExtensions now.contents (extensions_of l part)) c.ribs.ensures
     (c.in_ok-write_ribs.ensures.written (c.write.ensures.same.was_honest h)))

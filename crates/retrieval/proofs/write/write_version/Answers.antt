@@ -6,7 +6,7 @@ use Rattle.meaning.specs.Faults.{InSpace}
 use Rattle.meaning.specs.Maps.{times}
 use Rattle.alloctab.specs.TableState.{IsFree}
 use Rattle.retrieval.specs.Primes.{with_length}
-use Rattle.retrieval.specs.Reading.{IsWholeVersion}
+use Rattle.retrieval.specs.Reading.{IsStandingVersion}
 use Rattle.retrieval.specs.Versions.{VersionState}
 use Rattle.retrieval.proofs.Taking.{takes_apart, takes_inside, takes_nonzero, may_be_written}
 use Rattle.retrieval.proofs.Taking.{later}
@@ -105,7 +105,8 @@ returns-in-Ok-clause-read_back g c h inside =
     let p = with_length c.args.prime.now v.words in
     let its : AllByRecursion (InSpace old.size) v.blocks = subst (λ (w : VersionState).
     AllByRecursion (InSpace old.size) w.blocks) (sym c.take_retrieval_blocks-at.ensures.kept) inside in
-    subst (λ (s : ℕ). IsWholeVersion s new.contents at p ribs v.blocks) (sym c.write_retrieval_blocks.ensures.same.size)
+    subst (λ (s : ℕ). IsStandingVersion s new.contents at p ribs v.blocks)
+    (sym c.write_retrieval_blocks.ensures.same.size)
     (whole_version old.size new.contents p at ribs v.blocks (c.in-Ok.ensures.written h) (λ n there. (own n there).1) its
     (subst IsPpn c.word.ensures.value c.word.ensures.ppn)
     (subst (λ (n : ℕ). n < 2 ^ 18) c.bits.ensures.value c.bits.ensures.fits))

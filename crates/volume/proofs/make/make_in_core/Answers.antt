@@ -6,7 +6,7 @@ use Rattle.alloctab.specs.TableState.{TableState, IsTable, used_in_space}
 use Rattle.retrieval.specs.Writing.{Takes, IsFixed}
 use Rattle.volume.specs.Cores.{master_view}
 use Rattle.volume.specs.LiveCores.{core_of}
-use Rattle.volume.specs.Making.{growth, fresh_list, IsEntered}
+use Rattle.volume.specs.Making.{chain_growth, fresh_list, IsEntered}
 use Rattle.volume.proofs.LiveTotals.{core_uses, core_used}
 use Rattle.volume.proofs.MakingDirectories.{whole_fixed}
 use Rattle.volume.proofs.MakingEntries.{count_grows, many_blocks, two_or_one, entered_for}
@@ -31,7 +31,7 @@ returns-clause-made c =
     let size = c.args.core.now.table.size in
     let fresh = c.take_blocks-fresh.result in
     let absent : find nat_cmp c.args.ppn k.master.entries ≡ None = search rules in
-    let count : length (option_to_list fresh.master) ≡ growth k.master =
+    let count : length (option_to_list fresh.master) ≡ chain_growth k.master =
     count_grows c.needs_block-grows.result (length (option_to_list fresh.master))
     (length c.args.core.now.master.entries) (length c.args.core.now.master.blocks) k.master
     c.needs_block-grows.ensures.0 c.needs_block-grows.ensures.1 c.take_blocks-fresh.ensures.count

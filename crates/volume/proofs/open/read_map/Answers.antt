@@ -10,7 +10,7 @@ use Rattle.directory.specs.Chains.{viewed}
 use Rattle.volume.specs.Cores.{master_view, known_directory}
 use Rattle.volume.specs.Known.{cost_of_known}
 use Rattle.volume.specs.Homes.{home_of_master}
-use Rattle.volume.specs.Found.{IsOnlySpace, IsMapRead, IsRightFor, IsWrongFor}
+use Rattle.volume.specs.Found.{IsOnlySpace, IsMapFound, IsRightFor, IsWrongFor}
 use Rattle.volume.specs.FaultsFound.{NamesInSpace, SettledRefuses, IsTableRefusal}
 use Rattle.volume.proofs.Handing.{handed, found_on, home_named, table_named, named_on}
 use Rattle.volume.proofs.FoundMaps.{map_found, map_held, table_fault}
@@ -78,9 +78,9 @@ returns-in_err-table-clause-fault g c h =
     let master = viewed master_view c.in_ok-master.master in
     let directories = map known_directory c.in_ok-master.directories.items in
     let reached = c.read_tree.new.reached in
-    let read : IsMapRead s.size s.contents first master directories (digit_at reached) =
-    subst (λ (contents : Contents). IsMapRead s.size contents first master directories (digit_at reached)) same
-    (subst (λ (n : ℕ). IsMapRead n now.contents first master directories (digit_at reached)) size
+    let read : IsMapFound s.size s.contents first master directories (digit_at reached) =
+    subst (λ (contents : Contents). IsMapFound s.size contents first master directories (digit_at reached)) same
+    (subst (λ (n : ℕ). IsMapFound n now.contents first master directories (digit_at reached)) size
     (c.in_ok-master.ensures.read (c.load_table.ensures.same.was_honest h) home)) in
     let only : IsOnlySpace s.size reached = subst (λ (n : ℕ). IsOnlySpace n reached) size
     c.in_ok-master.ensures.space in
@@ -114,9 +114,9 @@ returns-clause-held g c h =
     let master = viewed master_view c.in_ok-master.master in
     let directories = map known_directory c.in_ok-master.directories.items in
     let reached = c.read_tree.new.reached in
-    let read : IsMapRead s.size s.contents first master directories (digit_at reached) =
-    subst (λ (contents : Contents). IsMapRead s.size contents first master directories (digit_at reached)) same
-    (subst (λ (n : ℕ). IsMapRead n now.contents first master directories (digit_at reached)) size
+    let read : IsMapFound s.size s.contents first master directories (digit_at reached) =
+    subst (λ (contents : Contents). IsMapFound s.size contents first master directories (digit_at reached)) same
+    (subst (λ (n : ℕ). IsMapFound n now.contents first master directories (digit_at reached)) size
     (c.in_ok-master.ensures.read (c.in_ok-table.ensures.same.was_honest h) home)) in
     let only : IsOnlySpace s.size reached = subst (λ (n : ℕ). IsOnlySpace n reached) size
     c.in_ok-master.ensures.space in

@@ -3,7 +3,7 @@ use Rattle.std.specs.List.{AllByRecursion}
 use Rattle.meaning.specs.Log.{IsTarget, targets}
 use Rattle.volume.specs.Live.{pending_at}
 use Rattle.volume.specs.LiveCores.{core_of}
-use Rattle.volume.specs.Rest.{IsSound}
+use Rattle.volume.specs.Rest.{IsSoundCore}
 use Rattle.volume.proofs.PuttingCore.{some_of}
 use Rattle.volume.proofs.PublishingBlocks.{made_current_of, retrieval_inside, retrieval_apart, retrieval_nonzero}
 use Rattle.volume.proofs.PublishingBlocks.{version_words, version_enough, version_fits, puts_in_range}
@@ -87,7 +87,7 @@ returns-in-Ok-clause-sound g c =
     let new = core_of c.make_current-current.new.core in
     let there = some_of (pending_at (core_of c.args.map.now).pending c.args.key) c.requires.there in
     let made = made_current_of c.requires.sound (c.make_current-current.ensures there.0 there.1) c.in-Some.ensures in
-    subst (λ (b : Bool). IsSound s' new b) (sym c.requires.alive)
+    subst (λ (b : Bool). IsSoundCore s' new b) (sym c.requires.alive)
     (committed_sound c.requires.sound made c.write_retrieval_blocks-written.ensures.same c.commit_puts.ensures.same
     c.write_retrieval_blocks-written.ensures.modified
     (λ h. ok_is c.write_retrieval_blocks-written.result _ (sym c.is_err.ensures.value ∙ c.if-is_err.false)

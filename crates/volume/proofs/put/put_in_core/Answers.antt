@@ -1,7 +1,7 @@
 use Rattle.std.proofs.Common.{inr, Bool, refl, sym, subst}
 use Rattle.volume.specs.Live.{pending_at}
 use Rattle.volume.specs.LiveCores.{core_of}
-use Rattle.volume.specs.Rest.{IsSound}
+use Rattle.volume.specs.Rest.{IsSoundCore}
 use Rattle.volume.specs.declared.pending.PendingVersion.{PendingVersion}
 use Rattle.volume.proofs.PuttingCore.{some_of, ready}
 use Rattle.volume.proofs.PuttingDisk.{keeps_read, keeps_written, none_damaged, put_failed, put_done, crash_finds}
@@ -16,7 +16,7 @@ pub returns-in-Err-Device-clause-sound : goal.returns-in-Err-Device-clause-sound
 returns-in-Err-Device-clause-sound g c =
     let s = g.D.Disk.state c.args.disk.now in
     let core = core_of c.args.map.now in
-    let sound = subst (λ (b : Bool). IsSound s core b) c.if-failed.false c.requires.sound in
+    let sound = subst (λ (b : Bool). IsSoundCore s core b) c.if-failed.false c.requires.sound in
     let there = some_of (pending_at core.pending c.args.key) c.requires.live in
     let put = c.put_pending.ensures in
     put_failed sound put.same c.args.key there.1 c.put_pending.new.pending.slots (put.grown there.0 there.1).1
@@ -26,7 +26,7 @@ pub returns-in-Err-Device-clause-quiet : goal.returns-in-Err-Device-clause-quiet
 returns-in-Err-Device-clause-quiet g c h f rests =
     let s = g.D.Disk.state c.args.disk.now in
     let core = core_of c.args.map.now in
-    let sound = subst (λ (b : Bool). IsSound s core b) c.if-failed.false c.requires.sound in
+    let sound = subst (λ (b : Bool). IsSoundCore s core b) c.if-failed.false c.requires.sound in
     let there = some_of (pending_at core.pending c.args.key) c.requires.live in
     let put = c.put_pending.ensures in
     crash_finds sound put.same c.args.key there.1 c.put_pending.new.pending.slots (put.grown there.0 there.1).1
@@ -37,7 +37,7 @@ pub returns-in-Err-clause-quiet : goal.returns-in-Err-clause-quiet
 returns-in-Err-clause-quiet g c h f rests =
     let s = g.D.Disk.state c.args.disk.now in
     let core = core_of c.args.map.now in
-    let sound = subst (λ (b : Bool). IsSound s core b) c.if-failed.false c.requires.sound in
+    let sound = subst (λ (b : Bool). IsSoundCore s core b) c.if-failed.false c.requires.sound in
     let there = some_of (pending_at core.pending c.args.key) c.requires.live in
     let put = c.put_pending.ensures in
     crash_finds sound put.same c.args.key there.1 c.put_pending.new.pending.slots (put.grown there.0 there.1).1
@@ -48,7 +48,7 @@ pub returns-in-Ok-clause-quiet : goal.returns-in-Ok-clause-quiet
 returns-in-Ok-clause-quiet g c h f rests =
     let s = g.D.Disk.state c.args.disk.now in
     let core = core_of c.args.map.now in
-    let sound = subst (λ (b : Bool). IsSound s core b) c.if-failed.false c.requires.sound in
+    let sound = subst (λ (b : Bool). IsSoundCore s core b) c.if-failed.false c.requires.sound in
     let there = some_of (pending_at core.pending c.args.key) c.requires.live in
     let put = c.put_pending.ensures in
     crash_finds sound put.same c.args.key there.1 c.put_pending.new.pending.slots (put.grown there.0 there.1).1
@@ -59,7 +59,7 @@ pub returns-in-Err-Device-clause-rests : goal.returns-in-Err-Device-clause-rests
 returns-in-Err-Device-clause-rests g c h f rests =
     let s = g.D.Disk.state c.args.disk.now in
     let core = core_of c.args.map.now in
-    let sound = subst (λ (b : Bool). IsSound s core b) c.if-failed.false c.requires.sound in
+    let sound = subst (λ (b : Bool). IsSoundCore s core b) c.if-failed.false c.requires.sound in
     let there = some_of (pending_at core.pending c.args.key) c.requires.live in
     let put = c.put_pending.ensures in
     rest_finds sound put.same c.args.key there.1 c.put_pending.new.pending.slots (put.grown there.0 there.1).1
@@ -69,7 +69,7 @@ pub returns-in-Ok-clause-rests : goal.returns-in-Ok-clause-rests
 returns-in-Ok-clause-rests g c h f rests =
     let s = g.D.Disk.state c.args.disk.now in
     let core = core_of c.args.map.now in
-    let sound = subst (λ (b : Bool). IsSound s core b) c.if-failed.false c.requires.sound in
+    let sound = subst (λ (b : Bool). IsSoundCore s core b) c.if-failed.false c.requires.sound in
     let there = some_of (pending_at core.pending c.args.key) c.requires.live in
     let put = c.put_pending.ensures in
     rest_finds sound put.same c.args.key there.1 c.put_pending.new.pending.slots (put.grown there.0 there.1).1
@@ -79,7 +79,7 @@ pub returns-in-Err-Device-clause-given_up : goal.returns-in-Err-Device-clause-gi
 returns-in-Err-Device-clause-given_up g c gone =
     let s = g.D.Disk.state c.args.disk.now in
     let core = core_of c.args.map.now in
-    let sound = subst (λ (b : Bool). IsSound s core b) c.if-failed.false c.requires.sound in
+    let sound = subst (λ (b : Bool). IsSoundCore s core b) c.if-failed.false c.requires.sound in
     let there = some_of (pending_at core.pending c.args.key) c.requires.live in
     let put = c.put_pending.ensures in
     inr (λ h.
@@ -91,13 +91,13 @@ pub returns-in-Ok-clause-sound : goal.returns-in-Ok-clause-sound
 returns-in-Ok-clause-sound g c =
     let s = g.D.Disk.state c.args.disk.now in
     let core = core_of c.args.map.now in
-    let sound = subst (λ (b : Bool). IsSound s core b) c.if-failed.false c.requires.sound in
+    let sound = subst (λ (b : Bool). IsSoundCore s core b) c.if-failed.false c.requires.sound in
     let there = some_of (pending_at core.pending c.args.key) c.requires.live in
     let put = c.put_pending.ensures in
     let new = core_of
     (record c.args.map.now { pending = c.put_pending.new.pending; table = c.put_pending.new.table }) in
     let done = c.in-Ok.ensures.put there.0 there.1 in
-    subst (λ (b : Bool). IsSound (g.D.Disk.state c.put_pending.new.disk) new b) (sym c.if-failed.false)
+    subst (λ (b : Bool). IsSoundCore (g.D.Disk.state c.put_pending.new.disk) new b) (sym c.if-failed.false)
     (put_done sound put.same c.args.key there.1 c.put_pending.new.pending.slots (put.grown there.0 there.1).1
     put.others (λ h. put.modified h there.0 there.1) done.0 c.args.block c.args.words.now done.1 done.2 done.3)
 

@@ -1,7 +1,7 @@
 use Rattle.std.proofs.Common.{ℕ, ◌<◌, Bool, sym, ap, subst, ◌∙◌}
 use Rattle.volume.specs.LiveCores.{core_of}
 use Rattle.volume.specs.Moving.{MovesAcross}
-use Rattle.volume.specs.Rest.{IsSound}
+use Rattle.volume.specs.Rest.{IsSoundCore}
 use Rattle.volume.specs.declared.error.CallError.TheVariants.{Failed}
 use Rattle.volume.proofs.MakingDirectories.{err_on}
 use Rattle.volume.proofs.MovingTransactions.{across_move}
@@ -58,7 +58,7 @@ returns-in-Ok-commit_puts-clause-sound g c =
     let s' = g.D.Disk.state c.commit_puts.new.disk in
     let move = across_move c.requires.sound c.move_to_directory.ensures.1 c.requires.protection c.requires.unclaimed in
     let done = c.in-Ok-commit_puts.ensures in
-    subst (λ (b : Bool). IsSound s' (core_of c.move_to_directory.new.core) b) (sym c.requires.alive)
+    subst (λ (b : Bool). IsSoundCore s' (core_of c.move_to_directory.new.core) b) (sym c.requires.alive)
     (move_sound c.requires.sound move c.read_prime.ensures.same s' c.commit_puts.ensures.same c.read_prime.ensures.keeps
     (λ m. ap s.contents (sym (c.prime_of-at.ensures c.move_to_directory.ensures.0 move.there))
     ∙ c.in-Ok.ensures.words m)

@@ -1,21 +1,21 @@
 use Rattle.std.proofs.Common.{◌≡◌, ◌∙◌, ℕ, ◌<◌, ◌≤◌, length, sym, ap, arith}
 use Rattle.std.proofs.lemmas.Bool.{leb-true, le-leb, ltb-true, lt-ltb}
-use Rattle.imagefile.specs.Memory.{Memory, memory_of, IsReplayed}
+use Rattle.imagefile.specs.Memory.{FileMemory, memory_of, IsFileReplayed}
 use Rattle.imagefile.proofs.Record.{length-spelled}
 use Rattle.imagefile.proofs.memory.MemFile.has_room.Goals as goal
 
 pub returns-then-len-self : goal.returns-then-len-self
 returns-then-len-self c =
     let s = c.self.inside in
-    let m : Memory = memory_of s.bytes.items s.first.items s.calls.items s.written.items s.opened.items
+    let m : FileMemory = memory_of s.bytes.items s.first.items s.calls.items s.written.items s.opened.items
     s.room s.byte_room s.failures in
     let view : m ≡ c.args.self.now = c.self.view_is in
-    let is : IsReplayed m = c.self.invariant.3 in
-    let count : length c.args.self.now.steps ≡ length s.calls.items = ap (λ (w : Memory). length w.steps) (sym view)
+    let is : IsFileReplayed m = c.self.invariant.3 in
+    let count : length c.args.self.now.steps ≡ length s.calls.items = ap (λ (w : FileMemory). length w.steps) (sym view)
     ∙ length-spelled s.calls.items s.written.items in
-    let room : c.args.self.now.room ≡ s.room = ap (λ (w : Memory). w.room) (sym view) in
-    let written : c.args.self.now.written ≡ length s.written.items = ap (λ (w : Memory). w.written) (sym view) in
-    let byte_room : c.args.self.now.byte_room ≡ s.byte_room = ap (λ (w : Memory). w.byte_room) (sym view) in (
+    let room : c.args.self.now.room ≡ s.room = ap (λ (w : FileMemory). w.room) (sym view) in
+    let written : c.args.self.now.written ≡ length s.written.items = ap (λ (w : FileMemory). w.written) (sym view) in
+    let byte_room : c.args.self.now.byte_room ≡ s.byte_room = ap (λ (w : FileMemory). w.byte_room) (sym view) in (
       λ fits. record {
         steps = omega (arith, count, room, s.calls.ok);
         bytes = omega (arith, written, byte_room, s.written.ok, is.bytes_fit, leb-true _ _ fits);
@@ -26,12 +26,12 @@ returns-then-len-self c =
 pub returns-else-len-self : goal.returns-else-len-self
 returns-else-len-self c =
     let s = c.self.inside in
-    let m : Memory = memory_of s.bytes.items s.first.items s.calls.items s.written.items s.opened.items
+    let m : FileMemory = memory_of s.bytes.items s.first.items s.calls.items s.written.items s.opened.items
     s.room s.byte_room s.failures in
     let view : m ≡ c.args.self.now = c.self.view_is in
-    let count : length c.args.self.now.steps ≡ length s.calls.items = ap (λ (w : Memory). length w.steps) (sym view)
+    let count : length c.args.self.now.steps ≡ length s.calls.items = ap (λ (w : FileMemory). length w.steps) (sym view)
     ∙ length-spelled s.calls.items s.written.items in
-    let room : c.args.self.now.room ≡ s.room = ap (λ (w : Memory). w.room) (sym view) in (
+    let room : c.args.self.now.room ≡ s.room = ap (λ (w : FileMemory). w.room) (sym view) in (
       λ less. absurd (none c.len.result s.room c.if-len-self.false (ltb-true _ _ less)),
       λ has. lt-ltb _ _ (omega (arith, has.steps, count, room, s.calls.ok)),
     )

@@ -1,5 +1,5 @@
 use Rattle.std.proofs.Common.{◌≡◌, refl, arith, sym, subst}
-use Rattle.imagefile.specs.Memory.{bytes_in, IsReplayed, memory_of, begun}
+use Rattle.imagefile.specs.Memory.{bytes_in, IsFileReplayed, memory_of, begun}
 use Rattle.imagefile.proofs.Record.{begins, replayed_begun}
 use Rattle.imagefile.proofs.memory.MemFile.new.Goals as goal
 
@@ -18,7 +18,7 @@ invariant_of-result c = (
   omega (arith, c.in_ok-with_capacity.ensures.exact),
   omega (arith, c.in_ok-with_capacity-2.ensures.exact),
   rw (c.in_ok-with_capacity.ensures.items, c.in_ok-with_capacity-2.ensures.items) refl,
-  subst IsReplayed (sym (made c)) (replayed_begun c.args.bytes.now c.args.calls),
+  subst IsFileReplayed (sym (made c)) (replayed_begun c.args.bytes.now c.args.calls),
 )
 
 pub returns : goal.returns

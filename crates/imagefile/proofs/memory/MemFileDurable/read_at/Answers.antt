@@ -1,7 +1,7 @@
 use Rattle.std.proofs.Common.{◌≡◌, ◌∙◌, ◌+◌, ◌-◌, ◌≤◌, ℕ, List, length, get_or, take, drop, sym, ap, arith, get_or-take}
 use Rattle.std.proofs.Common.{get_or-drop, length-take, length-drop}
 use Rattle.imagefile.specs.File.{window}
-use Rattle.imagefile.specs.Memory.{Memory}
+use Rattle.imagefile.specs.Memory.{FileMemory}
 use Rattle.imagefile.proofs.Record.{window-list}
 use Rattle.imagefile.proofs.memory.MemFileDurable.read_at.Goals as goal
 
@@ -17,7 +17,7 @@ copied all got at count n is same fits =
 
 pub returns-clause-read : goal.returns-clause-read
 returns-clause-read c =
-    let view : c.self.inside.bytes.items ≡ c.args.self.now.bytes = ap (λ (m : Memory). m.bytes) c.self.view_is in
+    let view : c.self.inside.bytes.items ≡ c.args.self.now.bytes = ap (λ (m : FileMemory). m.bytes) c.self.view_is in
     let count = c.args.at + length c.args.bytes.now - c.args.at in
     let same : count ≡ length c.args.bytes.now = omega arith in
     copied c.args.self.now.bytes c.copy_from_slice.new.self c.args.at count (length c.args.bytes.now)

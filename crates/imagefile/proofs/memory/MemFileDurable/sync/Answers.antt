@@ -1,19 +1,19 @@
 use Rattle.std.proofs.Common.{◌≡◌, ◌∙◌, ◌<◌, false, length, replicate, sym, ap, subst, arith, vec_len}
 use Rattle.imagefile.specs.File.{FileSyncs}
-use Rattle.imagefile.specs.Memory.{Memory, memory_of, memory_state, IsReplayed, bytes_synced, bytes_in}
+use Rattle.imagefile.specs.Memory.{FileMemory, memory_of, memory_state, IsFileReplayed, bytes_synced, bytes_in}
 use Rattle.imagefile.proofs.Record.{made_synced, syncs_synced, replayed_synced, synced_in, length-spelled}
 use Rattle.imagefile.proofs.memory.MemFileDurable.sync.Goals as goal
 
 pub returns-then-len-self-clause-full : goal.returns-then-len-self-clause-full
 returns-then-len-self-clause-full c =
     let s = c.self.inside in
-    let m : Memory = memory_of s.bytes.items s.first.items s.calls.items s.written.items s.opened.items
+    let m : FileMemory = memory_of s.bytes.items s.first.items s.calls.items s.written.items s.opened.items
     s.room s.byte_room s.failures in
     let view : m ≡ c.args.self.now = c.self.view_is in
-    let is : IsReplayed m = c.self.invariant.3 in
-    let count : length c.args.self.now.steps ≡ length s.calls.items = ap (λ (w : Memory). length w.steps) (sym view)
+    let is : IsFileReplayed m = c.self.invariant.3 in
+    let count : length c.args.self.now.steps ≡ length s.calls.items = ap (λ (w : FileMemory). length w.steps) (sym view)
     ∙ length-spelled s.calls.items s.written.items in
-    let room : c.args.self.now.room ≡ s.room = ap (λ (w : Memory). w.room) (sym view) in
+    let room : c.args.self.now.room ≡ s.room = ap (λ (w : FileMemory). w.room) (sym view) in
     omega (arith, count, room, s.calls.ok, is.fits, length-spelled s.calls.items s.written.items)
 
 -- what the fields are then
@@ -39,13 +39,13 @@ room c = let s = c.self.inside in omega (arith, s.calls.ok, length-spelled s.cal
 pub invariant_of-self-2 : goal.invariant_of-self-2
 invariant_of-self-2 c =
     let s = c.self.inside in
-    let m : Memory = memory_of s.bytes.items s.first.items s.calls.items s.written.items s.opened.items
+    let m : FileMemory = memory_of s.bytes.items s.first.items s.calls.items s.written.items s.opened.items
     s.room s.byte_room s.failures in
     let view : m ≡ c.args.self.now = c.self.view_is in (
       omega (arith, c.self.invariant.0, c.in-Ok.ensures.capacity),
       c.self.invariant.1,
       ap (λ l. bytes_in l) c.in-Ok.ensures.items ∙ synced_in s.calls.items ∙ c.self.invariant.2,
-      subst IsReplayed (sym (made c)) (replayed_synced m c.self.invariant.3 (room c)),
+      subst IsFileReplayed (sym (made c)) (replayed_synced m c.self.invariant.3 (room c)),
     )
 
 pub returns-clause-synced : goal.returns-clause-synced
@@ -54,9 +54,9 @@ returns-clause-synced c = made c ∙ ap bytes_synced c.self.view_is
 pub returns-clause-syncs : goal.returns-clause-syncs
 returns-clause-syncs c =
     let s = c.self.inside in
-    let m : Memory = memory_of s.bytes.items s.first.items s.calls.items s.written.items s.opened.items
+    let m : FileMemory = memory_of s.bytes.items s.first.items s.calls.items s.written.items s.opened.items
     s.room s.byte_room s.failures in
     let view : m ≡ c.args.self.now = c.self.view_is in
-    subst (λ (w : Memory). FileSyncs (memory_state c.args.self.now) (memory_state w)) (sym (made c))
-    (subst (λ (w : Memory). FileSyncs (memory_state w) (memory_state (bytes_synced m))) view
+    subst (λ (w : FileMemory). FileSyncs (memory_state c.args.self.now) (memory_state w)) (sym (made c))
+    (subst (λ (w : FileMemory). FileSyncs (memory_state w) (memory_state (bytes_synced m))) view
     (syncs_synced m c.self.invariant.3 (room c)))

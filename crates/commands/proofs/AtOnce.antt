@@ -1,0 +1,72 @@
+-- What a monitor does at once is what it does event by event.
+use Rattle.std.proofs.Common.{◌≡◌, ◌+◌, ◌<◌, ℕ, Bool, List, [], ◌∷◌, ◌++◌, length, slice_index, Option, refl, sym, subst}
+use Rattle.blockdisk.specs.Disk.{DiskState, Contents, MayLeave}
+use Rattle.blockdisk.specs.Laws.{still_start}
+use Rattle.meaning.specs.Plans.{Plan, Asks, Leads, each, deposits, if_done}
+use Rattle.meaning.specs.Runs.{Service, Answers}
+use Rattle.meaning.specs.declared.call.Event.{Event}
+use Rattle.meaning.specs.declared.call.Event.TheVariants.{Deposit, Examine}
+use Rattle.meaning.specs.declared.call.Reply.{Reply}
+use Rattle.meaning.specs.declared.call.Reply.TheVariants.{Done, Value}
+use Rattle.volume.specs.Live.{VolumeCore}
+use Rattle.monitor.specs.Deposits.{DepositsBy}
+use Rattle.monitor.specs.Serving.{pack_of, Serves}
+use Rattle.monitor.specs.States.{MonitorState}
+use Rattle.monitor.specs.declared.job.Job.{Job}
+use Rattle.monitor.proofs.EventCrashes.{untouched_event, state_stands}
+use Rattle.commands.specs.Asking.{HasDone}
+use Rattle.commands.specs.Machines.{Machine, AlwaysStands, GoesBy, IsAnswered, AreShown}
+use Rattle.commands.specs.Monitors.{machine_of}
+use Rattle.commands.proofs.GoingLaws.{goes_on, goes_answered, goes_nowhere}
+
+module _ {D : Type 0} (state : D → DiskState) (only_now : (disk : D) (contents : Contents) → (state disk).honest
+    → (state disk).left_since (state disk).clock contents → MayLeave (state disk) contents) (disk : D)
+    (map : VolumeCore) (failed : Bool) where
+  abbrev of : MonitorState D → Machine
+  of m = machine_of (state m.disk) m.map m.failed m.jobs
+
+  abbrev with_jobs : List (Option Job) → MonitorState D
+  with_jobs jobs = record { disk = disk; map = map; failed = failed; jobs = jobs }
+
+  stands : AlwaysStands of
+  stands m honest s serves = state_stands (state m.disk) m.map m.jobs s serves.1
+
+  -- an event that leaves the disk alone, of which it is known what it is answered
+  answered : (jobs jobs' : List (Option Job)) (event : Event) (reply : Reply)
+      → ((old : Service) → Serves (state disk) map failed jobs old → (new : Service)
+      × Serves (state disk) map failed jobs' new × Answers (pack_of (state disk)) old event reply new)
+      → IsAnswered (of (with_jobs jobs)) (of (with_jobs jobs')) event reply
+  answered jobs jobs' event reply by = record {
+    pack = refl;
+    was_honest = λ honest. honest;
+    crash = λ honest s serves. untouched_event state only_now disk disk refl map jobs event reply honest s serves.1;
+    broken = λ honest serves. still_start (state disk);
+    answers = λ honest. by;
+  }
+
+  pub words_shown : (jobs : List (Option Job)) (first : ℕ) (words : List ℕ)
+      → ((i : ℕ) → i < length words → (old : Service) → Serves (state disk) map failed jobs old → (new : Service)
+      × Serves (state disk) map failed jobs new
+      × Answers (pack_of (state disk)) old (Examine 1 (first + i)) (Value (slice_index words i)) new)
+      → AreShown (of (with_jobs jobs)) first words
+  words_shown jobs first words by i less =
+      answered jobs jobs (Examine 1 (first + i)) (Value (slice_index words i)) (by i less)
+
+  pub words_done : (words : List ℕ) (first : ℕ) (jobs last : List (Option Job))
+      → DepositsBy (state disk) map failed 1 jobs first words last
+      → HasDone of (with_jobs jobs) (with_jobs last) (deposits first words)
+  unfolding each
+  words_done [] first jobs last is = record {
+    acts = [];
+    goes = subst (λ js. GoesBy of (with_jobs jobs) (with_jobs js) []) (sym is) (goes_nowhere of stands (with_jobs jobs));
+    leads = λ moment rest next. refl;
+  }
+  words_done (word ∷ words) first jobs last by =
+      let more = words_done words (first + 1) by.0 last by.2 in
+      record {
+        acts = Asks (Deposit 1 first word) Done ∷ more.acts;
+        goes = goes_on of (with_jobs jobs) (with_jobs by.0) (with_jobs last) (Asks (Deposit 1 first word) Done ∷ [])
+            more.acts (goes_answered of stands (with_jobs jobs) (with_jobs by.0) (Deposit 1 first word) Done
+            (answered jobs by.0 (Deposit 1 first word) Done by.1)) more.goes;
+        leads = λ moment rest next. (refl, more.leads moment rest next);
+      }
