@@ -1,6 +1,6 @@
 -- Plans that are led on by what a service answers.
 use Rattle.std.proofs.Common.{◌≡◌, ◌≢◌, ℕ, ◌+◌, ◌<◌, ◌≤◌, List, [], ◌∷◌, ◌++◌, length, take, drop, get_or, refl}
-use Rattle.std.proofs.Common.{sym, ◌∙◌, ap, subst, append_assoc, append-nil}
+use Rattle.std.proofs.Common.{sym, ◌∙◌, ap, subst, append_assoc, append-nil, arith}
 use Rattle.std.proofs.lemmas.List.{take_more, take_all, take-append-drop}
 use Rattle.words36.specs.declared.moment.Moment.{Moment}
 use Rattle.meaning.specs.Plans.{Act, Asks, Looks, Plan, Ask, Show, Say, Leads, each, if_done, if_told, examines, fails}
@@ -169,6 +169,12 @@ module _ {S : Type 0} (machine : S → Machine) where
           leads = subst (λ (l : List Event). Leads (each moment l next) q.acts next) (append-nil events)
               (none_left moment (events ++ []) q.acts next (q.leads moment [] next));
         }
+
+    -- events that were all done
+    pub led_done : (a b : S) (events : List Event) → HasDone machine a b events → (moment : Moment) (next : Plan)
+        → Led machine a b (each moment events next) next
+    led_done a b events p = asked_all a b events (length events) (omega arith)
+        (subst (HasDone machine a b) (sym (take_all (length events) events (omega arith))) p)
 
     -- a word that is told, and another reply
     pub led_told : (a b : S) (address : ℕ) (reply : Reply) (word : ℕ) (moment : Moment) (next : ℕ → Plan)

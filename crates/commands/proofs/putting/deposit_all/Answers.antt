@@ -1,7 +1,14 @@
 use Rattle.std.proofs.Common.{arith, refl}
 use Rattle.std.proofs.lemmas.Result.{err_from_is_err_and}
+use Rattle.meaning.specs.Plans.{deposits}
+use Rattle.commands.proofs.LedLaws.{led_done}
 use Rattle.commands.proofs.PuttingLaws.{deposits_none, deposits_more, deposits_broken, deposits_all}
 use Rattle.commands.proofs.putting.deposit_all.Goals as goal
+
+pub returns-then-deposit_all : goal.returns-then-deposit_all
+returns-then-deposit_all g c moment next =
+    led_done g.S.FileService.machine g.met.S.FileService.stands c.args.service.now c.deposit_all.new.self
+    (deposits c.args.address c.args.words.now) (c.deposit_all.ensures.done c.if-deposit_all.true) moment next
 
 pub loop-place-init : goal.loop-place-init
 loop-place-init g c = deposits_none g.S.FileService.machine c.args.address c.args.words.now g.met.S.FileService.stands
