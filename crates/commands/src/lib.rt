@@ -11,17 +11,17 @@
 //!    replies so far, and writes what they print: at Ok the writer got the text of all that the reader had,
 //!    the service went by these calls and a RESET of job 1 that prints nothing, and the tally is that of the
 //!    lines. (`ends`, `goes`, `served`) COPY and TYPE move a whole body by INs and OUTs until an IN tells its
-//!    end, and a refused line leaves nothing of it. (`Plan`, `Led`) At the moment before the first call and after each,
-//! all that a crash
-//!    may leave stands for the files after the calls so far; from one moment to the next a crash leaves
-//!    these, or those after one call more. (`ActsBy`)
+//!    end, and a refused line leaves nothing of it. (`Plan`, `Led`) At the moment before the first call and
+//!    after each, all that a crash may leave stands for the files after the calls so far; from one moment to
+//!    the next a crash leaves these, or those after one call more. (`ActsBy`)
 //! 5. The text is a function of the lines, the state and the moment, where no call met want of memory or a
 //!    fault of the disk. (`served_texts_are_functions`)
 //! 6. Where it breaks off the writer holds a beginning of that text. At `Read` it holds all of it for the
 //!    lines that had ended, and the bytes behind them are not answered. At `Write` and `NoMemory` nothing is
 //!    missing but the end of the last line's text, whose calls were made. (`CutShort`, `Unfinished`)
 //! 7. What is said of calls is said over any service of files, as far as it keeps its promises; what is said
-//!    of bytes is said of readers and writers that tell theirs.
+//!    of bytes is said of readers and writers that tell theirs. A service may put or show words of a block at
+//!    once, as the calls that these stand for. (`AreShown`, `HasDone`)
 //! 8. `order_of` answers an event exactly where a text is a line of a call script, and none exactly where it
 //!    is none; a line has one reading. `reply_line` writes the line of a reply. (`orders_have_one_reading`)
 //! 9. `script` reads to the end of the input, serves the event of each line, and writes the line of its reply:

@@ -2,7 +2,7 @@ use crate::word_tests::{expect_words, place, word};
 use std::alloc::Global;
 use std::process::Abort;
 use std::test::Fail;
-use usercore::{Core, CoreError, word_count};
+use usercore::{Area, Core, CoreError, word_count};
 use words36::Word;
 
 /// The words 1 to 5.
@@ -96,6 +96,40 @@ fn a_list_is_read_before_words_are_moved(rt: HostRuntime) -> Result<(), Fail> {
     expect_dealt(&rt, &mut core, 0o430, &five_words(), 3);
     expect_words(&rt, &core, 0o430, &[1, 2, 0]);
     expect_words(&rt, &core, 0o577, &[0, 3, 0]);
+    Ok(())
+}
+
+/// The list at an address is one command word with an area, and a word that ends it; or it is no such list.
+fn expect_lone(rt: &impl Abort, core: &Core, address: u32, wanted: Option<Area>) {
+    assert!(rt; core.lone_area(address) == wanted);
+}
+
+#[test]
+fn lists_of_one_area(rt: HostRuntime) -> Result<(), Fail> {
+    let mut core = core_with_a_list(&rt, rt.alloc())?;
+    let area = Area {
+        first: 0o700,
+        count: 2,
+    };
+    expect_lone(&rt, &core, 0o410, Some(area));
+    expect_lone(&rt, &core, 0o400, None);
+    expect_lone(&rt, &core, 0o401, None);
+    expect_lone(&rt, &core, 0o411, None);
+    // the last words of the core, and one word more
+    place(&rt, &mut core, 0o1775, &[0o777776001775, 0, 0o777777000577]);
+    expect_lone(
+        &rt,
+        &core,
+        0o1775,
+        Some(Area {
+            first: 0o1776,
+            count: 2,
+        }),
+    );
+    place(&rt, &mut core, 0o1775, &[0o777775001775]);
+    expect_lone(&rt, &core, 0o1775, None);
+    expect_lone(&rt, &core, 0o1777, None);
+    expect_lone(&rt, &core, u32::MAX, None);
     Ok(())
 }
 

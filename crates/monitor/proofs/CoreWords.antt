@@ -1,6 +1,7 @@
 -- A word that is put into a job's core, or asked for, is that of the machine.
-use Rattle.std.proofs.Common.{◌≡◌, ℕ, Bool, false, List, Option, None, Some, refl, sym, ap, subst, ◌∙◌, ⊎_elim}
-use Rattle.std.proofs.Common.{slice_set}
+use Rattle.std.proofs.Common.{◌≡◌, ◌+◌, ◌<◌, ℕ, Bool, false, List, Option, None, Some, refl, sym, ap, subst, ◌∙◌, ⊎_elim}
+use Rattle.std.proofs.Common.{slice_index, slice_set}
+use Rattle.std.specs.Prelude.{IfSome}
 use Rattle.blockdisk.specs.Disk.{DiskState}
 use Rattle.meaning.specs.Files.{Files}
 use Rattle.meaning.specs.Published.{Version}
@@ -12,7 +13,7 @@ use Rattle.meaning.specs.Sessions.{examine_answer}
 use Rattle.meaning.specs.Step.{step, on_job, deposit}
 use Rattle.meaning.specs.declared.call.Event.TheVariants.{Deposit, Examine}
 use Rattle.meaning.specs.declared.call.Reply.{Reply}
-use Rattle.meaning.specs.declared.call.Reply.TheVariants.{Done}
+use Rattle.meaning.specs.declared.call.Reply.TheVariants.{Done, Value}
 use Rattle.monitor.specs.Replies.{deposit_of, examine_of}
 use Rattle.volume.specs.Live.{VolumeCore}
 use Rattle.volume.specs.declared.live.LiveVersion.{LiveVersion}
@@ -120,3 +121,17 @@ module _ (d : DiskState) (map : VolumeCore) (failed : Bool) (jobs jobs' : List (
   examine_answered serves keyed reading answer =
       row d map map failed jobs jobs keyed reading (leaves_none map) (pack_of d) (Examine n address) reply
       (λ serial files w. examine_row (pack_of d) jobs n address serial files w reply (slot jobs n) refl answer) serves
+
+-- words in a row that are shown, each as an event would be told it
+module _ (d : DiskState) (map : VolumeCore) (failed : Bool) (jobs : List (Option Job)) (n first count : ℕ) where
+  pub all_answered : failed ≡ false → AreKeyed map.pending jobs → AreReading map.live jobs
+      → {W : Type 0} (view : W → List ℕ) (result : Option W)
+      → IfSome result (λ words. (i : ℕ) → i < count
+      → Value (slice_index (view words) i) ≡ examine_of (first + i) (slot jobs n))
+      → IfSome result (λ words. (i : ℕ) → i < count → (old : Service) → Serves d map failed jobs old
+      → (new : Service) × Serves d map failed jobs new
+      × Answers (pack_of d) old (Examine n (first + i)) (Value (slice_index (view words) i)) new)
+  all_answered serves keyed reading view None shown = tt
+  all_answered serves keyed reading view (Some words) shown = λ i less.
+      examine_answered d map failed jobs jobs n (first + i) 0 (Value (slice_index (view words) i)) serves keyed reading
+      (shown i less)

@@ -11,7 +11,8 @@
 //!    (`value`, `done`, `refused`)
 //! 4. `list` gives the list of a directory that the machine gives, by name and then by extension.
 //!    (`listed`) On every disk it is refused by few replies, and never by the device. (`nobody`, `only`)
-//! 5. `deposit` and `examine` put and show a word of a job's core as the machine does. (`answered`, `value`)
+//! 5. `deposit` and `examine` put and show a word of a job's core as the machine does (`answered`, `value`), and
+//!    `deposit_all` and `examine_all` words in a row, as if one after the other (`done`, `answered`).
 //! 6. `call` is the table of the calls, and each call is the file of its name. It answers OPEN, INBUF, OUTBUF, LOOKUP,
 //!    ENTER, RENAME, IN, OUT, USETI, USETO, CLOSE, RELEAS, GETSTS, RESET, MakeDir and DeleteDir, in dump mode and over
 //!    rings of buffers, as the machine's rows do, or wants memory where the machine may, or blames the device; and

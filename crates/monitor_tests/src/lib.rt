@@ -10,3 +10,5 @@ mod fault_tests;
 mod list_tests;
 #[cfg(test)]
 mod service;
+#[cfg(test)]
+mod word_tests;

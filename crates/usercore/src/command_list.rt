@@ -17,6 +17,7 @@ impl Core {
         ensures area { IfSome result (λ area. dump_list self.now address ≡ Some (area ∷ [])) }
         ensures within { IfSome result (λ area. area.first + area.count ≤ length self.now) }
         ensures some { IfSome result (λ area. 0 < area.count) }
+        ensures few { IfSome result (λ area. area.count ≤ 0o400000) }
         ensures there { IsSome result ↔ ((address + 1 < length self.now) × (0 < left (slice_index self.now address))
             × (slice_index self.now (address + 1) ≡ 0) × (right (slice_index self.now address) + 1
             + (2 ^ 18 - left (slice_index self.now address)) ≤ length self.now)) }

@@ -7,7 +7,7 @@ use Rattle.meaning.specs.declared.code.ErrorCode.TheVariants.{NoRoom}
 use Rattle.volume.specs.declared.error.CallError.TheVariants.{Refused}
 use Rattle.volume.specs.Live.{VolumeCore}
 use Rattle.monitor.specs.Putting.{moved, IsOut}
-use Rattle.monitor.specs.Rows.{Keeps}
+use Rattle.monitor.specs.Rows.{KeepsSides}
 use Rattle.monitor.specs.Sides.{kind_of}
 use Rattle.monitor.proofs.Calling.{keeps_same}
 use Rattle.monitor.proofs.Outgoings.{Found, at_output, goes_out, has_outgoing}
@@ -213,7 +213,7 @@ pub returns-in-Err-Refused-clause-keeps : goal.returns-in-Err-Refused-clause-kee
 returns-in-Err-Refused-clause-keeps g c alive =
     let same = c.put_words.ensures.refused c.in-Err-Refused.field-0-0
     (c.in-Err-Refused.is ∙ ap Err c.in-Err-Refused.field-0-is) in
-    subst (λ (core : VolumeCore). Keeps c.args.volume.now.core.pending core.pending c.args.job.now
+    subst (λ (core : VolumeCore). KeepsSides c.args.volume.now.core.pending core.pending c.args.job.now
     c.stop-in-Err-Refused.new.job) (sym same.1)
     (keeps_status c.args.job.now c.args.number 0 c.in-Some.channel (sym c.channel.ensures ∙ c.in-Some.is)
     c.args.volume.now.core.pending c.stop-in-Err-Refused.new.job _ c.stop-in-Err-Refused.ensures.kept)
@@ -228,6 +228,6 @@ pub returns-in-Err-NoMemory-put_words-clause-keeps : goal.returns-in-Err-NoMemor
 returns-in-Err-NoMemory-put_words-clause-keeps g c alive =
     let same = c.put_words.ensures.memory
     (c.in-Err-NoMemory-put_words.is ∙ ap Err c.in-Err-NoMemory-put_words.field-0-is) in
-    subst (λ (core : VolumeCore). Keeps c.args.volume.now.core.pending core.pending c.args.job.now c.args.job.now)
+    subst (λ (core : VolumeCore). KeepsSides c.args.volume.now.core.pending core.pending c.args.job.now c.args.job.now)
     (sym same.1)
     (keeps_same c.args.volume.now.core.pending c.args.job.now)

@@ -2,7 +2,7 @@ use Rattle.std.proofs.Common.{◌≡◌, false, Some, refl, subst, ap, slice_set
 use Rattle.std.specs.List.{AllByRecursion}
 use Rattle.meaning.specs.declared.call.Call.TheVariants.{Out}
 use Rattle.meaning.proofs.SlotLaws.{slot-set_other}
-use Rattle.volume.specs.Rest.{IsSound}
+use Rattle.volume.specs.Rest.{IsSoundCore}
 use Rattle.monitor.specs.Putting.{IsOut}
 use Rattle.monitor.specs.Serving.{IsSide}
 use Rattle.monitor.specs.Sides.{sides_in}
@@ -35,7 +35,7 @@ returns g c = record {
       let job = c.args.job.now in
       let job' = c.out.new.job in
       let jobs' = slice_set jobs n (Some job') in
-      let sound = subst (IsSound (state old.disk) map) c.requires.ready.alive c.requires.ready.sound in
+      let sound = subst (IsSoundCore (state old.disk) map) c.requires.ready.alive c.requires.ready.sound in
       let same = (new.disk ≡ old.disk) × (map' ≡ map) in
       record {
         keyed = out_keyed state old.disk new.disk map map' false new.failed jobs jobs' n job job' c.args.channel c.args.address moment among.there refl refl timely among.keyed among.reading c.out.ensures.keeps c.out.ensures.reads sound;
