@@ -1,5 +1,7 @@
 -- What a monitor does at once is what it does event by event.
-use Rattle.std.proofs.Common.{◌≡◌, ◌+◌, ◌<◌, ℕ, Bool, List, [], ◌∷◌, ◌++◌, length, slice_index, Option, refl, sym, subst}
+use Rattle.std.proofs.Common.{◌≡◌, ◌+◌, ◌<◌, ℕ, Bool, List, [], ◌∷◌, ◌++◌, length, slice_index, Option, None, Some, refl, sym}
+use Rattle.std.proofs.Common.{subst, arith}
+use Rattle.std.specs.Prelude.{IfSome}
 use Rattle.blockdisk.specs.Disk.{DiskState, Contents, MayLeave}
 use Rattle.blockdisk.specs.Laws.{still_start}
 use Rattle.meaning.specs.Plans.{Plan, Asks, Leads, each, deposits, if_done}
@@ -51,6 +53,16 @@ module _ {D : Type 0} (state : D → DiskState) (only_now : (disk : D) (contents
       → AreShown (of (with_jobs jobs)) first words
   words_shown jobs first words by i less =
       answered jobs jobs (Examine 1 (first + i)) (Value (slice_index words i)) (by i less)
+
+  pub all_shown : {W : Type 0} (view : W → List ℕ) (jobs : List (Option Job)) (first count : ℕ) (result : Option W)
+      → IfSome result (λ w. length (view w) ≡ count)
+      → IfSome result (λ w. (i : ℕ) → i < count → (old : Service) → Serves (state disk) map failed jobs old
+      → (new : Service) × Serves (state disk) map failed jobs new
+      × Answers (pack_of (state disk)) old (Examine 1 (first + i)) (Value (slice_index (view w) i)) new)
+      → IfSome result (λ w. (length (view w) ≡ count) × AreShown (of (with_jobs jobs)) first (view w))
+  all_shown view jobs first count None long by = tt
+  all_shown view jobs first count (Some w) long by =
+      (long, words_shown jobs first (view w) (λ i less. by i (omega (arith, less, long))))
 
   pub words_done : (words : List ℕ) (first : ℕ) (jobs last : List (Option Job))
       → DepositsBy (state disk) map failed 1 jobs first words last

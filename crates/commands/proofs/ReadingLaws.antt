@@ -3,7 +3,7 @@ use Rattle.std.proofs.Common.{◌≡◌, ℕ, zero, suc, ◌+◌, ◌-◌, ◌<�
 use Rattle.std.proofs.Common.{true, false, List, [], ◌∷◌, ◌++◌, length, take, get_or, replicate, Option, Some}
 use Rattle.std.proofs.Common.{None, Result, Ok, Err, bit_and, refl, sym, ◌∙◌, ap, subst, append_assoc, append-nil}
 use Rattle.std.proofs.Common.{add-one, zero-mul, arith, slice_index}
-use Rattle.std.proofs.lemmas.List.{take_all}
+use Rattle.std.proofs.lemmas.List.{take_all, take-append-le}
 use Rattle.std.proofs.lemmas.Nat.Bits.{and_pow}
 use Rattle.words36.specs.Words.{left}
 use Rattle.words36.specs.declared.moment.Moment.{Moment}
@@ -421,3 +421,14 @@ module _ {S : Type 0} (machine : S → Machine) (stands : AlwaysStands machine) 
       let place : first + suc i ≡ first + 1 + i = omega arith in
       subst (λ n. IsAnswered (machine a) (machine a) (Examine 1 n) (Value (slice_index words i))) place
       (shown (suc i) (omega (arith, less)))) (λ others. next (word ∷ others)))
+
+  -- copied to the front of a block
+  pub fetches_at_once : (count first : ℕ) (words front rest : List ℕ) (next : List ℕ → Plan) → length words ≡ count
+      → AreShown (machine a) first words → front ≡ words
+      → Led machine a a (fetches moment count first next) (next (take count (front ++ rest)))
+  fetches_at_once count first words front rest next long shown is =
+      let same : take count (front ++ rest) ≡ words = (λ j. take (sym long j) (is j ++ rest))
+      ∙ take-append-le (length words) words rest (omega arith) ∙ take_all (length words) words (omega arith) in
+      subst (λ n. Led machine a a (fetches moment n first next) (next (take count (front ++ rest)))) long
+      (subst (λ l. Led machine a a (fetches moment (length words) first next) (next l)) (sym same)
+      (fetches_shown words first shown next))

@@ -1,6 +1,9 @@
 -- Bytes of an input as the words that a file gets of them.
 use Rattle.std.proofs.Common.{◌≡◌, ℕ, ◌+◌, ◌*◌, ◌/◌, ◌%◌, ◌^◌, ◌<◌, ◌≤◌, true, false, List, [], ◌∷◌, length, get_or}
-use Rattle.std.proofs.Common.{All, Some, refl, sym, ◌∙◌, ap, subst, arith}
+use Rattle.std.proofs.Common.{All, Some, refl, sym, ◌∙◌, ap, subst, arith, zero, suc, nat_eq, Bool, ◌++◌, ◌||◌}
+use Rattle.std.proofs.Common.{if◌then◌else◌}
+use Rattle.std.proofs.lemmas.Bool.Decides.{nat_tests}
+use Rattle.std.specs.List.{list_any}
 use Rattle.std.specs.Prelude.{flat_map}
 use Rattle.std.proofs.lemmas.List.Elements.{All-from_get_or}
 use Rattle.words36.specs.Words.{IsWord}
@@ -8,6 +11,7 @@ use Rattle.words36.specs.Blocks.{word_bytes, number_at}
 use Rattle.words36.proofs.BlockLaws.{AreRead, block_bytes-read, number_at-block_bytes}
 use Rattle.meaning.specs.Errands.{is_character, AreWords}
 use Rattle.meaning.specs.Spellings.{Are}
+use Rattle.meaning.specs.Texts.{not_null}
 use Rattle.meaning.specs.declared.encoding.Encoding.TheVariants.{Words}
 use Rattle.commands.proofs.FieldLaws.{are_at}
 
@@ -48,3 +52,14 @@ all_words bytes words i small even above below long read =
           subst P (sym (read.value k within)) (read.fits k within)),
       block_bytes-read bytes words i small all long read,
     )
+
+-- Characters of which none is a null.
+pub none_null : (characters : List ℕ) → list_any (λ c. nat_eq c 0) characters ≡ false
+    → flat_map not_null characters ≡ characters
+none_null [] none = refl
+none_null (zero ∷ characters) none = let wrong : true ≡ false = none in absurd (cc)
+none_null (suc c ∷ characters) none =
+    let here : nat_eq (suc c) 0 ≡ false = grind (arith, nat_tests) in
+    let rest = subst (λ b. (b || list_any (λ y. nat_eq y 0) characters) ≡ false) here none in
+    ap (λ (b : Bool). (if b then [] else suc c ∷ []) ++ flat_map not_null characters) here
+    ∙ ap (λ l. suc c ∷ l) (none_null characters rest)

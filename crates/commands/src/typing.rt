@@ -16,7 +16,7 @@ use crate::service::FileService;
 use crate::text;
 use meaning::{Encoding, Reply, Spec};
 use std::alloc::{AllocError, Global};
-use words36::{BLOCK_WORDS, Moment, Ppn, Word, unpack_ascii};
+use words36::{BLOCK_WORDS, Moment, Ppn, Word, block_to_bytes, unpack_ascii};
 
 /// What was read so far, as it is printed.
 #[derive(Drop)]
@@ -35,6 +35,10 @@ fn push_characters(alloc: Global, bytes: &mut Vec<u8>, words: &[Word]) -> Result
     let Ok(characters) = unpack_ascii(alloc, words) else {
         return Err(AllocError);
     };
+    // most words have no null, and their characters are put at once
+    if !characters.as_slice().contains(&0) {
+        return bytes.extend_from_slice(characters.as_slice());
+    }
     for character in characters.as_slice() {
         if *character != 0 {
             bytes.push(*character)?;
@@ -54,6 +58,11 @@ fn bytes_of(word: Word) -> [u8; 8]
 fn push_words(bytes: &mut Vec<u8>, words: &[Word]) -> Result<(), AllocError>
     ensures { OnOk result (bytes.new.items ≡ bytes.old.items ++ flat_map word_bytes words.now) }
 {
+    if words.len() == BLOCK_WORDS {
+        let mut block = [Word::ZERO; BLOCK_WORDS];
+        block.copy_from_slice(words);
+        return bytes.extend_from_slice(&block_to_bytes(&block));
+    }
     for word in words {
         bytes.extend_from_slice(&bytes_of(*word))?;
     }

@@ -1,8 +1,8 @@
-use Rattle.std.proofs.Common.{arith, refl}
+use Rattle.std.proofs.Common.{arith, refl, sym, subst}
 use Rattle.std.proofs.lemmas.Result.{err_from_is_err_and}
 use Rattle.meaning.specs.Plans.{deposits}
 use Rattle.commands.proofs.LedLaws.{led_done}
-use Rattle.commands.proofs.PuttingLaws.{deposits_none, deposits_more, deposits_broken, deposits_all}
+use Rattle.commands.proofs.PuttingLaws.{Deposits, deposits_none, deposits_more, deposits_broken, deposits_all}
 use Rattle.commands.proofs.putting.deposit_all.Goals as goal
 
 pub returns-then-deposit_all : goal.returns-then-deposit_all
@@ -11,8 +11,11 @@ returns-then-deposit_all g c moment next =
     (deposits c.args.address c.args.words.now) (c.deposit_all.ensures.done c.if-deposit_all.true) moment next
 
 pub loop-place-init : goal.loop-place-init
-loop-place-init g c = deposits_none g.S.FileService.machine c.args.address c.args.words.now g.met.S.FileService.stands
-    c.args.service.now
+loop-place-init g c =
+    subst (λ service. Deposits g.S.FileService.machine c.args.address c.args.words.now c.args.service.now service 0)
+    (sym (c.deposit_all.ensures.refused c.if-deposit_all.false))
+    (deposits_none g.S.FileService.machine c.args.address c.args.words.now g.met.S.FileService.stands
+    c.args.service.now)
 
 pub loop-place-preserved : goal.loop-place-preserved
 loop-place-preserved g c =

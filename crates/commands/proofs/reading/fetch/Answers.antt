@@ -2,8 +2,14 @@ use Rattle.std.proofs.Common.{◌≡◌, ◌+◌, ◌∙◌, length, take, set, 
 use Rattle.std.proofs.lemmas.List.{take_more_set}
 use Rattle.std.proofs.lemmas.Result.{err_from_is_err_and}
 use Rattle.meaning.specs.Plans.{block_address}
-use Rattle.commands.proofs.ReadingLaws.{fetches_none, fetches_more, fetches_broken, fetches_all}
+use Rattle.commands.proofs.ReadingLaws.{fetches_at_once, fetches_none, fetches_more, fetches_broken, fetches_all}
 use Rattle.commands.proofs.reading.fetch.Goals as goal
+
+pub returns-in-Some : goal.returns-in-Some
+returns-in-Some g c moment next =
+    fetches_at_once g.S.FileService.machine g.met.S.FileService.stands c.args.service.now moment c.args.count
+    block_address c.in-Some.words.now c.copy_from_slice.new.self _ next c.in-Some.ensures.0 c.in-Some.ensures.1
+    c.copy_from_slice.ensures.after
 
 pub loop-place-init : goal.loop-place-init
 loop-place-init g c = (

@@ -1,0 +1,14 @@
+use Rattle.std.proofs.Common.{subst, sym}
+use Rattle.meaning.specs.Plans.{deposits}
+use Rattle.commands.specs.Asking.{HasDone}
+use Rattle.commands.specs.Monitors.{machine_of}
+use Rattle.commands.proofs.AtOnce.{words_done}
+use Rattle.commands.proofs.monitored.MonitorFileService.deposit_all.Goals as goal
+
+pub returns-clause-done : goal.returns-clause-done
+returns-clause-done g c is =
+    let old = c.args.self.now in
+    subst (λ new. HasDone (λ m. machine_of (g.D.Disk.state m.disk) m.map m.failed m.jobs) old new
+    (deposits c.args.first c.args.words.now)) (sym c.deposit_all.ensures.kept)
+    (words_done g.D.Disk.state g.met.D.Disk.only_now old.disk old.map old.failed c.args.words.now c.args.first old.jobs
+    c.deposit_all.new.self.jobs (c.deposit_all.ensures.done is))
