@@ -1,6 +1,6 @@
 -- What a monitor does at once is what it does event by event.
-use Rattle.std.proofs.Common.{◌≡◌, ◌+◌, ◌<◌, ℕ, Bool, List, [], ◌∷◌, ◌++◌, length, slice_index, Option, None, Some, refl, sym}
-use Rattle.std.proofs.Common.{subst, arith}
+use Rattle.std.proofs.Common.{◌≡◌, ◌+◌, ◌<◌, ℕ, Bool, List, [], ◌∷◌, ◌++◌, length, slice_index, Option}
+use Rattle.std.proofs.Common.{None, Some, refl, sym, subst, arith}
 use Rattle.std.specs.Prelude.{IfSome}
 use Rattle.blockdisk.specs.Disk.{DiskState, Contents, MayLeave}
 use Rattle.blockdisk.specs.Laws.{still_start}
@@ -70,7 +70,8 @@ module _ {D : Type 0} (state : D → DiskState) (only_now : (disk : D) (contents
   unfolding each
   words_done [] first jobs last is = record {
     acts = [];
-    goes = subst (λ js. GoesBy of (with_jobs jobs) (with_jobs js) []) (sym is) (goes_nowhere of stands (with_jobs jobs));
+    goes = subst (λ js. GoesBy of (with_jobs jobs) (with_jobs js) []) (sym is)
+        (goes_nowhere of stands (with_jobs jobs));
     leads = λ moment rest next. refl;
   }
   words_done (word ∷ words) first jobs last by =

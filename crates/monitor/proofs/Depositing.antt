@@ -1,5 +1,6 @@
 -- Words that are put into a job's core at once are put as one after the other.
-use Rattle.std.proofs.Common.{◌≡◌, ◌+◌, ◌<◌, ◌≤◌, ℕ, Bool, true, false, List, [], ◌∷◌, Option, Some, refl, sym, ap, subst}
+use Rattle.std.proofs.Common.{◌≡◌, ◌+◌, ◌<◌, ◌≤◌, ℕ, Bool, true, false, List, [], ◌∷◌, Option, Some, refl}
+use Rattle.std.proofs.Common.{sym, ap, subst}
 use Rattle.std.proofs.Common.{◌∙◌, length, arith, slice_set, length-set}
 use Rattle.std.specs.Prelude.{nat_lt, IsTrue, IsFalse}
 use Rattle.std.proofs.lemmas.Bool.Decides.{nat_tests}
@@ -22,8 +23,8 @@ use Rattle.monitor.proofs.ReadingJobs.{keeps_reading}
 use Rattle.monitor.proofs.Slots.{set-twice}
 
 -- what holds of the jobs whatever is in their cores
-pub holds_on : (P : List (Option Job) → Type 0) (jobs jobs' : List (Option Job)) (n first : ℕ) (words : List ℕ) (b : Bool)
-    → P jobs → ((job : Job) → slot jobs n ≡ Some job → (core : List ℕ)
+pub holds_on : (P : List (Option Job) → Type 0) (jobs jobs' : List (Option Job)) (n first : ℕ) (words : List ℕ)
+    (b : Bool) → P jobs → ((job : Job) → slot jobs n ≡ Some job → (core : List ℕ)
     → P (slice_set jobs n (Some (record job { core = core }))))
     → (IsTrue b → (there : Job) × (slot jobs n ≡ Some there) × (first + length words ≤ length there.core)
     × (jobs' ≡ slice_set jobs n (Some (record there { core = after_writes there.core (placed first words) }))))
@@ -62,8 +63,8 @@ module _ (d : DiskState) (map : VolumeCore) (failed : Bool) (n : ℕ) (serves : 
       let answer : Done ≡ deposit_of first (slot jobs n) =
       subst (λ o. Done ≡ deposit_of first o) (sym at) (grind (arith, nat_tests, below)) in
       let done : (Done ≡ Done) → (there : Job) × (slot jobs n ≡ Some there)
-      × (mid ≡ slice_set jobs n (Some (record there { core = slice_set there.core first word }))) = λ is. (job, at, refl)
-      in
+      × (mid ≡ slice_set jobs n (Some (record there { core = slice_set there.core first word })))
+      = λ is. (job, at, refl) in
       let refused : (Done ≡ Done → ⊥) → mid ≡ jobs = λ never. absurd (never refl) in
       let rest = deposits_by words (first + 1) mid job'
       (deposit_keyed map.pending jobs mid n first word Done keyed done refused)

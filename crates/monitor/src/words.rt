@@ -103,8 +103,9 @@ impl<D: Disk> Monitor<D> {
         }
         examine(&self.jobs, job, address)
     }
-    /// So many words of a job's core in a row, from an address on: each is the one that `examine` shows. None where one of
-    /// them isn't shown.
+
+    /// So many words of a job's core in a row, from an address on: each is the one that `examine` shows. None where
+    /// one of them isn't shown.
     pub fn examine_all(&self, job: u32, first: u32, count: usize) -> Option<&[Word]>
         ensures length { IfSome result (λ words. length words.now ≡ count) }
         ensures answered { IfSome result (λ words. (i : ℕ) → i < count → (old : Service)

@@ -5,8 +5,8 @@
 //! 2. `word`, `set_word`, `words` and `put` read and write just the words that they name, and answer
 //!    `AddressCheck` exactly where one of these lies outside the core. (`there`, `kept`)
 //! 3. `dump_list` names the areas of a command list, each of a word at least, and `lone_area` the one of a list that is
-//!    a command word and its end; all of the list is read before anything is moved. `gather` joins the words of areas, and `deal` deals words out to them. (`areas`, `some`,
-//!    `none`, `dealt`)
+//!    a command word and its end; all of the list is read before anything is moved. `gather` joins the words of areas,
+//!    and `deal` deals words out to them. (`areas`, `some`, `none`, `dealt`)
 //! 4. A step of a ring makes its writes in their order, so that the later one counts where they overlap; each
 //!    word that it reads is the old core's. A ring of two that is set up first is a step of its own: what
 //!    follows reads the core that it left. (`opened`, `done`, `closed`)

@@ -138,7 +138,8 @@ returns-in-Ok-put_words-clause-outcome g c =
       goes_out c.args.job.now c.args.number c.args.address (at_output c.args.job.now c.args.number c.in-Some.channel
           (sym c.channel.ensures ∙ c.in-Some.is) c.in-Some-output.output c.in-Some-output.is
           (sym c.lacks_header.ensures ∙ c.if-lacks_header.false))
-          c.as_slice.result.now (subst (Found c.args.job.now.core c.in-Some.channel c.args.address) (sym c.as_slice.ensures.value)
+          c.as_slice.result.now
+          (subst (Found c.args.job.now.core c.in-Some.channel c.args.address) (sym c.as_slice.ensures.value)
           c.in-Ok.ensures.words),
       c.set_channel.ensures ∙ ap (λ x. record c.args.job.now {
         core = c.leave_buffer.new.core;
@@ -198,7 +199,8 @@ returns-in-Err-Refused-clause-outcome g c =
       goes_out c.args.job.now c.args.number c.args.address (at_output c.args.job.now c.args.number c.in-Some.channel
           (sym c.channel.ensures ∙ c.in-Some.is) c.in-Some-output.output c.in-Some-output.is
           (sym c.lacks_header.ensures ∙ c.if-lacks_header.false))
-          c.as_slice.result.now (subst (Found c.args.job.now.core c.in-Some.channel c.args.address) (sym c.as_slice.ensures.value)
+          c.as_slice.result.now
+          (subst (Found c.args.job.now.core c.in-Some.channel c.args.address) (sym c.as_slice.ensures.value)
           c.in-Ok.ensures.words),
       refl,
       c.stop-in-Err-Refused.ensures.kept,
