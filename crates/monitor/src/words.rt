@@ -1,5 +1,6 @@
 ghost use Rattle.std.specs.Prelude.{◌≡◌, ◌↔◌, ◌+◌, ◌<◌, ◌≤◌, ℕ, false, Some, IsSome, IfSome, IsFalse, IsTrue, length};
 ghost use Rattle.std.specs.Prelude.{slice_index, slice_set};
+ghost use Rattle.meaning.specs.Cores.{after_writes, placed};
 ghost use Rattle.meaning.specs.Jobs.{slot};
 ghost use Rattle.meaning.specs.Runs.{Service, Answers};
 ghost use Rattle.meaning.specs.declared.call.Event.TheVariants.{Deposit, Examine};
@@ -74,6 +75,10 @@ impl<D: Disk> Monitor<D> {
     pub fn deposit_all(&mut self, job: u32, first: u32, words: &[Word]) -> bool
         ensures done { IsTrue result → DepositsBy (D.state self.old.disk) self.old.map self.old.failed job
             self.old.jobs first words.now self.new.jobs }
+        ensures put { IsTrue result → (there : JobRecord) × (slot self.old.jobs job ≡ Some there)
+            × (self.new.jobs ≡ slice_set self.old.jobs job
+            (Some (record there { core = after_writes there.core (placed first words.now) }))) }
+        ensures others { (m : ℕ) → (m ≡ job → ⊥) → slot self.new.jobs m ≡ slot self.old.jobs m }
         ensures kept { self.new ≡ record self.old { jobs = self.new.jobs } }
         ensures refused { IsFalse result → self.new.jobs ≡ self.old.jobs }
         ensures alive { IsTrue result → self.old.failed ≡ false }
