@@ -1,7 +1,9 @@
 -- What the trait promises of each call, as one record a call: of the device under another one too,
 -- whose calls no clause can name.
-use Rattle.std.specs.Prelude.{◌≡◌, ◌<◌, ℕ, List, Option, Some, None, Result, IsOk, IfOk, OnOk, OnErr, IsErrOf}
-use Rattle.blockdisk.specs.Disk.{DiskState, SameDisk, Keeps, Writes, Syncs, Fails, one_more, AreVerified, IsWithin}
+use Rattle.std.specs.Prelude.{◌≡◌, ◌<◌, ◌+◌, ℕ, List, Option, Some, None, Result, IsOk, IfOk, OnOk, OnErr, IsErrOf}
+use Rattle.std.specs.Prelude.{length}
+use Rattle.blockdisk.specs.Disk.{DiskState, SameDisk, Keeps, Writes, Syncs, Fails, one_more}
+use Rattle.blockdisk.specs.Disk.{AreRead, AreVerified, IsWithin}
 use Rattle.blockdisk.specs.declared.fault.Fault.{Fault}
 use Rattle.blockdisk.specs.declared.fault.Fault.TheVariants.{Device, Damaged}
 
@@ -13,6 +15,17 @@ pub record IsRead (n : ℕ) (s s' : DiskState) (answer : Result (List ℕ) Fault
   pub same : SameDisk s s'
   pub failed : IsErrOf answer Device → s'.failures ≡ one_more s.failures
   pub served : (IsErrOf answer Device → ⊥) → s'.failures ≡ s.failures
+
+-- a read of the blocks from `first` on into as many places, which hold this then
+pub record IsRunRead (first : ℕ) (s s' : DiskState) (blocks : List (List ℕ)) (answer : Result (Option ℕ) Fault)
+    : Type 0 where
+  pub within : IfOk answer (IsWithin first (first + length blocks))
+  pub words : s'.honest → IfOk answer (AreRead s.contents first blocks)
+  pub keeps : s'.honest → Keeps s s'
+  pub same : SameDisk s s'
+  pub device : IsErrOf answer Damaged → ⊥
+  pub failed : IsErrOf answer Device → s'.failures ≡ one_more s.failures
+  pub served : IsOk answer → s'.failures ≡ s.failures
 
 -- a look at the blocks from `first` on before `end` that was answered like this
 pub record IsVerify (first end : ℕ) (s s' : DiskState) (answer : Result (Option ℕ) Fault) : Type 0 where

@@ -2,7 +2,7 @@
 -- have left. A block is open from the beginning of a write to it until a sync succeeds. A crash leaves
 -- the closed blocks as they are, and anything in the open ones; a sync that fails may do the same.
 use Rattle.std.specs.Prelude.{◌≡◌, ◌⊎◌, ◌+◌, ◌-◌, ◌^◌, ◌<◌, ◌≤◌, ℕ, Bool, true, false, List, Option, None, Some}
-use Rattle.std.specs.Prelude.{length, min}
+use Rattle.std.specs.Prelude.{[], length, min, get_or}
 
 -- what each block holds: its words, or none where it is damaged
 abbrev pub Contents : Type 0
@@ -25,6 +25,13 @@ AreVerified contents first end (Some bad) = (contents bad ≡ None)
 abbrev pub IsWithin : ℕ → ℕ → Option ℕ → Type 0
 IsWithin first end None = Unit {0}
 IsWithin first end (Some bad) = (first ≤ bad) × (bad < end)
+
+-- These are the words of the blocks from `first` on, one for each place: of all, or of those before this one, which is
+-- damaged.
+abbrev pub AreRead : Contents → ℕ → List (List ℕ) → Option ℕ → Type 0
+AreRead contents first blocks None = (i : ℕ) → i < length blocks → contents (first + i) ≡ Some (get_or blocks i [])
+AreRead contents first blocks (Some bad) = (contents bad ≡ None)
+    × ((i : ℕ) → first + i < bad → contents (first + i) ≡ Some (get_or blocks i []))
 
 -- a disk as contracts see it
 pub record DiskState : Type 1 where

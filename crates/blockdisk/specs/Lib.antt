@@ -7,4 +7,5 @@ pub mod Fused
 pub mod Laws
 pub mod Memory
 pub mod MemoryLaws
+pub mod RunLaws
 pub mod VerifyLaws

@@ -1,7 +1,7 @@
-ghost use Rattle.std.specs.Prelude.{◌≡◌, ◌<◌, ◌≤◌, ℕ, Some, None, IsOk, IfOk, OnOk, OnErr, IsErrOf};
+ghost use Rattle.std.specs.Prelude.{◌≡◌, ◌+◌, ◌<◌, ◌≤◌, ℕ, Some, None, IsOk, IfOk, OnOk, OnErr, IsErrOf, length};
 ghost use Rattle.blockdisk.specs.declared.fault.Fault.TheVariants.{Device, Damaged};
 ghost use Rattle.blockdisk.specs.Disk.{Contents, DiskState, MayLeave, SameDisk, Keeps, Writes, Syncs, Fails, one_more};
-ghost use Rattle.blockdisk.specs.Disk.{AreVerified, IsWithin};
+ghost use Rattle.blockdisk.specs.Disk.{AreRead, AreVerified, IsWithin};
 
 use crate::Fault;
 use words36::Block;
@@ -33,6 +33,34 @@ pub trait Disk {
         ensures same { SameDisk (state self.old) (state self.new) }
         ensures failed { IsErrOf result Device → (state self.new).failures ≡ one_more (state self.old).failures }
         ensures served { (IsErrOf result Device → ⊥) → (state self.new).failures ≡ (state self.old).failures };
+
+    /// Puts the words of neighbouring blocks, from one on, into as many places. Answers the first damaged block of them,
+    /// if any: the places before its own are filled, and the others may hold anything.
+    ///
+    /// # Errors
+    ///
+    /// `Device` where the device failed; the places may then hold anything.
+    fn read_run(&mut self, first: u32, blocks: &mut [Block]) -> Result<Option<u32>, Fault>
+        requires { first + length blocks.old ≤ (state self.old).size }
+        ensures within { IfOk result (IsWithin first (first + length blocks.old)) }
+        ensures words { (state self.new).honest → IfOk result (AreRead (state self.old).contents first blocks.new) }
+        ensures keeps { (state self.new).honest → Keeps (state self.old) (state self.new) }
+        ensures same { SameDisk (state self.old) (state self.new) }
+        ensures device { IsErrOf result Damaged → ⊥ }
+        ensures failed { IsErrOf result Device → (state self.new).failures ≡ one_more (state self.old).failures }
+        ensures served { IsOk result → (state self.new).failures ≡ (state self.old).failures }
+    {
+        let _size = self.blocks(); // no more than a u32 counts
+        for place in 0..blocks.len() {
+            let n = first + place as u32;
+            match self.read(n) {
+                Ok(block) => blocks[place] = block,
+                Err(Fault::Damaged) => return Ok(Some(n)),
+                Err(Fault::Device) => return Err(Fault::Device),
+            }
+        }
+        Ok(None)
+    }
 
     /// The first damaged block of those from one on before another, if any: for one who needs none of their words.
     ///
