@@ -1,8 +1,8 @@
 -- The calls of a disk over an image, from what a file promises of its own.
-use Rattle.std.proofs.Common.{◌≡◌, ◌*◌, ◌<◌, ℕ, List, Result, Ok, Err, Some, None, OnOk}
+use Rattle.std.proofs.Common.{◌≡◌, ◌+◌, ◌*◌, ◌<◌, ℕ, length, List, Result, Ok, Err, Some, None, OnOk}
 use Rattle.std.proofs.Common.{OnErr, IsErrOf, refl, Option}
-use Rattle.blockdisk.specs.Disk.{SameDisk, Syncs, Fails, AreVerified, IsWithin, one_more}
-use Rattle.blockdisk.specs.Calls.{IsRead, IsVerify, IsWrite}
+use Rattle.blockdisk.specs.Disk.{SameDisk, Syncs, Fails, AreRead, AreVerified, IsWithin, one_more}
+use Rattle.blockdisk.specs.Calls.{IsRead, IsRunRead, IsVerify, IsWrite}
 use Rattle.blockdisk.specs.declared.fault.Fault.{Fault}
 use Rattle.blockdisk.specs.declared.fault.Fault.TheVariants.{Device, Damaged}
 use Rattle.imagefile.specs.File.{FileState, SameFile, FileKeeps, FileWrites, FileSyncs, FileFails}
@@ -47,6 +47,21 @@ module _ (form : Form) (blocks n : ℕ) (s s' : FileState) (same : SameFile s s'
 
 no_device : (found : Option ℕ) (fault : Fault) → IsErrOf (Ok found) fault → ⊥
 no_device found fault is = cc
+
+pub run_read : (form : Form) (size first : ℕ) (s s' : FileState) (blocks : List (List ℕ)) (found : Option ℕ)
+    → SameFile s s' → IsWithin first (first + length blocks) found
+    → (s'.honest → AreRead (image_contents form s.bytes) first blocks found)
+    → (s'.honest → FileKeeps s s') → s'.failures ≡ s.failures
+    → IsRunRead first (image_state form size s) (image_state form size s') blocks (Ok found)
+run_read form size first s s' blocks found same within read keeps served = record {
+  within = within;
+  words = read;
+  keeps = λ h. image_keeps form size s s' (keeps h);
+  same = same_disk form size s s' same;
+  device = no_device found Damaged;
+  failed = λ is. absurd (no_device found Device is);
+  served = λ ok. served;
+}
 
 pub group_verified : (form : Form) (blocks first end : ℕ) (s s' : FileState) (found : Option ℕ) → SameFile s s'
     → IsWithin first end found → (s'.honest → AreVerified (image_contents form s.bytes) first end found)

@@ -4,3 +4,4 @@ pub mod FileLaws
 pub mod Groups
 pub mod CallLaws
 pub mod ImageCalls
+pub mod BlockReads

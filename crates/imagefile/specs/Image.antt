@@ -2,7 +2,7 @@
 -- has 1024 bytes, and is damaged where a word has top bits that aren't zero; in the packed form it has 576, and none is
 -- damaged by its bytes.
 use Rattle.std.specs.Prelude.{◌≡◌, ◌<◌, ◌+◌, ◌*◌, ◌/◌, ◌^◌, ◌==◌, ◌&&◌, ◌||◌, if◌then◌else◌, ℕ, zero, suc, Bool, true}
-use Rattle.std.specs.Prelude.{false, List, [], ◌∷◌, ◌++◌, Option, Some, None}
+use Rattle.std.specs.Prelude.{false, List, [], ◌∷◌, ◌++◌, Option, Some, None, take, drop}
 use Rattle.words36.specs.Blocks.{number_at}
 use Rattle.words36.specs.Nines.{nine_words}
 use Rattle.blockdisk.specs.Disk.{Contents, DiskState}
@@ -41,6 +41,10 @@ block_content Packed bytes = Some (nine_words bytes)
 -- what a disk holds whose image has these bytes
 abbrev pub image_contents : Form → Bytes → Contents
 image_contents form b n = block_content form (window b (block_length form * n) (block_length form))
+
+-- what the blocks hold that have these bytes, one behind the other
+abbrev pub blocks_in : Form → List ℕ → Contents
+blocks_in form bytes i = block_content form (take (block_length form) (drop (block_length form * i) bytes))
 
 -- one of the n places from `at` on is open
 unfoldable pub opened_in : (ℕ → Bool) → ℕ → ℕ → Bool

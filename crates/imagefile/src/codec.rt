@@ -1,7 +1,8 @@
-ghost use Rattle.std.specs.Prelude.{◌≡◌, ◌+◌, ◌*◌, ◌<◌, ◌≤◌, ◌^◌, ℕ};
-ghost use Rattle.blockdisk.specs.Calls.{IsRead, IsVerify, IsWrite};
+ghost use Rattle.std.specs.Prelude.{◌≡◌, ◌+◌, ◌*◌, ◌<◌, ◌≤◌, ◌^◌, ℕ, length};
+ghost use Rattle.blockdisk.specs.Calls.{IsRead, IsRunRead, IsVerify, IsWrite};
+ghost use Rattle.blockdisk.specs.Disk.{AreRead, IsWithin};
 ghost use Rattle.imagefile.specs.File.{SameFile};
-ghost use Rattle.imagefile.specs.Image.{block_length, image_state};
+ghost use Rattle.imagefile.specs.Image.{block_content, block_length, blocks_in, image_state};
 ghost use Rattle.imagefile.specs.declared.form.Form.TheVariants.{Wide, Packed};
 
 use crate::{Durable, Form};
@@ -11,7 +12,7 @@ use words36::{
     block_to_bytes, block_to_nine, first_bad_word,
 };
 
-/// How many neighbouring blocks are looked at by one call of the file.
+/// How many neighbouring blocks are read or looked at by one call of the file.
 const GROUP_BLOCKS: u32 = 8;
 
 /// The words of block n of the image that this file is.
@@ -29,6 +30,37 @@ pub(crate) fn read_block<F: Durable>(form: Form, file: &mut F, n: u32) -> Result
         Form::Wide => read_wide(file, n),
         Form::Packed => read_packed(file, n),
     }
+}
+
+/// Puts the words of neighbouring blocks of the image that this file is, from one on, into as many places. Answers the
+/// first damaged block of them, if any.
+///
+/// # Errors
+///
+/// As of a disk: `Device` where the file fails.
+pub(crate) fn read_blocks<F: Durable>(
+    form: Form,
+    file: &mut F,
+    first: u32,
+    blocks: &mut [Block],
+) -> Result<Option<u32>, Fault>
+    requires fits { first + length blocks.old < 2 ^ 32 }
+    requires inside { (F.state file.old).honest
+        → block_length form * (first + length blocks.old) ≤ (F.state file.old).size }
+    ensures same { SameFile (F.state file.old) (F.state file.new) }
+    ensures reads { (size : ℕ) → IsRunRead first (image_state form size (F.state file.old))
+        (image_state form size (F.state file.new)) blocks.new result }
+{
+    let mut done = 0;
+    while done < blocks.len() {
+        let stop = blocks.len().min(done + GROUP_BLOCKS as usize);
+        match read_group(form, file, first + done as u32, &mut blocks[done..stop]) {
+            Ok(None) => done = stop,
+            Ok(Some(bad)) => return Ok(Some(bad)),
+            Err(fault) => return Err(fault),
+        }
+    }
+    Ok(None)
 }
 
 /// The first damaged block of those from one on before another, if any, of the image that this file is.
@@ -114,6 +146,69 @@ fn read_packed<F: Durable>(file: &mut F, n: u32) -> Result<Block, Fault>
     let mut bytes = [0; PACKED_BYTES];
     file.read_at(place_of(Form::Packed, n), &mut bytes)?;
     Ok(block_from_nine(&bytes))
+}
+
+/// Reads neighbouring blocks by one call.
+fn read_group<F: Durable>(
+    form: Form,
+    file: &mut F,
+    first: u32,
+    blocks: &mut [Block],
+) -> Result<Option<u32>, Fault>
+    requires few { length blocks.old ≤ 8 }
+    requires fits { first + length blocks.old < 2 ^ 32 }
+    requires inside { (F.state file.old).honest
+        → block_length form * (first + length blocks.old) ≤ (F.state file.old).size }
+    ensures same { SameFile (F.state file.old) (F.state file.new) }
+    ensures reads { (size : ℕ) → IsRunRead first (image_state form size (F.state file.old))
+        (image_state form size (F.state file.new)) blocks.new result }
+{
+    let mut bytes = [0; GROUP_BLOCKS as usize * BLOCK_BYTES];
+    let group = &mut bytes[..blocks.len() * form.block_bytes() as usize];
+    file.read_at(place_of(form, first), group)?;
+    match fill_blocks(form, group, blocks) {
+        None => Ok(None),
+        Some(place) => Ok(Some(first + place as u32)),
+    }
+}
+
+/// Puts the words of the blocks that have these bytes, one behind the other, into as many places. Answers the place of
+/// the first that is damaged, if any.
+fn fill_blocks(form: Form, bytes: &[u8], blocks: &mut [Block]) -> Option<usize>
+    requires { length bytes.now ≡ block_length form * length blocks.old }
+    ensures within { IsWithin 0 (length blocks.old) result }
+    ensures words { AreRead (blocks_in form bytes.now) 0 blocks.new result }
+{
+    let size = form.block_bytes() as usize;
+    for place in 0..blocks.len() {
+        match block_of(form, &bytes[size * place..size * place + size]) {
+            Some(block) => blocks[place] = block,
+            None => return Some(place),
+        }
+    }
+    None
+}
+
+/// The words of the block that has these bytes; none where it is damaged.
+fn block_of(form: Form, bytes: &[u8]) -> Option<Block>
+    requires { length bytes.now ≡ block_length form }
+    ensures { result ≡ block_content form bytes.now }
+{
+    match form {
+        Form::Wide => {
+            let mut own = [0; BLOCK_BYTES];
+            own.copy_from_slice(bytes);
+            match block_from_bytes(&own) {
+                Ok(block) => Some(block),
+                Err(_) => None,
+            }
+        }
+        Form::Packed => {
+            let mut own = [0; PACKED_BYTES];
+            own.copy_from_slice(bytes);
+            Some(block_from_nine(&own))
+        }
+    }
 }
 
 /// Where the group of blocks ends that begins at one, before another.

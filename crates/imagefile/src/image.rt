@@ -9,7 +9,7 @@ ghost use Rattle.imagefile.specs.Measured.{IsImageOf, IsNoImage};
 ghost use Rattle.imagefile.specs.ImageLaws.{image_counts_now, image_only_now, image_reaches_back};
 ghost use Rattle.imagefile.specs.declared.form.Form.TheVariants.{Wide, Packed};
 
-use crate::codec::{read_block, verify_blocks, write_block};
+use crate::codec::{read_block, read_blocks, verify_blocks, write_block};
 use crate::{Durable, Form, ImageError, block_count};
 use blockdisk::{Disk, Fault};
 use words36::Block;
@@ -102,6 +102,11 @@ impl<F: Durable> Disk for ImageDisk<F> {
 
     fn read(&mut self, n: u32) -> Result<Block, Fault> {
         read_block(self.form, &mut self.file, n)
+    }
+
+    fn read_run(&mut self, first: u32, blocks: &mut [Block]) -> Result<Option<u32>, Fault> {
+        let _size = self.blocks(); // no more than a u32 counts
+        read_blocks(self.form, &mut self.file, first, blocks)
     }
 
     fn verify(&mut self, first: u32, end: u32) -> Result<Option<u32>, Fault> {

@@ -4,7 +4,7 @@ ghost use Rattle.imagefile.specs.ImageLaws.{image_counts_now, image_only_now, im
 ghost use Rattle.imagefile.specs.Measured.{IsImageOf, IsNoImage};
 ghost use Rattle.imagefile.specs.declared.form.Form.TheVariants.{Packed};
 
-use crate::codec::{read_block, verify_blocks, write_block};
+use crate::codec::{read_block, read_blocks, verify_blocks, write_block};
 use crate::{Durable, Form, ImageDisk, ImageError};
 use blockdisk::{Disk, Fault};
 use words36::Block;
@@ -68,6 +68,11 @@ impl<F: Durable> Disk for PackedDisk<F> {
 
     fn read(&mut self, n: u32) -> Result<Block, Fault> {
         read_block(Form::Packed, &mut self.file, n)
+    }
+
+    fn read_run(&mut self, first: u32, blocks: &mut [Block]) -> Result<Option<u32>, Fault> {
+        let _size = self.blocks(); // no more than a u32 counts
+        read_blocks(Form::Packed, &mut self.file, first, blocks)
     }
 
     fn verify(&mut self, first: u32, end: u32) -> Result<Option<u32>, Fault> {
