@@ -1,8 +1,10 @@
-ghost use Rattle.std.specs.Prelude.{◌≡◌, ◌<◌, ◌≤◌, Some, None, Ok, IfOk, IfErr, OnOk, OnErr, IfSome, [], nat_eq};
+ghost use Rattle.std.specs.Prelude.{◌≡◌, ◌+◌, ◌<◌, ◌≤◌, Some, None, Ok, IfOk, IfErr, OnOk, OnErr, IfSome, [], nat_eq};
+ghost use Rattle.std.specs.Prelude.{length};
 ghost use Rattle.std.specs.NonZero.{non_zero_usize_get};
 ghost use Rattle.std.specs.Map.{lookup};
 ghost use Rattle.lru.specs.LruCache.{lru_cache};
-ghost use Rattle.blockdisk.specs.Calls.{IsRead, IsVerify, IsWrite, IsSync};
+ghost use Rattle.blockdisk.specs.Calls.{IsRead, IsRunRead, IsVerify, IsWrite, IsSync};
+ghost use Rattle.blockdisk.specs.Disk.{IsWithin};
 ghost use Rattle.blockcache.specs.Cache.{AreHeld, IsCached, used, without, emptied};
 
 use blockdisk::{Disk, Fault, NoMemory};
@@ -112,6 +114,25 @@ impl<D: Disk> Disk for Cached<D> {
         let block = self.inner.read(n)?;
         self.keep(n, &block);
         Ok(block)
+    }
+
+    /// A run of several blocks goes past those that are kept, which are as the disk holds them, and none of it is kept:
+    /// it would drive the others out. A single block is read as by `read`.
+    fn read_run(&mut self, first: u32, blocks: &mut [Block]) -> Result<Option<u32>, Fault>
+        requires { first + length blocks.old ≤ (D.state self.old.inner).size }
+        ensures within { IfOk result (IsWithin first (first + length blocks.old)) }
+        ensures reads { IsRunRead first (D.state self.old.inner) (D.state self.new.inner) blocks.new result }
+        ensures passes_by { (length blocks.old ≡ 1 → ⊥) → self.new.cache ≡ self.old.cache }
+    {
+        if blocks.len() != 1 {
+            return self.inner.read_run(first, blocks);
+        }
+        match self.read(first) {
+            Ok(block) => blocks[0] = block,
+            Err(Fault::Damaged) => return Ok(Some(first)),
+            Err(Fault::Device) => return Err(Fault::Device),
+        }
+        Ok(None)
     }
 
     /// The disk is asked, also of blocks that are kept, which are as it holds them; and nothing is kept of the others.
