@@ -2,12 +2,12 @@
 use Rattle.std.proofs.Common.{◌≡◌, ℕ, zero, suc, Bool, ◌+◌, ◌-◌, ◌<◌, ◌≤◌, ◌==◌, if◌then◌else◌, List, [], ◌∷◌}
 use Rattle.std.proofs.Common.{◌++◌, length, get_or, take, drop, flat_map, slice_set, Some, Option, refl, sym}
 use Rattle.std.proofs.Common.{◌∙◌, ap, subst, arith, append_assoc, length-append, append-nil}
-use Rattle.std.specs.Prelude.{slice_get, IfSome}
+use Rattle.std.specs.Prelude.{slice_get, slice_index, IfSome}
 use Rattle.std.proofs.lemmas.Bool.{eq-eqb, ne_eqb}
 use Rattle.std.proofs.lemmas.List.{map_more, map_push, map-append, take-append-drop, take_more_set, set_split}
 use Rattle.std.proofs.lemmas.List.{drop_more, take_at, drop_at, length-take-le, set-append_right, get_or-drop}
 use Rattle.std.proofs.lemmas.List.{drop-drop}
-use Rattle.std.proofs.lemmas.Option.{slice_get_read}
+use Rattle.std.proofs.lemmas.Option.{slice_get_read, get_or_from_slice_get}
 use Rattle.std.proofs.lemmas.Grind.{flat_map-append}
 use Rattle.meaning.specs.Retrieval.{Run, run_blocks, count_up}
 use Rattle.retrieval.specs.Runs.{pair_of, pairs_of, blocks_of_runs, IsAtOffset, behind, longest_runs, AreKept}
@@ -144,6 +144,36 @@ block_in runs i r offset run is_in is =
     ∙ get_behind before (run_blocks (pair_of run) ++ rest) offset
     ∙ get_up (suc (run.last - run.first)) run.first offset rest
     (let e = offset_of runs i r offset run is_in is in omega arith)
+
+-- The blocks that follow one in its run.
+
+module _ (runs : List RunValue) (i r offset : ℕ) (run : RunValue) (is_in : IsAtOffset runs i r offset)
+    (is : run ≡ get_or runs r run) where
+  block_behind : (j : ℕ) → offset + j ≤ run.last - run.first
+      → slice_get (blocks_of_runs runs) (i + j) ≡ Some (run.first + offset + j)
+  block_behind j within = block_in runs (i + j) r (offset + j) run there is
+      ∙ (let e : run.first + (offset + j) ≡ run.first + offset + j = omega arith in ap Some e)
+    where
+      there : IsAtOffset runs (i + j) r (offset + j)
+      there = record {
+        below = is_in.below;
+        inside = subst (λ o. IfSome o (λ run. offset + j ≤ run.last - run.first))
+            (sym (slice_get_read runs (length runs) r run refl is_in.below is)) within;
+        is = omega (arith, is_in.is);
+      }
+
+  pub index_behind : (j : ℕ) → offset + j ≤ run.last - run.first
+      → slice_index (blocks_of_runs runs) (i + j) ≡ run.first + offset + j
+  index_behind j within = get_or_from_slice_get (blocks_of_runs runs) (i + j) (run.first + offset + j) 0
+      (block_behind j within)
+
+  pub rest_below : (j : ℕ) → offset + j ≤ run.last - run.first → i + j < length (blocks_of_runs runs)
+  rest_below j within = there_below (blocks_of_runs runs) (i + j) _ (block_behind j within)
+    where
+      there_below : (xs : List ℕ) (k n : ℕ) → slice_get xs k ≡ Some n → k < length xs
+      there_below [] k n is = cc
+      there_below (x ∷ xs) zero n is = omega arith
+      there_below (x ∷ xs) (suc k) n is = let b = there_below xs k n is in omega (arith, b)
 
 -- One block more behind the last.
 

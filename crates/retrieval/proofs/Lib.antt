@@ -10,6 +10,7 @@ pub mod Building
 pub mod Taking
 pub mod RibCounts
 pub mod Parts
+pub mod RunReads
 pub mod Holding
 pub mod NewBlocks
 pub mod Placed

@@ -1,5 +1,5 @@
 -- Bodies: the words of a version, and the blocks that may be written where they change.
-use Rattle.std.specs.Prelude.{◌≡◌, ◌⊎◌, ◌<◌, ◌≤◌, ℕ, List, length, IfSome, slice_index}
+use Rattle.std.specs.Prelude.{◌≡◌, ◌⊎◌, ◌+◌, ◌<◌, ◌≤◌, ℕ, List, Some, length, IfSome, slice_index}
 use Rattle.std.specs.List.{AllByRecursion}
 use Rattle.blockdisk.specs.Disk.{Contents}
 use Rattle.meaning.specs.Maps.{times}
@@ -8,6 +8,13 @@ use Rattle.alloctab.specs.TableState.{TableState, IsFree, bit, holds}
 -- Each of these blocks that isn't damaged holds 128 words.
 abbrev pub AreWhole : Contents → List ℕ → Type 0
 AreWhole contents blocks = AllByRecursion (λ n. IfSome (contents n) (λ words. length words ≡ 128)) blocks
+
+-- The words of block n stand among these from a place on, as far as so many are wanted.
+pub record StandsAt (contents : Contents) (n at wanted : ℕ) (words : List ℕ) : Type 0 where
+  pub block : List ℕ
+  pub is : contents n ≡ Some block
+  pub whole : length block ≡ 128
+  pub each : (k : ℕ) → k < 128 → at + k < wanted → slice_index words (at + k) ≡ slice_index block k
 
 -- A block that no other version reaches: its bit is clear, and it is held as often as it stands among these.
 pub record IsOwn (t : TableState) (blocks : List ℕ) (n : ℕ) : Type 0 where

@@ -203,6 +203,19 @@ impl BlockList {
         }
     }
 
+    /// The block at a place, with those that follow it in its run.
+    pub(crate) fn run_at(&self, i: usize) -> Run
+        requires { i < length self.now.blocks }
+        ensures within { i + (result.last - result.first) < length self.now.blocks }
+        ensures blocks { (j : ℕ) → j ≤ result.last - result.first
+            → slice_index self.now.blocks (i + j) ≡ result.first + j }
+    {
+        match find(&self.runs, i) {
+            Some(place) => self.runs[place.run].rest(place.offset),
+            None => unreachable!(), // it is one of the list
+        }
+    }
+
     /// Finds memory for so many runs more.
     ///
     /// # Errors

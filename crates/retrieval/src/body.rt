@@ -1,5 +1,5 @@
-ghost use Rattle.std.specs.Prelude.{◌≡◌, ◌+◌, ◌-◌, ◌*◌, ◌<◌, ◌≤◌, ◌^◌, ℕ, List, Some, None, IfOk, IsErrOf, length, min};
-ghost use Rattle.std.specs.Prelude.{slice_index, take};
+ghost use Rattle.std.specs.Prelude.{◌≡◌, ◌+◌, ◌-◌, ◌*◌, ◌<◌, ◌≤◌, ◌^◌, ℕ, List, [], Some, None, IfOk, OnOk, IsErrOf};
+ghost use Rattle.std.specs.Prelude.{length, min, get_or, slice_index, take, vec_capacity};
 ghost use Rattle.std.specs.List.{AllByRecursion};
 ghost use Rattle.blockdisk.specs.Disk.{Keeps, SameDisk, one_more};
 ghost use Rattle.meaning.specs.Costs.{blocks_of};
@@ -7,12 +7,16 @@ ghost use Rattle.meaning.specs.Faults.{InSpace};
 ghost use Rattle.meaning.specs.Maps.{times};
 ghost use Rattle.meaning.specs.Retrieval.{HasBody};
 ghost use Rattle.meaning.specs.Splices.{block_start, words_from};
+ghost use Rattle.retrieval.specs.Bodies.{StandsAt};
 ghost use Rattle.retrieval.specs.declared.error.BodyError.TheVariants.{BadData, Device, NoMemory};
 
 use crate::{BodyError, Version};
 use blockdisk::{Disk, Fault};
 use std::alloc::Global;
 use words36::{BLOCK_WORDS, Block, Word};
+
+/// How many neighbouring data blocks are read by one call of the disk at most.
+const RUN_BLOCKS: usize = 8;
 
 /// Reads a data block.
 pub(crate) fn read_data<D: Disk>(disk: &mut D, n: u32) -> Result<Block, BodyError>
@@ -31,6 +35,122 @@ pub(crate) fn read_data<D: Disk>(disk: &mut D, n: u32) -> Result<Block, BodyErro
         Err(Fault::Damaged) => Err(BodyError::BadData(n)),
         Err(Fault::Device) => Err(BodyError::Device),
     }
+}
+
+/// Reads neighbouring data blocks, as many as there are places for.
+fn read_run<D: Disk>(disk: &mut D, first: u32, run: &mut [Block]) -> Result<(), BodyError>
+    requires { first + length run.old ≤ (D.state disk.old).size }
+    ensures words { (D.state disk.new).honest → OnOk result ((i : ℕ) → i < length run.new
+        → (D.state disk.old).contents (first + i) ≡ Some (get_or run.new i [])) }
+    ensures bad { (D.state disk.new).honest → (k : ℕ) → IsErrOf result (BadData k)
+        → (first ≤ k) × (k < first + length run.old) × ((D.state disk.old).contents k ≡ None) }
+    ensures memory { IsErrOf result NoMemory → ⊥ }
+    ensures keeps { (D.state disk.new).honest → Keeps (D.state disk.old) (D.state disk.new) }
+    ensures same { SameDisk (D.state disk.old) (D.state disk.new) }
+    ensures failed { IsErrOf result Device → (D.state disk.new).failures ≡ one_more (D.state disk.old).failures }
+    ensures served { (IsErrOf result Device → ⊥) → (D.state disk.new).failures ≡ (D.state disk.old).failures }
+{
+    match disk.read_run(first, run) {
+        Ok(None) => Ok(()),
+        Ok(Some(bad)) => Err(BodyError::BadData(bad)),
+        Err(_) => Err(BodyError::Device),
+    }
+}
+
+/// The first so many words of a block.
+fn first_words(block: &Block, count: usize) -> &[Word]
+    requires { count ≤ 128 }
+    ensures words { result.now ≡ take count block.now }
+    ensures whole { length block.now ≡ 128 }
+{
+    &block[..count]
+}
+
+/// Puts the words of blocks behind others, as far as so many are wanted in all. There is memory for them.
+fn push_blocks(blocks: &[Block], wanted: usize, words: &mut Vec<Word>)
+    requires few { length words.old.items ≤ wanted }
+    requires room { wanted ≤ vec_capacity words.old }
+    ensures room { wanted ≤ vec_capacity words.new }
+    ensures long { length words.new.items ≡ min (length words.old.items + length blocks.now * 128) wanted }
+    ensures kept { (p : ℕ) → p < length words.old.items
+        → slice_index words.new.items p ≡ slice_index words.old.items p }
+    ensures whole { (i : ℕ) → i < length blocks.now → length (get_or blocks.now i []) ≡ 128 }
+    ensures put { (i k : ℕ) → i < length blocks.now → k < 128 → length words.old.items + i * 128 + k < wanted
+        → slice_index words.new.items (length words.old.items + i * 128 + k) ≡ slice_index (get_or blocks.now i []) k }
+{
+    for place in 0..blocks.len() {
+        let here = (wanted - words.len()).min(BLOCK_WORDS);
+        match words.extend_from_slice(first_words(&blocks[place], here)) {
+            Ok(()) => (),
+            Err(_) => unreachable!(), // there is memory for it
+        }
+    }
+}
+
+/// Puts the words of neighbouring data blocks, which are read into these places, behind others, as far as so many are
+/// wanted in all. There is memory for them.
+fn get_blocks<D: Disk>(
+    disk: &mut D,
+    first: u32,
+    run: &mut [Block],
+    wanted: usize,
+    words: &mut Vec<Word>,
+) -> Result<(), BodyError>
+    requires inside { first + length run.old ≤ (D.state disk.old).size }
+    requires few { length words.old.items ≤ wanted }
+    requires room { wanted ≤ vec_capacity words.old }
+    ensures room { wanted ≤ vec_capacity words.new }
+    ensures long { OnOk result (length words.new.items ≡ min (length words.old.items + length run.old * 128) wanted) }
+    ensures kept { OnOk result ((p : ℕ) → p < length words.old.items
+        → slice_index words.new.items p ≡ slice_index words.old.items p) }
+    ensures words { (D.state disk.new).honest → OnOk result ((i : ℕ) → i < length run.old
+        → StandsAt (D.state disk.old).contents (first + i) (length words.old.items + i * 128) wanted words.new.items) }
+    ensures bad { (D.state disk.new).honest → (k : ℕ) → IsErrOf result (BadData k)
+        → (first ≤ k) × (k < first + length run.old) × ((D.state disk.old).contents k ≡ None) }
+    ensures memory { IsErrOf result NoMemory → ⊥ }
+    ensures keeps { (D.state disk.new).honest → Keeps (D.state disk.old) (D.state disk.new) }
+    ensures same { SameDisk (D.state disk.old) (D.state disk.new) }
+    ensures failed { IsErrOf result Device → (D.state disk.new).failures ≡ one_more (D.state disk.old).failures }
+    ensures served { (IsErrOf result Device → ⊥) → (D.state disk.new).failures ≡ (D.state disk.old).failures }
+{
+    read_run(disk, first, run)?;
+    push_blocks(run, wanted, words);
+    Ok(())
+}
+
+/// Puts the words of so many neighbouring data blocks behind others, as far as so many are wanted in all. There is
+/// memory for them.
+fn get_run<D: Disk>(
+    disk: &mut D,
+    first: u32,
+    count: usize,
+    wanted: usize,
+    words: &mut Vec<Word>,
+) -> Result<(), BodyError>
+    requires inside { first + count ≤ (D.state disk.old).size }
+    requires short { count ≤ 8 }
+    requires few { length words.old.items ≤ wanted }
+    requires room { wanted ≤ vec_capacity words.old }
+    ensures room { wanted ≤ vec_capacity words.new }
+    ensures long { OnOk result (length words.new.items ≡ min (length words.old.items + count * 128) wanted) }
+    ensures kept { OnOk result ((p : ℕ) → p < length words.old.items
+        → slice_index words.new.items p ≡ slice_index words.old.items p) }
+    ensures words { (D.state disk.new).honest → OnOk result ((i : ℕ) → i < count
+        → StandsAt (D.state disk.old).contents (first + i) (length words.old.items + i * 128) wanted words.new.items) }
+    ensures bad { (D.state disk.new).honest → (k : ℕ) → IsErrOf result (BadData k)
+        → (first ≤ k) × (k < first + count) × ((D.state disk.old).contents k ≡ None) }
+    ensures memory { IsErrOf result NoMemory → ⊥ }
+    ensures keeps { (D.state disk.new).honest → Keeps (D.state disk.old) (D.state disk.new) }
+    ensures same { SameDisk (D.state disk.old) (D.state disk.new) }
+    ensures failed { IsErrOf result Device → (D.state disk.new).failures ≡ one_more (D.state disk.old).failures }
+    ensures served { (IsErrOf result Device → ⊥) → (D.state disk.new).failures ≡ (D.state disk.old).failures }
+{
+    if count == 1 {
+        // most runs of small files: no places for more of them have to be made
+        return get_blocks(disk, first, &mut [[Word::ZERO; BLOCK_WORDS]], wanted, words);
+    }
+    let mut run = [[Word::ZERO; BLOCK_WORDS]; RUN_BLOCKS];
+    get_blocks(disk, first, &mut run[..count], wanted, words)
 }
 
 /// How many words a body of so many has from a block on, as far as so many are asked for.
@@ -83,10 +203,13 @@ pub fn get_words<D: Disk>(
     let wanted = words_there(version.length(), block, count) as usize;
     // Memory first, so that a refused growth leaves the disk alone.
     let mut words = Vec::with_capacity(alloc, wanted)?;
-    for i in 0..wanted.div_ceil(BLOCK_WORDS) {
-        let data = read_data(disk, version.block_at((block - 1) as usize + i))?;
-        let here = (wanted - words.len()).min(BLOCK_WORDS);
-        words.extend_from_slice(&data[..here])?;
+    let blocks = wanted.div_ceil(BLOCK_WORDS);
+    let mut done = 0;
+    while done < blocks {
+        let run = version.run_at((block - 1) as usize + done);
+        let count = run.count().min(RUN_BLOCKS).min(blocks - done);
+        get_run(disk, run.first, count, wanted, &mut words)?;
+        done += count;
     }
     Ok(words)
 }

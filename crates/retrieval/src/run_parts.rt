@@ -28,6 +28,18 @@ impl Run {
         self.first + offset
     }
 
+    /// The block at a place in it, counted from 0, with those behind it.
+    pub(crate) fn rest(self, offset: u32) -> Run
+        requires { offset ≤ self.last - self.first }
+        ensures first { result.first ≡ self.first + offset }
+        ensures last { result.last ≡ self.last }
+    {
+        Run {
+            first: self.first + offset,
+            last: self.last,
+        }
+    }
+
     /// Whether another run begins just behind this one.
     pub(crate) fn adjoins(self, other: Run) -> bool
         ensures { IsTrue result ↔ (suc (self.last - self.first) + self.first ≡ other.first) }

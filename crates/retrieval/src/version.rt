@@ -1,4 +1,4 @@
-ghost use Rattle.std.specs.Prelude.{◌≡◌, ◌<◌, ◌++◌, ◌∷◌, [], slice_set, slice_get, slice_index, length, Some, IfOk};
+ghost use Rattle.std.specs.Prelude.{◌≡◌, ◌+◌, ◌-◌, ◌<◌, ◌≤◌, ℕ, ◌++◌, ◌∷◌, [], slice_set, slice_get, slice_index, length, Some, IfOk};
 ghost use Rattle.std.specs.Prelude.{OnOk, OnErr};
 ghost use Rattle.retrieval.specs.Runs.{BlocksState, blocks_of_runs, pairs_of, longest_runs};
 ghost use Rattle.retrieval.specs.Versions.{VersionState};
@@ -87,6 +87,16 @@ impl Version {
         ensures { result ≡ slice_index self.now.blocks i }
     {
         self.blocks.at(i)
+    }
+
+    /// The data block at a place, counted from 0, with those that follow it side by side.
+    pub fn run_at(&self, i: usize) -> Run
+        requires { i < length self.now.blocks }
+        ensures within { i + (result.last - result.first) < length self.now.blocks }
+        ensures blocks { (j : ℕ) → j ≤ result.last - result.first
+            → slice_index self.now.blocks (i + j) ≡ result.first + j }
+    {
+        self.blocks.run_at(i)
     }
 
     /// Puts another block at a place.

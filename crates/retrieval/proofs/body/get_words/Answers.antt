@@ -1,95 +1,101 @@
-use Rattle.std.proofs.Common.{◌≡◌, ⊎_elim, Some, ◌+◌, ◌-◌, ◌*◌, ◌<◌, ◌≤◌, ℕ, List, length, refl, sym, ap, subst, ◌∙◌}
-use Rattle.std.proofs.Common.{arith, rules}
+use Rattle.std.proofs.Common.{◌≡◌, ◌+◌, ◌-◌, ◌*◌, ◌<◌, ◌≤◌, ℕ, List, length, sym, ap, subst, ◌∙◌, refl, arith, rules, min}
 use Rattle.std.specs.Prelude.{slice_index}
-use Rattle.std.proofs.lemmas.Bool.{cases_eq}
-use Rattle.std.proofs.lemmas.List.{length-append, length-take}
 use Rattle.std.proofs.lemmas.Result.{err_from_is_err_and}
-use Rattle.blockdisk.specs.Laws.{same_disk_on}
+use Rattle.blockdisk.specs.Disk.{Contents}
+use Rattle.blockdisk.specs.Laws.{same_contents, same_disk_on, keeps_on}
+use Rattle.meaning.specs.Faults.{InSpace}
 use Rattle.meaning.specs.Splices.{block_start}
+use Rattle.retrieval.specs.Bodies.{StandsAt}
 use Rattle.retrieval.specs.declared.error.BodyError.TheVariants.{BadData}
-use Rattle.meaning.proofs.MapLaws.{some_none}
-use Rattle.blockdisk.specs.Laws.{keeps_on}
-use Rattle.retrieval.proofs.Parts.{whole_from, damaged_at, read_more, read_all}
+use Rattle.retrieval.proofs.Parts.{all_at, whole_from, damaged_at, read_all}
+use Rattle.retrieval.proofs.RunReads.{read_run_more, none_damaged, damaged_place}
 use Rattle.changeset.proofs.Reading.{passed_on}
 use Rattle.retrieval.proofs.body.get_words.Goals as goal
 
-pub returns-in_err-data-clause-damaged : goal.returns-in_err-data-clause-damaged
-returns-in_err-data-clause-damaged g c h k is =
-    let s = g.D.Disk.state c.args.disk.now in
-    let at : ℕ = c.args.block - 1 + c.loop-i.i in
-    let below : at < length c.args.version.now.blocks = let b = c.loop-i-test.true in
-    let e = c.words_there-wanted.ensures in let f = c.requires.counted in let d = c.requires.first in
-    omega (arith, c.length.ensures) in
-    let p = err_from_is_err_and c.from_residual-in_err-data.result c.from_residual-in_err-data.ensures.1 in
-    let e = c.read_data.ensures.bad h k
-    (passed_on c.from_residual-in_err-data.result c.read_data.result p.0 c.in_err-data.field-0.0
-    (BadData k) is p.1 p.2 c.in_err-data.was) in
-    damaged_at s.contents (g.D.Disk.state c.loop-i.disk).contents c.args.version.now.blocks c.args.version.now.blocks
-    k at refl below (e.0 ∙ c.block_at.ensures)
-    (ap (g.D.Disk.state c.loop-i.disk).contents (sym c.block_at.ensures) ∙ e.1)
-    (c.loop-i.invariant.keeps (c.read_data.ensures.same.was_honest h)).contents
+pub get_run-requires-clause-inside : goal.get_run-requires-clause-inside
+get_run-requires-clause-inside g c =
+    let blocks = c.args.version.now.blocks in
+    let at : ℕ = c.args.block - 1 + c.loop-done.done in
+    let count = c.min-count.result in
+    let run = c.run_at-run.result in
+    let few : count ≤ run.last - run.first + 1 = omega (arith, c.min-count.ensures, c.min.ensures, c.count.ensures.value) in
+    let some : 0 < count = let t = c.loop-done-test.true in
+    omega (arith, c.min-count.ensures, c.min.ensures, c.count.ensures.value) in
+    let within = c.run_at-run.ensures.within in
+    let below : at + (count - 1) < length blocks = omega (arith, within, few) in
+    let last : slice_index blocks (at + (count - 1)) ≡ run.first + (count - 1) =
+    c.run_at-run.ensures.blocks (count - 1) (omega (arith, few, some)) in
+    let inside = all_at (InSpace (g.D.Disk.state c.args.disk.now).size) blocks (at + (count - 1)) c.requires.inside below in
+    omega (arith, last, inside.below, c.loop-done.invariant.same.size, some)
 
-pub returns-in_err-data-clause-keeps : goal.returns-in_err-data-clause-keeps
-returns-in_err-data-clause-keeps g c h =
-    keeps_on (g.D.Disk.state c.args.disk.now) (g.D.Disk.state c.loop-i.disk) (g.D.Disk.state c.read_data.new.disk)
-    (c.loop-i.invariant.keeps (c.read_data.ensures.same.was_honest h))
-    (c.read_data.ensures.keeps h)
-
-pub loop-i-preserved : goal.loop-i-preserved
-loop-i-preserved g c =
+pub returns-in_err-get_run-clause-damaged : goal.returns-in_err-get_run-clause-damaged
+returns-in_err-get_run-clause-damaged g c h k is =
     let s = g.D.Disk.state c.args.disk.now in
-    let now = g.D.Disk.state c.loop-i.disk in
-    let new = g.D.Disk.state c.read_data.new.disk in
-    let items = c.loop-i.words.items in
-    let data' = c.in_ok-data.data in
-    let here = c.min-here.result in
-    let at : ℕ = c.args.block - 1 + c.loop-i.i in
-    let below : at < length c.args.version.now.blocks = let b = c.loop-i-test.true in
-    let e = c.words_there-wanted.ensures in let f = c.requires.counted in let d = c.requires.first in
-    omega (arith, c.length.ensures) in
-    let few : here ≤ 128 = let e = c.min-here.ensures in omega arith in
-    let has_data : new.honest → s.contents (slice_index c.args.version.now.blocks at) ≡ Some data' =
-    λ h. ap s.contents (sym c.block_at.ensures)
-    ∙ sym ((c.loop-i.invariant.keeps (c.read_data.ensures.same.was_honest h)).contents
-    c.block_at.result) ∙ c.in_ok-data.ensures.words h in
-    let from : block_start c.args.block + length items ≡ at * 128 = let b = c.loop-i-test.true in
-    let e = c.loop-i.invariant.long in let d = c.requires.first in omega arith in
+    let now = g.D.Disk.state c.loop-done.disk in
+    let blocks = c.args.version.now.blocks in
+    let at : ℕ = c.args.block - 1 + c.loop-done.done in
+    let run = c.run_at-run.result in
+    let few : c.min-count.result ≤ run.last - run.first + 1 =
+    omega (arith, c.min-count.ensures, c.min.ensures, c.count.ensures.value) in
+    let within = c.run_at-run.ensures.within in
+    let p = err_from_is_err_and c.from_residual-in_err-get_run.result c.from_residual-in_err-get_run.ensures.1 in
+    let bad = c.get_run.ensures.bad h k (passed_on c.from_residual-in_err-get_run.result c.get_run.result p.0
+    c.in_err-get_run.field-0.0 (BadData k) is p.1 p.2 c.in_err-get_run.was) in
+    let place = damaged_place blocks at run.first c.min-count.result k
+    (λ j less. c.run_at-run.ensures.blocks j (omega (arith, less, few))) bad.0 bad.1 in
+    damaged_at s.contents now.contents blocks blocks k (at + (k - run.first)) refl
+    (omega (arith, within, few, place.1)) place.0 (ap now.contents (sym place.0) ∙ bad.2)
+    (c.loop-done.invariant.keeps (c.get_run.ensures.same.was_honest h)).contents
+
+pub loop-done-preserved : goal.loop-done-preserved
+loop-done-preserved g c =
+    let s = g.D.Disk.state c.args.disk.now in
+    let now = g.D.Disk.state c.loop-done.disk in
+    let new = g.D.Disk.state c.get_run.new.disk in
+    let blocks = c.args.version.now.blocks in
+    let items = c.loop-done.words.items in
+    let words' = c.get_run.new.words.items in
+    let wanted = c.words_there-wanted.result in
+    let done = c.loop-done.done in
+    let count = c.min-count.result in
+    let run = c.run_at-run.result in
+    let at : ℕ = c.args.block - 1 + done in
+    let test = c.loop-done-test.true in
+    let few : count ≤ run.last - run.first + 1 =
+    omega (arith, c.min-count.ensures, c.min.ensures, c.count.ensures.value) in
+    let some : 0 < count = omega (arith, c.min-count.ensures, c.min.ensures, c.count.ensures.value, test) in
+    let within = c.run_at-run.ensures.within in
+    let side = λ (j : ℕ) (less : j < count). c.run_at-run.ensures.blocks j (omega (arith, less, few)) in
+    let whole_now : length items ≡ done * 128 =
+    omega (arith, c.loop-done.invariant.long, test, c.div_ceil-blocks.ensures) in
+    let was : new.honest → now.honest = c.get_run.ensures.same.was_honest in
+    let kept : new.honest → now.contents ≡ s.contents =
+    λ h. same_contents s.contents now.contents (c.loop-done.invariant.keeps (was h)).contents in
+    let stands = λ (h : new.honest) (i : ℕ) (less : i < count).
+    subst (λ (c' : Contents). StandsAt c' (run.first + i) (length items + i * 128) wanted words') (kept h)
+    (c.in_ok-get_run.ensures.words h i less) in
+    let long : length words' ≡ min (length items + count * 128) wanted = c.in_ok-get_run.ensures.long in
     record {
-      same = same_disk_on s now new c.loop-i.invariant.same c.read_data.ensures.same;
-      served = c.in_ok-data.ensures.served (λ is. cc) ∙ c.loop-i.invariant.served;
-      keeps = λ h. keeps_on s now new (c.loop-i.invariant.keeps (c.read_data.ensures.same.was_honest h))
-          (c.read_data.ensures.keeps h);
-      long = search (rules, length-append, length-take);
-      untouched = λ none. absurd (let b = c.loop-i-test.true in omega (arith, none));
-      room = search rules;
-      whole = λ h k less none. ⊎_elim
-          (λ (here : k ≡ c.loop-i.i). some_none (sym (has_data h)
-          ∙ ap (λ (n : ℕ). s.contents (slice_index c.args.version.now.blocks (c.args.block - 1 + n))) (sym here)
-          ∙ none))
-          (λ (other : k ≡ c.loop-i.i → ⊥). c.loop-i.invariant.whole (c.read_data.ensures.same.was_honest h) k
-          (omega arith) none) (cases_eq k c.loop-i.i);
-      read = λ h body is whole has.
-          let read = read_more s.contents c.args.version.now.blocks body whole has
-          (block_start c.args.block) at items data' here few from below
-          (has_data h)
-          (search rules) (let a = c.loop-i.invariant.long in let e = c.min-here.ensures in
-          let f = c.words_there-wanted.ensures in let l = c.len.ensures in
-          omega arith) (c.loop-i.invariant.read (c.read_data.ensures.same.was_honest h) body is
-          (whole_from (g.D.Disk.state c.args.disk.now).contents c.args.version.now.blocks body has) has) in
-          subst (λ (l : List ℕ). (p : ℕ) → p < length l → slice_index l p
-          ≡ slice_index body (block_start c.args.block + p)) (sym c.in_ok-extend_from_slice.ensures.items) read;
+      same = same_disk_on s now new c.loop-done.invariant.same c.get_run.ensures.same;
+      served = c.in_ok-get_run.ensures.served (λ is. cc) ∙ c.loop-done.invariant.served;
+      keeps = λ h. keeps_on s now new (c.loop-done.invariant.keeps (was h)) (c.get_run.ensures.keeps h);
+      long = omega (arith, long, whole_now);
+      untouched = λ none. absurd (omega (arith, none, test, c.div_ceil-blocks.ensures));
+      room = c.get_run.ensures.room;
+      whole = λ h. none_damaged s.contents blocks (c.args.block - 1) done run.first count wanted (length items) words'
+          side (stands h) (c.loop-done.invariant.whole (was h));
+      read = λ h body is all has.
+          let from : block_start c.args.block + length items ≡ at * 128 = omega (arith, whole_now, c.requires.first) in
+          let fits : block_start c.args.block + wanted ≤ length body =
+          omega (arith, c.words_there-wanted.ensures, c.length.ensures, is, test, c.div_ceil-blocks.ensures) in
+          read_run_more s.contents blocks body all has (block_start c.args.block) at run.first count wanted items words'
+          from (omega (arith, within, few)) fits side long c.in_ok-get_run.ensures.kept (stands h)
+          (c.loop-done.invariant.read (was h) body is all has);
     }
 
 pub returns-clause-words : goal.returns-clause-words
 returns-clause-words g c h body is has =
-    read_all body c.loop-i.words.items (block_start c.args.block) c.args.count (let a = c.loop-i.invariant.long in
-    let b = c.loop-i-test.false in let e = c.words_there-wanted.ensures in
-    omega arith) (c.loop-i.invariant.read h body is
+    read_all body c.loop-done.words.items (block_start c.args.block) c.args.count (let a = c.loop-done.invariant.long in
+    let b = c.loop-done-test.false in let e = c.words_there-wanted.ensures in let d = c.div_ceil-blocks.ensures in
+    omega arith) (c.loop-done.invariant.read h body is
     (whole_from (g.D.Disk.state c.args.disk.now).contents c.args.version.now.blocks body has) has)
-
-pub returns-clause-whole : goal.returns-clause-whole
-returns-clause-whole g c h k some = c.loop-i.invariant.whole h k (let a = c.loop-i.invariant.long in omega arith)
-
-pub returns-clause-none : goal.returns-clause-none
-returns-clause-none g c none =
-    c.loop-i.invariant.untouched (let a = c.loop-i.invariant.long in let b = c.loop-i-test.false in omega (arith, none))

@@ -6,18 +6,21 @@ use Rattle.meaning.specs.Splices.{block_start}
 use Rattle.retrieval.specs.Bodies.{AreWhole}
 use Rattle.retrieval.proofs.body.get_words.Given as goal
 
-abbrev pub invariant-loop-i : goal.invariant-loop-i
-invariant-loop-i g l = record {
+abbrev pub invariant-loop-done : goal.invariant-loop-done
+invariant-loop-done g l = record {
   same : SameDisk (g.D.Disk.state l.fn.disk) (g.D.Disk.state l.disk);
   served : (g.D.Disk.state l.disk).failures ≡ (g.D.Disk.state l.fn.disk).failures;
   keeps : (g.D.Disk.state l.disk).honest → Keeps (g.D.Disk.state l.fn.disk) (g.D.Disk.state l.disk);
-  long : length l.words.items ≡ min (l.i * 128) l.wanted;
+  long : length l.words.items ≡ min (l.done * 128) l.wanted;
   untouched : l.wanted ≡ 0 → l.disk ≡ l.fn.disk;
   room : l.wanted ≤ vec_capacity l.words;
-  whole : (g.D.Disk.state l.disk).honest → (k : ℕ) → k < l.i
+  whole : (g.D.Disk.state l.disk).honest → (k : ℕ) → k < l.done
       → (g.D.Disk.state l.fn.disk).contents (slice_index l.version.blocks (l.block - 1 + k)) ≡ None → ⊥;
   read : (g.D.Disk.state l.disk).honest → (body : List ℕ) → length body ≡ l.version.words
       → AreWhole (g.D.Disk.state l.fn.disk).contents l.version.blocks
       → HasBody (g.D.Disk.state l.fn.disk).contents l.version.blocks body
       → (p : ℕ) → p < length l.words.items → slice_index l.words.items p ≡ slice_index body (block_start l.block + p);
 }
+
+abbrev pub decreases-loop-done : goal.decreases-loop-done
+decreases-loop-done g l = l.blocks - l.done
