@@ -52,10 +52,10 @@ pub trait Disk {
     {
         let _size = self.blocks(); // no more than a u32 counts
         for place in 0..blocks.len() {
-            let n = first + place as u32;
-            match self.read(n) {
+            let number = first + place as u32;
+            match self.read(number) {
                 Ok(block) => blocks[place] = block,
-                Err(Fault::Damaged) => return Ok(Some(n)),
+                Err(Fault::Damaged) => return Ok(Some(number)),
                 Err(Fault::Device) => return Err(Fault::Device),
             }
         }

@@ -36,8 +36,10 @@ window_part b at len i n within = ext_get_or 0 (take n (drop i (window b at len)
   where
     whole : length (drop i (window b at len)) ≡ len - i
     whole = length-drop i (window b at len) ∙ ap (λ k. k - i) (length-window b at len)
+
     shorter : min n (length (drop i (window b at len))) ≡ n
     shorter = omega (arith, whole, within)
+
     each : (j : ℕ) → j < length (take n (drop i (window b at len)))
         → get_or (take n (drop i (window b at len))) j 0 ≡ get_or (window b (at + i) n) j 0
     each j less =
@@ -59,6 +61,7 @@ module _ (form : Form) (b : Bytes) (first count at len : ℕ) (bytes : List ℕ)
     where
       fits : (size : ℕ) → i < count → len ≡ size * count → size * i + size ≤ len
       fits size less long = grind arith
+
       there : (size : ℕ) → at ≡ size * first → at + size * i ≡ size * (first + i)
       there size place = grind arith
 

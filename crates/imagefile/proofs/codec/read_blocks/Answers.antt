@@ -22,7 +22,7 @@ loop-done-preserved g c =
     let long : length group ≡ stop - done = omega arith in
     let end : done + (stop - done) ≡ stop = omega arith in
     let read = λ (size : ℕ). subst (λ found. IsRunRead (c.args.first + done) (image now size) (image new size) group
-        (Ok found)) c.in-Ok-None.field-0-is (c.in-Ok-None.ensures.reads size) in
+    (Ok found)) c.in-Ok-None.field-0-is (c.in-Ok-None.ensures.reads size) in
     let whole = length-filled done (stop - done) blocks group room long in
     record {
       same = same_on old now new c.loop-done.invariant.same c.read_group.ensures.same;
@@ -50,7 +50,7 @@ returns-in-Ok-Some-clause-reads g c =
     let room : done + (stop - done) ≤ length blocks = omega arith in
     let long : length group ≡ stop - done = omega arith in
     let read = λ (size : ℕ). subst (λ found. IsRunRead (c.args.first + done) (image now size) (image new size) group
-        (Ok found)) c.in-Ok-Some.field-0-is (c.in-Ok-Some.ensures.reads size) in
+    (Ok found)) c.in-Ok-Some.field-0-is (c.in-Ok-Some.ensures.reads size) in
     let whole = length-filled done (stop - done) blocks group room long in
     λ size. part_damaged c.args.first done (image old size) (image now size) blocks (c.loop-done.invariant.read size)
     c.in-Ok-Some.bad (image new size) group (put_mid done (stop - done) blocks group) (omega (arith, whole, long))
