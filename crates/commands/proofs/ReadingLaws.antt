@@ -103,7 +103,7 @@ module _ {S : Type 0} (machine : S → Machine) (first size word : ℕ) where
 
 -- The block is fetched, word by word.
 
-fetches_next : (moment : Moment) (address left more : ℕ) (next : List ℕ → Plan) → left ≡ suc more
+pub fetches_next : (moment : Moment) (address left more : ℕ) (next : List ℕ → Plan) → left ≡ suc more
     → fetches moment left address next
     ≡ examines moment address (λ word. fetches moment more (address + 1) (λ words. next (word ∷ words)))
 unfolding fetches

@@ -1,15 +1,18 @@
 -- What is asked where a file is read and how far its plan has come, call by call; and the bytes of words that follow
 -- one another.
-use Rattle.std.proofs.Common.{◌≡◌, ℕ, ◌+◌, ◌||◌, Bool, true, List, [], ◌∷◌, ◌++◌, zero, suc}
+use Rattle.std.proofs.Common.{◌≡◌, ℕ, ◌+◌, ◌-◌, ◌*◌, ◌/◌, ◌%◌, ◌<◌, ◌≤◌, ◌||◌, Bool, true, List, [], ◌∷◌, ◌++◌, zero}
+use Rattle.std.proofs.Common.{suc, length, take, drop, arith}
+use Rattle.std.proofs.lemmas.List.{take_all, take-append-drop, drop-drop}
 use Rattle.std.proofs.Common.{sym, ◌∙◌, ap, subst, append_assoc, append-nil, Result, Ok, Err, IfOk}
 use Rattle.std.proofs.lemmas.Grind.{flat_map-append}
 use Rattle.std.specs.Prelude.{flat_map}
+use Rattle.std.specs.Simd.{first_chunks}
 use Rattle.words36.specs.Ascii.{unpacked, five_characters}
 use Rattle.words36.specs.declared.moment.Moment.{Moment}
 use Rattle.meaning.specs.Plans.{Plan, Say, each, examines, fetches, sizes, finds, lists, takes, goes_to, ends, fails}
 use Rattle.meaning.specs.Plans.{file_words, block_address, blocks_said, types_blocks, types_last, types_body, until_end}
-use Rattle.meaning.specs.Plans.{reads_file}
-use Rattle.words36.specs.Blocks.{word_bytes}
+use Rattle.meaning.specs.Plans.{reads_file, run_blocks, types_runs}
+use Rattle.words36.specs.Blocks.{word_bytes, block_bytes}
 use Rattle.meaning.specs.Texts.{Spoken, typed, printed, not_null, prints, refuses, refusal, is_broken, line}
 use Rattle.meaning.specs.declared.encoding.Encoding.{Encoding}
 use Rattle.meaning.specs.declared.encoding.Encoding.TheVariants.{Characters, Words}
@@ -17,12 +20,13 @@ use Rattle.meaning.specs.declared.call.Event.{Event}
 use Rattle.meaning.specs.declared.call.Reply.{Reply}
 use Rattle.meaning.specs.declared.command.Spec.{Spec}
 use Rattle.commands.specs.Asking.{Led, Concludes, followed, AreTyped, HasTyped}
-use Rattle.commands.specs.Machines.{Machine, AlwaysStands}
+use Rattle.commands.specs.Machines.{Machine, AlwaysStands, AreShown}
 use Rattle.commands.specs.declared.answer.Tally.{Tally}
 use Rattle.commands.specs.declared.typing.Typed.{Typed}
 use Rattle.commands.proofs.TranscriptLaws.{or-false}
 use Rattle.commands.proofs.AnswerLaws.{or-true}
 use Rattle.commands.proofs.LedLaws.{led_on, led_still, each_append}
+use Rattle.commands.proofs.ReadingLaws.{fetches_next, fetches_shown}
 
 -- Bytes of words that follow one another.
 
@@ -40,6 +44,34 @@ pub pushed_all : (encoding : Encoding) (before after seen words : List ℕ) → 
     → before ≡ printed encoding seen → after ≡ printed encoding (seen ++ words)
 pushed_all encoding before after seen words put was =
     put ∙ ap (λ l. l ++ printed encoding words) was ∙ sym (printed-append encoding seen words)
+
+-- The words of whole blocks, and those behind them.
+
+chunks_joined : (size count : ℕ) (words : List ℕ)
+    → flat_map block_bytes (first_chunks size count words) ++ flat_map word_bytes (drop (count * size) words)
+    ≡ flat_map word_bytes words
+chunks_joined size zero words = let none : zero * size ≡ 0 = omega arith in
+    ap (λ n. flat_map word_bytes (drop n words)) none
+chunks_joined size (suc count) words =
+    let place : suc count * size ≡ size + count * size = grind arith in
+    let block = take size words in
+    append_assoc (block_bytes block) (flat_map block_bytes (first_chunks size count (drop size words)))
+    (flat_map word_bytes (drop (suc count * size) words))
+    ∙ ap (λ l. block_bytes block ++ (flat_map block_bytes (first_chunks size count (drop size words))
+    ++ flat_map word_bytes l)) (ap (λ n. drop n words) place ∙ sym (drop-drop (count * size) size words))
+    ∙ ap (λ l. block_bytes block ++ l) (chunks_joined size count (drop size words))
+    ∙ sym (flat_map-append word_bytes block (drop size words))
+    ∙ ap (flat_map word_bytes) (take-append-drop size words)
+
+pub chunks_pushed : (before after words : List ℕ) (size count : ℕ) (others : List ℕ) (i : ℕ) → length others ≤ i
+    → others ≡ drop (count * size) words
+    → after ≡ (before ++ flat_map block_bytes (first_chunks size count words)) ++ flat_map word_bytes (take i others)
+    → after ≡ before ++ flat_map word_bytes words
+chunks_pushed before after words size count others i all back pushed =
+    let blocks = flat_map block_bytes (first_chunks size count words) in
+    pushed ∙ append_assoc before blocks (flat_map word_bytes (take i others))
+    ∙ ap (λ l. before ++ l) (ap (λ l. blocks ++ flat_map word_bytes l) (take_all i others all ∙ back)
+    ∙ chunks_joined size count words)
 
 -- Plans.
 
@@ -72,27 +104,47 @@ module _ {S : Type 0} (machine : S → Machine) where
   asked_failed {a = a} {b = b} moment reply e failed next = subst
       (λ (l : List Event). Led machine a b (each moment l next) (fails moment reply)) e (failed moment next)
 
+  -- these words were put behind those before
+  abbrev pub ArePut : Typed → Typed → List ℕ → Type 0
+  ArePut before after words = (encoding : Encoding) (seen : List ℕ) → AreTyped encoding before seen
+      → AreTyped encoding after (seen ++ words)
+
+  put_none : (t : Typed) → ArePut t t []
+  put_none t encoding seen h = subst (λ (l : List ℕ). AreTyped encoding t l) (sym (append-nil seen)) h
+
+  put_more : (before mid after : Typed) (words others : List ℕ) → ArePut before mid words → ArePut mid after others
+      → ArePut before after (words ++ others)
+  put_more before mid after words others p q encoding seen h = subst (λ (l : List ℕ). AreTyped encoding after l)
+      (append_assoc seen words others) (q encoding (seen ++ words) (p encoding seen h))
+
   -- Words that were read so far: what is left of a plan, whatever is to be done with all words.
 
   pub record HasRead (old new : S) (plan rest : (List ℕ → Plan) → Plan) (before after : Typed) : Type 0 where
     pub words : List ℕ
-    pub types : (encoding : Encoding) (seen : List ℕ) → AreTyped encoding before seen
-        → AreTyped encoding after (seen ++ words)
+    pub types : ArePut before after words
     pub led : (next : List ℕ → Plan) → Led machine old new (plan next) (rest (λ others. next (words ++ others)))
-
-  types_none : (t : Typed) (encoding : Encoding) (seen : List ℕ) → AreTyped encoding t seen
-      → AreTyped encoding t (seen ++ [])
-  types_none t encoding seen h = subst (λ (l : List ℕ). AreTyped encoding t l) (sym (append-nil seen)) h
 
   pub read_none : AlwaysStands machine → (a : S) (plan : (List ℕ → Plan) → Plan) (t : Typed) → HasRead a a plan plan t t
   read_none stands a plan t = record {
     words = [];
-    types = types_none t;
+    types = put_none t;
     led = λ next. led_still machine stands a (plan next);
   }
 
+  read_more : (a b c : S) (plan rest then : (List ℕ → Plan) → Plan) (before mid after : Typed) (words : List ℕ)
+      → HasRead a b plan rest before mid
+      → ((next : List ℕ → Plan) → Led machine b c (rest next) (then (λ others. next (words ++ others))))
+      → ArePut mid after words → HasRead a c plan then before after
+  read_more a b c plan rest then before mid after words p led put = record {
+    words = p.words ++ words;
+    types = put_more before mid after p.words words p.types put;
+    led = λ next. subst (λ (f : List ℕ → Plan). Led machine a c (plan next) (then f))
+        (λ i others. next (sym (append_assoc p.words words others) i))
+        (led_then (p.led next) (led (λ others. next (p.words ++ others))));
+  }
+
   -- The line ends at an event that failed.
-  pub read_until : {X : Type 0} (a b c : S) (moment : Moment) (plan rest : (List ℕ → Plan)
+  read_until : {X : Type 0} (a b c : S) (moment : Moment) (plan rest : (List ℕ → Plan)
       → Plan) (before after : Typed) (result : Result X Reply) (reply : Reply) → result ≡ Err reply
       → HasRead a b plan rest before after
       → ((next : List ℕ → Plan) → Led machine b c (rest next) (fails moment reply))
@@ -110,68 +162,220 @@ module _ {S : Type 0} (machine : S → Machine) where
       → ((next : List ℕ → Plan) → Led machine a b (plan next) (fails moment reply))
       → HasTyped machine a b moment plan result t t
   failed_at {X = X} a b moment plan t result reply e failed = subst (λ (r : Result X Reply).
-      HasTyped machine a b moment plan r t t) (sym e) (record { words = []; types = types_none t; led = failed })
+      HasTyped machine a b moment plan r t t) (sym e) (record { words = []; types = put_none t; led = failed })
 
-  -- Whole blocks.
+  -- Plans that are parts of another.
 
-  module _ (a b c d : S) (moment : Moment) (count : ℕ) (left : ℕ) (more : ℕ) (before mid after : Typed) (is_more : left
-      ≡ suc more) (p : HasRead a b (types_blocks moment count) (types_blocks moment left) before mid) where
-    abbrev asked : (List ℕ → Plan) → Plan
-    asked next = fetches moment 128 block_address (λ words. types_blocks moment more (λ others. next (words ++ others)))
-
-    next_block : HasRead a b (types_blocks moment count) (λ next. each moment (takes moment ∷ []) (asked next))
-        before mid
-    unfolding types_blocks
-    next_block = subst (λ n. HasRead a b (types_blocks moment count) (types_blocks moment n) before mid) is_more p
-
-    pub no_block : {X : Type 0} (result : Result X Reply) (reply : Reply) → result ≡ Err reply
-        → ((next : Plan) → Led machine b c (each moment (takes moment ∷ []) next) (fails moment reply))
-        → HasTyped machine a c moment (types_blocks moment count) result before mid
-    no_block result reply e failed = read_until a b c moment (types_blocks moment count)
-        (λ next. each moment (takes moment ∷ []) (asked next)) before mid result reply e next_block
-        (λ next. failed (asked next))
-
-    module _ (took : (next : Plan) → Led machine b c (each moment (takes moment ∷ []) next) next) where
-      pub no_words : {X : Type 0} (result : Result X Reply) (reply : Reply) → result ≡ Err reply
-          → ((next : List ℕ → Plan) → Led machine c d (fetches moment 128 block_address next) (fails moment reply))
-          → HasTyped machine a d moment (types_blocks moment count) result before mid
-      no_words result reply e failed =
-          read_until a b d moment (types_blocks moment count) (λ next. each moment (takes moment ∷ []) (asked next))
-          before mid result reply e next_block
-          (λ next. led_then (took (asked next))
-          (failed (λ words. types_blocks moment more (λ others. next (words ++ others)))))
-
-      pub read_block : (words : List ℕ)
-          → ((next : List ℕ → Plan) → Led machine c d (fetches moment 128 block_address next) (next words))
-          → ((encoding : Encoding) (seen : List ℕ) → AreTyped encoding mid seen
-          → AreTyped encoding after (seen ++ words))
-          → HasRead a d (types_blocks moment count) (types_blocks moment more) before after
-      read_block words fetched pushed =
-          let q = next_block in
-          record {
-            words = q.words ++ words;
-            types = λ encoding seen h. subst (λ (l : List ℕ). AreTyped encoding after l)
-                (append_assoc seen q.words words) (pushed encoding (seen ++ q.words) (q.types encoding seen h));
-            led = λ next.
-                let k : List ℕ → Plan = λ others. next (q.words ++ others) in
-                let one = led_then (q.led next)
-                (led_then (took (asked k))
-                (fetched (λ read. types_blocks moment more (λ others. k (read ++ others))))) in
-                subst (λ (f : List ℕ → Plan). Led machine a d (types_blocks moment count next)
-                (types_blocks moment more f)) (λ i others. next (sym (append_assoc q.words words others) i)) one;
-          }
-
-  pub read_blocks : {X : Type 0} (a b : S) (moment : Moment) (count : ℕ) (left : ℕ) (before after : Typed) (x : X)
-      → left ≡ zero → HasRead a b (types_blocks moment count) (types_blocks moment left) before after
-      → HasTyped machine a b moment (types_blocks moment count) (Ok x) before after
-  unfolding types_blocks
-  read_blocks a b moment count left before after x e p = record {
+  -- what was asked before brings the plan to its part
+  pub typed_behind : {X : Type 0} (a b c : S) (moment : Moment) (plan part : (List ℕ → Plan) → Plan)
+      (before after : Typed) (result : Result X Reply)
+      → ((next : List ℕ → Plan) → Led machine a b (plan next) (part next))
+      → HasTyped machine b c moment part result before after → HasTyped machine a c moment plan result before after
+  typed_behind a b c moment plan part before after result led p = record {
     words = p.words;
     types = p.types;
-    led = λ next. subst (λ (l : List ℕ). Led machine a b (types_blocks moment count next) (next l)) (append-nil p.words)
-        (subst (λ n. Led machine a b (types_blocks moment count next)
-        (types_blocks moment n (λ others. next (p.words ++ others)))) e (p.led next));
+    led = λ next. led_then (led next) (p.led next);
   }
+
+  -- the line ends in it
+  pub typed_until : {X Y : Type 0} (a b : S) (moment : Moment) (part : (List ℕ → Plan) → Plan)
+      (then : (List ℕ → Plan) → List ℕ → Plan) (before after : Typed) (read : Result Y Reply) (result : Result X Reply)
+      (reply : Reply) → read ≡ Err reply → result ≡ Err reply → HasTyped machine a b moment part read before after
+      → HasTyped machine a b moment (λ next. part (then next)) result before after
+  typed_until {X = X} {Y = Y} a b moment part then before after read result reply was is p =
+      let q = subst (λ (r : Result Y Reply). HasTyped machine a b moment part r before after) was p in
+      subst (λ (r : Result X Reply). HasTyped machine a b moment (λ next. part (then next)) r before after) (sym is)
+      (record { words = q.words; types = q.types; led = λ next. q.led (then next) })
+
+  -- another part follows it
+  pub typed_both : {X Y : Type 0} (a b c : S) (moment : Moment) (first second : (List ℕ → Plan) → Plan)
+      (before mid after : Typed) (y : Y) (result : Result X Reply)
+      → HasTyped machine a b moment first (Ok y) before mid → HasTyped machine b c moment second result mid after
+      → HasTyped machine a c moment (λ next. first (λ words. second (λ others. next (words ++ others)))) result
+      before after
+  typed_both a b c moment first second before mid after y result p q = record {
+    words = p.words ++ q.words;
+    types = put_more before mid after p.words q.words p.types q.types;
+    led = λ next. led_then (p.led (λ words. second (λ others. next (words ++ others))))
+        (q.led (λ others. next (p.words ++ others)));
+  }
+
+  -- Words that an IN has moved.
+
+  module _ (moment : Moment) (first count : ℕ) where
+    -- what is left at the i-th word, where they are told one by one
+    abbrev pub Fetched : S → S → ℕ → Typed → Typed → Type 0
+    Fetched a b i before after = HasRead a b (fetches moment count first) (fetches moment (count - i) (first + i))
+        before after
+
+    pub fetched_none : AlwaysStands machine → (a : S) (t : Typed) → Fetched a a 0 t t
+    fetched_none stands a t =
+        let place : first ≡ first + 0 = omega arith in
+        let whole : count ≡ count - 0 = omega arith in
+        subst (λ (p : (List ℕ → Plan) → Plan). HasRead a a (fetches moment count first) p t t)
+        (λ j. fetches moment (whole j) (place j)) (read_none stands a (fetches moment count first) t)
+
+    module _ (a b c : S) (i : ℕ) (before mid : Typed) (some : i < count) (p : Fetched a b i before mid) where
+      fetches_one : (next : List ℕ → Plan) → fetches moment (count - i) (first + i) next
+          ≡ examines moment (first + i)
+          (λ word. fetches moment (count - (i + 1)) (first + i + 1) (λ words. next (word ∷ words)))
+      fetches_one next =
+          let left : count - i ≡ suc (count - (i + 1)) = omega arith in
+          fetches_next moment (first + i) (count - i) (count - (i + 1)) next left
+
+      pub fetched_until : {X : Type 0} (result : Result X Reply) (reply : Reply) → result ≡ Err reply
+          → ((next : ℕ → Plan) → Led machine b c (examines moment (first + i) next) (fails moment reply))
+          → HasTyped machine a c moment (fetches moment count first) result before mid
+      fetched_until result reply e failed =
+          read_until a b c moment (fetches moment count first) (fetches moment (count - i) (first + i)) before mid
+          result reply e p
+          (λ next. subst (λ (q : Plan). Led machine b c q (fails moment reply)) (sym (fetches_one next))
+          (failed (λ word. fetches moment (count - (i + 1)) (first + i + 1) (λ words. next (word ∷ words)))))
+
+      pub fetched_more : (word : ℕ) (after : Typed)
+          → ((next : ℕ → Plan) → Led machine b c (examines moment (first + i) next) (next word))
+          → ArePut mid after (word ∷ []) → Fetched a c (i + 1) before after
+      fetched_more word after told put =
+          let place : first + i + 1 ≡ first + (i + 1) = omega arith in
+          subst (λ n. HasRead a c (fetches moment count first) (fetches moment (count - (i + 1)) n) before after) place
+          (read_more a b c (fetches moment count first) (fetches moment (count - i) (first + i))
+          (fetches moment (count - (i + 1)) (first + i + 1)) before mid after (word ∷ []) p
+          (λ next. subst (λ (q : Plan). Led machine b c q
+          (fetches moment (count - (i + 1)) (first + i + 1) (λ others. next (word ∷ others)))) (sym (fetches_one next))
+          (told (λ word. fetches moment (count - (i + 1)) (first + i + 1) (λ words. next (word ∷ words))))) put)
+
+    pub fetched_all : {X : Type 0} (a b : S) (i : ℕ) (before after : Typed) (x : X) → count ≤ i
+        → Fetched a b i before after → HasTyped machine a b moment (fetches moment count first) (Ok x) before after
+    unfolding fetches
+    fetched_all a b i before after x all p =
+        let none : count - i ≡ 0 = omega arith in
+        record {
+          words = p.words;
+          types = p.types;
+          led = λ next. subst (λ (l : List ℕ). Led machine a b (fetches moment count first next) (next l))
+              (append-nil p.words)
+              (subst (λ n. Led machine a b (fetches moment count first next)
+              (fetches moment n (first + i) (λ others. next (p.words ++ others)))) none (p.led next));
+        }
+
+    pub fetched_at_once : {X : Type 0} → AlwaysStands machine → (a : S) (words : List ℕ) (before after : Typed) (x : X)
+        → length words ≡ count → AreShown (machine a) first words → ArePut before after words
+        → HasTyped machine a a moment (fetches moment count first) (Ok x) before after
+    fetched_at_once stands a words before after x long shown put = record {
+      words = words;
+      types = put;
+      led = λ next. subst (λ n. Led machine a a (fetches moment n first next) (next words)) long
+          (fetches_shown machine stands a moment words first shown next);
+    }
+
+  -- Words that as many INs move.
+
+  module _ (moment : Moment) (runs count : ℕ) where
+    -- what is left where so many INs are
+    abbrev pub Ran : S → S → ℕ → Typed → Typed → Type 0
+    Ran a b left before after = HasRead a b (types_runs moment runs count) (types_runs moment left count) before after
+
+    module _ (a b c : S) (left more : ℕ) (before mid : Typed) (is_more : left ≡ suc more)
+        (p : Ran a b left before mid) where
+      abbrev behind_run : (List ℕ → Plan) → List ℕ → Plan
+      behind_run next words = types_runs moment more count (λ others. next (words ++ others))
+
+      abbrev takes_run : (List ℕ → Plan) → Plan
+      takes_run next = each moment (takes moment ∷ []) (fetches moment count block_address (behind_run next))
+
+      next_run : HasRead a b (types_runs moment runs count) takes_run before mid
+      unfolding types_runs
+      next_run = subst (λ n. HasRead a b (types_runs moment runs count) (types_runs moment n count) before mid)
+          is_more p
+
+      pub no_run : {X : Type 0} (result : Result X Reply) (reply : Reply) → result ≡ Err reply
+          → ((next : Plan) → Led machine b c (each moment (takes moment ∷ []) next) (fails moment reply))
+          → HasTyped machine a c moment (types_runs moment runs count) result before mid
+      no_run result reply e failed = read_until a b c moment (types_runs moment runs count) takes_run before mid
+          result reply e next_run (λ next. failed (fetches moment count block_address (behind_run next)))
+
+      module _ (took : (next : Plan) → Led machine b c (each moment (takes moment ∷ []) next) next) (d : S)
+          (after : Typed) where
+        pub no_words : {X Y : Type 0} (read : Result Y Reply) (result : Result X Reply) (reply : Reply)
+            → read ≡ Err reply → result ≡ Err reply
+            → HasTyped machine c d moment (fetches moment count block_address) read mid after
+            → HasTyped machine a d moment (types_runs moment runs count) result before after
+        no_words {X = X} {Y = Y} read result reply was is words =
+            let q = subst (λ (r : Result Y Reply). HasTyped machine c d moment (fetches moment count block_address) r
+            mid after) was words in
+            let was_read = next_run in
+            subst (λ (r : Result X Reply). HasTyped machine a d moment (types_runs moment runs count) r before after)
+            (sym is) (record {
+              words = was_read.words ++ q.words;
+              types = put_more before mid after was_read.words q.words was_read.types q.types;
+              led = λ next.
+                  let k : List ℕ → Plan = λ others. next (was_read.words ++ others) in
+                  led_then (was_read.led next)
+                  (led_then (took (fetches moment count block_address (behind_run k))) (q.led (behind_run k)));
+            })
+
+        pub read_run : {Y : Type 0} (y : Y)
+            → HasTyped machine c d moment (fetches moment count block_address) (Ok y) mid after
+            → Ran a d more before after
+        read_run y q = read_more a b d (types_runs moment runs count) takes_run (types_runs moment more count)
+            before mid after q.words next_run
+            (λ next. led_then (took (fetches moment count block_address (behind_run next))) (q.led (behind_run next)))
+            q.types
+
+    pub read_runs : {X : Type 0} (a b : S) (left : ℕ) (before after : Typed) (x : X) → left ≡ zero
+        → Ran a b left before after → HasTyped machine a b moment (types_runs moment runs count) (Ok x) before after
+    unfolding types_runs
+    read_runs a b left before after x e p = record {
+      words = p.words;
+      types = p.types;
+      led = λ next. subst (λ (l : List ℕ). Led machine a b (types_runs moment runs count next) (next l))
+          (append-nil p.words)
+          (subst (λ n. Led machine a b (types_runs moment runs count next)
+          (types_runs moment n count (λ others. next (p.words ++ others)))) e (p.led next));
+    }
+
+  -- Whole blocks: a list is named, and words are moved by it.
+
+  module _ (moment : Moment) (runs count : ℕ) where
+    abbrev pub types_listed : (List ℕ → Plan) → Plan
+    types_listed next = each moment (lists count) (types_runs moment runs count next)
+
+    pub no_listed : {X : Type 0} (a b : S) (t : Typed) (result : Result X Reply) (reply : Reply) → result ≡ Err reply
+        → ((next : Plan) → Led machine a b (each moment (lists count) next) (fails moment reply))
+        → HasTyped machine a b moment types_listed result t t
+    no_listed a b t result reply e failed = failed_at a b moment types_listed t result reply e
+        (λ next. failed (types_runs moment runs count next))
+
+    pub read_listed : {X : Type 0} (a b c : S) (before after : Typed) (result : Result X Reply)
+        → ((next : Plan) → Led machine a b (each moment (lists count) next) next)
+        → HasTyped machine b c moment (types_runs moment runs count) result before after
+        → HasTyped machine a c moment types_listed result before after
+    read_listed a b c before after result listed p = typed_behind a b c moment types_listed
+        (types_runs moment runs count) before after result (λ next. listed (types_runs moment runs count next)) p
+
+  module _ (moment : Moment) (blocks : ℕ) where
+    abbrev by_runs : (List ℕ → Plan) → Plan
+    by_runs = types_listed moment (blocks / run_blocks) (run_blocks * 128)
+
+    abbrev one_by_one : (List ℕ → Plan) → Plan
+    one_by_one = types_listed moment (blocks % run_blocks) 128
+
+    abbrev behind_runs : (List ℕ → Plan) → List ℕ → Plan
+    behind_runs next words = one_by_one (λ others. next (words ++ others))
+
+    -- the line ends in what is read by runs
+    pub no_blocks : {X Y : Type 0} (a b : S) (before after : Typed) (read : Result Y Reply) (result : Result X Reply)
+        (reply : Reply) → read ≡ Err reply → result ≡ Err reply → HasTyped machine a b moment by_runs read before after
+        → HasTyped machine a b moment (types_blocks moment blocks) result before after
+    no_blocks a b before after read result reply was is p =
+        typed_until a b moment by_runs behind_runs before after read result reply was is p
+
+    pub read_blocks : {X Y : Type 0} (a b c : S) (before mid after : Typed) (y : Y) (result : Result X Reply)
+        → HasTyped machine a b moment by_runs (Ok y) before mid
+        → HasTyped machine b c moment one_by_one result mid after
+        → HasTyped machine a c moment (types_blocks moment blocks) result before after
+    read_blocks a b c before mid after y result p q =
+        typed_both a b c moment by_runs one_by_one before mid after y result p q
 
   -- The last block.
 
@@ -225,23 +429,11 @@ module _ {S : Type 0} (machine : S → Machine) where
               (led_then (listed (each moment (goes_to moment n ∷ takes moment ∷ [])
               (fetches moment count block_address next))) (took (fetches moment count block_address next)))
 
-          pub no_last_words : {X : Type 0} (result : Result X Reply) (reply : Reply) → result ≡ Err reply
-              → ((next : List ℕ → Plan)
-              → Led machine d e (fetches moment count block_address next) (fails moment reply))
-              → HasTyped machine a e moment (types_last moment n size) result t t
-          no_last_words result reply is failed = failed_at a e moment (types_last moment n size) t result reply is
-              (λ next. led_then (last_fetches next) (failed next))
-
-          pub read_last : {X : Type 0} (x : X) (words : List ℕ) (after : Typed)
-              → ((next : List ℕ → Plan) → Led machine d e (fetches moment count block_address next) (next words))
-              → ((encoding : Encoding) (seen : List ℕ) → AreTyped encoding t seen
-              → AreTyped encoding after (seen ++ words))
-              → HasTyped machine a e moment (types_last moment n size) (Ok x) t after
-          read_last x words after fetched pushed = record {
-            words = words;
-            types = pushed;
-            led = λ next. led_then (last_fetches next) (fetched next);
-          }
+          pub read_last : {X : Type 0} (result : Result X Reply) (after : Typed)
+              → HasTyped machine d e moment (fetches moment count block_address) result t after
+              → HasTyped machine a e moment (types_last moment n size) result t after
+          read_last result after words = typed_behind a d e moment (types_last moment n size)
+              (fetches moment count block_address) t after result last_fetches words
 
   -- All of a body.
 
@@ -250,7 +442,7 @@ module _ {S : Type 0} (machine : S → Machine) where
       → HasTyped machine a a moment (types_body moment blocks size) (Ok x) t t
   read_nothing {X = X} stands a moment blocks size t x e =
       subst (λ n. HasTyped {X = X} machine a a moment (types_body moment n size) (Ok x) t t) (sym e)
-      (record { words = []; types = types_none t; led = λ next. led_still machine stands a (next []) })
+      (record { words = []; types = put_none t; led = λ next. led_still machine stands a (next []) })
 
   pub read_body : {X Y : Type 0} (a b c : S) (moment : Moment) (blocks : ℕ) (more : ℕ) (size : ℕ)
       (before mid after : Typed) (y : Y) (result : Result X Reply) → blocks ≡ suc more
@@ -259,29 +451,20 @@ module _ {S : Type 0} (machine : S → Machine) where
       → HasTyped machine a c moment (types_body moment blocks size) result before after
   read_body a b c moment blocks more size before mid after y result e p q =
       let last = subst (λ n. HasTyped machine b c moment (types_last moment n size) result mid after) e q in
-      subst (λ n. HasTyped machine a c moment (types_body moment n size) result before after) (sym e) (record {
-        words = p.words ++ last.words;
-        types = λ encoding seen h. subst (λ (l : List ℕ). AreTyped encoding after l)
-            (append_assoc seen p.words last.words) (last.types encoding (seen ++ p.words) (p.types encoding seen h));
-        led = λ next. led_then (p.led (λ words. types_last moment (suc more) size (λ others. next (words ++ others))))
-            (last.led (λ others. next (p.words ++ others)));
-      })
+      subst (λ n. HasTyped machine a c moment (types_body moment n size) result before after) (sym e)
+      (typed_both a b c moment (types_blocks moment more) (types_last moment (suc more) size) before mid after y result
+      p last)
 
   pub no_body : {X Y : Type 0} (a b : S) (moment : Moment) (blocks : ℕ) (more : ℕ) (size : ℕ) (before after : Typed)
       (blocks_read : Result Y Reply) (result : Result X Reply) (reply : Reply) → blocks ≡ suc more
       → blocks_read ≡ Err reply → result ≡ Err reply
       → HasTyped machine a b moment (types_blocks moment more) blocks_read before after
       → HasTyped machine a b moment (types_body moment blocks size) result before after
-  no_body {X = X} {Y = Y} a b moment blocks more size before after blocks_read result reply e was is p =
-      let q = subst (λ (r : Result Y Reply). HasTyped machine a b moment (types_blocks moment more) r before after)
-      was p in
+  no_body a b moment blocks more size before after blocks_read result reply e was is p =
       subst (λ n. HasTyped machine a b moment (types_body moment n size) result before after) (sym e)
-      (subst (λ (r : Result X Reply). HasTyped machine a b moment (types_body moment (suc more) size) r before after)
-      (sym is) (record {
-        words = q.words;
-        types = q.types;
-        led = λ next. q.led (λ words. types_last moment (suc more) size (λ others. next (words ++ others)));
-      }))
+      (typed_until a b moment (types_blocks moment more)
+      (λ next words. types_last moment (suc more) size (λ others. next (words ++ others))) before after blocks_read
+      result reply was is p)
 
   -- A file that is looked up.
 

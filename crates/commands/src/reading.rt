@@ -53,7 +53,7 @@ fn fill<S: FileService>(alloc: Global, service: &mut S, word: Word) -> Result<()
 }
 
 /// So many words of the block, and zeros behind them.
-pub fn fetch<S: FileService>(alloc: Global, service: &mut S, count: u32) -> Result<Block, Reply>
+fn fetch<S: FileService>(alloc: Global, service: &mut S, count: u32) -> Result<Block, Reply>
     requires { count ≤ 128 }
     ensures { (moment : moments.Moment) (next : List ℕ → Plan) → Led S.machine service.old service.new
         (fetches moment count block_address next) (followed moment result (λ block. next (take count block))) }

@@ -26,7 +26,7 @@ pub const NEW_WORDS: u32 = 0o44;
 /// A command list of two words.
 const LIST_WORDS: u32 = 0o50;
 
-/// The words of a block.
+/// The words of a block, or of several.
 pub const BLOCK_AREA: u32 = 0o200;
 
 /// DSK in SIXBIT.
@@ -105,9 +105,9 @@ pub fn writes(moment: Moment, spec: Spec) -> [Event; 9]
     ]
 }
 
-/// The command word of so many words of the block.
+/// The command word of so many words from the block's first on.
 fn block_command(count: u32) -> Word
-    requires { count ≤ 128 }
+    requires { count ≤ 2048 }
     ensures { result ≡ join ((2 ^ 18 - count) % 2 ^ 18) (block_address - 1) }
 {
     Word::from_halves(
@@ -116,9 +116,9 @@ fn block_command(count: u32) -> Word
     )
 }
 
-/// What makes the command list name so many words of the block.
+/// What makes the command list name so many words from the block's first on.
 pub fn lists(count: u32) -> [Event; 2]
-    requires { count ≤ 128 }
+    requires { count ≤ 2048 }
     ensures { result ≡ plans.lists count }
 {
     [

@@ -1,7 +1,10 @@
-ghost use Rattle.std.specs.Prelude.{◌≡◌, ◌+◌, ◌++◌, ℕ, List, [], Some, OnOk, flat_map};
-ghost use Rattle.words36.specs.Blocks.{word_bytes};
-ghost use Rattle.meaning.specs.Plans.{Plan, each, examines, finds as found, lists as listed, file_words, types_blocks};
-ghost use Rattle.meaning.specs.Plans.{types_last, types_body, blocks_said as said_blocks, until_end, reads_file};
+ghost use Rattle.std.specs.Prelude.{◌≡◌, ◌+◌, ◌≤◌, ◌++◌, ℕ, List, [], Some, OnOk, flat_map};
+ghost use Rattle.words36.specs.Blocks.{word_bytes, block_bytes};
+ghost use Rattle.words36.specs.declared.moment.Moment as moments;
+ghost use Rattle.meaning.specs.Plans as plans;
+ghost use Rattle.meaning.specs.Plans.{Plan, each, examines, fetches, finds as found, lists as listed, file_words};
+ghost use Rattle.meaning.specs.Plans.{block_address, types_last, types_body, blocks_said as said_blocks, until_end};
+ghost use Rattle.meaning.specs.Plans.{reads_file};
 ghost use Rattle.meaning.specs.Texts.{typed};
 ghost use Rattle.meaning.specs.declared.encoding.Encoding.{Encoding as Encodings};
 ghost use Rattle.meaning.specs.declared.command.Command.TheVariants.{TypeOut as TypeLine};
@@ -10,13 +13,19 @@ ghost use Rattle.commands.specs.Sessions.{Spoke};
 
 use crate::answer::{Tally, is_broken, refuse};
 use crate::asking::{ask_all, examine, reset};
-use crate::reading::{blocks_said, fetch, find_end, last_count};
-use crate::requests::{SIZE_WORD, finds, goes_to, lists, takes};
+use crate::reading::{blocks_said, find_end, last_count};
+use crate::requests::{BLOCK_AREA, SIZE_WORD, finds, goes_to, lists, takes};
 use crate::service::FileService;
 use crate::text;
 use meaning::{Encoding, Reply, Spec};
 use std::alloc::{AllocError, Global};
-use words36::{BLOCK_WORDS, Moment, Ppn, Word, block_to_bytes, unpack_ascii};
+use words36::{BLOCK_WORDS, Block, Moment, Ppn, Word, block_to_bytes, unpack_ascii};
+
+/// How many blocks an IN of a file that is read moves, as long as so many whole ones are left.
+const RUN_BLOCKS: u32 = 16;
+
+/// How many words these are.
+const RUN_WORDS: u32 = RUN_BLOCKS * BLOCK_WORDS as u32;
 
 /// What was read so far, as it is printed.
 #[derive(Drop)]
@@ -54,16 +63,23 @@ fn bytes_of(word: Word) -> [u8; 8]
     word.bits().to_be_bytes()
 }
 
-/// Puts the bytes of words behind the others, eight for each.
+/// Puts the bytes of blocks behind the others.
+fn push_blocks(bytes: &mut Vec<u8>, blocks: &[Block]) -> Result<(), AllocError>
+    ensures { OnOk result (bytes.new.items ≡ bytes.old.items ++ flat_map block_bytes blocks.now) }
+{
+    for block in blocks {
+        bytes.extend_from_slice(&block_to_bytes(block))?;
+    }
+    Ok(())
+}
+
+/// Puts the bytes of words behind the others, eight for each: those of whole blocks at once.
 fn push_words(bytes: &mut Vec<u8>, words: &[Word]) -> Result<(), AllocError>
     ensures { OnOk result (bytes.new.items ≡ bytes.old.items ++ flat_map word_bytes words.now) }
 {
-    if words.len() == BLOCK_WORDS {
-        let mut block = [Word::ZERO; BLOCK_WORDS];
-        block.copy_from_slice(words);
-        return bytes.extend_from_slice(&block_to_bytes(&block));
-    }
-    for word in words {
+    let (blocks, others) = words.as_chunks::<BLOCK_WORDS>();
+    push_blocks(bytes, blocks)?;
+    for word in others {
         bytes.extend_from_slice(&bytes_of(*word))?;
     }
     Ok(())
@@ -95,7 +111,49 @@ impl Typed {
     }
 }
 
-/// Reads so many whole blocks, from where the file is.
+/// Puts words that an IN has moved behind those that were read.
+fn type_words<S: FileService>(
+    alloc: Global,
+    service: &mut S,
+    count: u32,
+    typed: &mut Typed,
+) -> Result<(), Reply>
+    requires { count ≤ 2048 }
+    ensures { (moment : moments.Moment) → HasTyped S.machine service.old service.new moment
+        (fetches moment count block_address) result typed.old typed.new }
+{
+    if let Some(words) = service.examine_all(BLOCK_AREA, count as usize) {
+        typed.push(alloc, words);
+        return Ok(());
+    }
+    for place in 0..count {
+        let word = examine(alloc, service, BLOCK_AREA + place)?;
+        typed.push(alloc, &[word]);
+    }
+    Ok(())
+}
+
+/// Reads by so many INs, each of which moves as many words, from where the file is.
+fn type_runs<S: FileService>(
+    alloc: Global,
+    service: &mut S,
+    moment: Moment,
+    runs: u32,
+    count: u32,
+    typed: &mut Typed,
+) -> Result<(), Reply>
+    requires { count ≤ 2048 }
+    ensures { HasTyped S.machine service.old service.new moment (plans.types_runs moment runs count)
+        result typed.old typed.new }
+{
+    for _ in 0..runs {
+        ask_all(alloc, service, &[takes(moment)])?;
+        type_words(alloc, service, count, typed)?;
+    }
+    Ok(())
+}
+
+/// Reads so many whole blocks: by runs, and those that make none one by one.
 fn type_blocks<S: FileService>(
     alloc: Global,
     service: &mut S,
@@ -103,14 +161,20 @@ fn type_blocks<S: FileService>(
     count: u32,
     typed: &mut Typed,
 ) -> Result<(), Reply>
-    ensures { HasTyped S.machine service.old service.new moment (types_blocks moment count) result typed.old typed.new }
+    ensures { HasTyped S.machine service.old service.new moment (plans.types_blocks moment count)
+        result typed.old typed.new }
 {
-    for _ in 0..count {
-        ask_all(alloc, service, &[takes(moment)])?;
-        let block = fetch(alloc, service, BLOCK_WORDS as u32)?;
-        typed.push(alloc, &block);
-    }
-    Ok(())
+    ask_all(alloc, service, &lists(RUN_WORDS))?;
+    type_runs(alloc, service, moment, count / RUN_BLOCKS, RUN_WORDS, typed)?;
+    ask_all(alloc, service, &lists(BLOCK_WORDS as u32))?;
+    type_runs(
+        alloc,
+        service,
+        moment,
+        count % RUN_BLOCKS,
+        BLOCK_WORDS as u32,
+        typed,
+    )
 }
 
 /// Reads the words of the last block, which is block n.
@@ -127,9 +191,7 @@ fn type_last<S: FileService>(
     let count = last_count(alloc, service, moment, n, size)?;
     ask_all(alloc, service, &lists(count))?;
     ask_all(alloc, service, &[goes_to(moment, n), takes(moment)])?;
-    let block = fetch(alloc, service, count)?;
-    typed.push(alloc, &block[..count as usize]);
-    Ok(())
+    type_words(alloc, service, count, typed)
 }
 
 /// Reads all words of a body of this size.

@@ -55,7 +55,7 @@ taken core count ahead = after_writes core (placed block_address (take count ahe
 module _ (pack : Pack) (s : State) (j0 : Job) (there : job_at s 1 ≡ Some j0) (moment : Moment) where
   -- the next words of a version come into the block
   pub takes_done : (me : ℕ) (j : Job) (place : Place) (v : Version) (n count : ℕ) (t : State) → IsJob me j
-      → channel_at j 1 ≡ Some (reading place v n) → 0 < count → count ≤ 128 → Lists count j.core
+      → channel_at j 1 ≡ Some (reading place v n) → 0 < count → count ≤ 2048 → Lists count j.core
       → Steps pack (at s j) (takes moment) Done t
       → t ≡ at s (with_open (with_core j (taken j.core count (words_from v.file.body n))) 1
       (reading place v (n + blocks_of (moved j.core count (words_from v.file.body n)))))
@@ -86,7 +86,7 @@ module _ (pack : Pack) (s : State) (j0 : Job) (there : job_at s 1 ≡ Some j0) (
       let c = writing o in
       let row = row_done pack s j0 there j (out_answer pack (at s j) j c list_words) (out_done j 2 c list_words)
       (stopped_in j 2 c) t (on_open pack s j0 there j 2 c _ t held call.1) in
-      let names = listed j.core count some few is.core lists in
+      let names = listed j.core count some (omega arith) is.core lists in
       let words : joined j.core (part count ∷ []) ≡ window j.core block_address count =
       append-nil _ ∙ range_window j.core block_address count in
       row.1

@@ -43,19 +43,18 @@ kept_lists core count ahead c is = record {
 pub start_is : (k : ℕ) → block_start (k + 1) ≡ k * 128
 start_is k = grind arith
 
-pub one_block : (core : List ℕ) (count : ℕ) (ahead : List ℕ) → 0 < count → count ≤ 128 → count ≤ length ahead
-    → blocks_of (moved core count ahead) ≡ 1
-one_block core count ahead some few there =
+-- an IN leaves the file behind the blocks that it moves
+pub blocks_moved : (core : List ℕ) (count : ℕ) (ahead : List ℕ) → count ≤ length ahead
+    → blocks_of (moved core count ahead) ≡ blocks_of count
+blocks_moved core count ahead there =
     let e : word_count (part count ∷ []) ≡ count = omega arith in
-    let m : min (word_count (part count ∷ [])) (length ahead) ≡ count = ap (λ w. min w (length ahead)) e ∙ least count
-    (length ahead) there in
-    ap blocks_of m ∙ one count some few
+    ap blocks_of (ap (λ w. min w (length ahead)) e ∙ least count (length ahead) there)
   where
     least : (a b : ℕ) → a ≤ b → min a b ≡ a
     least a b le = omega arith
 
-    one : (n : ℕ) → 0 < n → n ≤ 128 → blocks_of n ≡ 1
-    one n some few = grind arith
+pub one_block : (count : ℕ) → 0 < count → count ≤ 128 → blocks_of count ≡ 1
+one_block count some few = grind arith
 
 module _ (pack : Pack) (s : State) (j0 : Job) (there : job_at s 1 ≡ Some j0) (moment : Moment) where
   -- words are taken and put: the file has so many more of the version
@@ -70,18 +69,15 @@ module _ (pack : Pack) (s : State) (j0 : Job) (there : job_at s 1 ≡ Some j0) (
       let ahead = words_from body (k + 1) in
       let begin = start_is k in
       let long : count ≤ length ahead = omega (arith, length-drop (block_start (k + 1)) body) in
-      let next : k + 1 + blocks_of (moved j.core count ahead) ≡ k + 2 = omega (
-        arith,
-        one_block j.core count ahead some
-            few long,
-      ) in
+      let next : k + 1 + blocks_of (moved j.core count ahead) ≡ k + 2 =
+      omega (arith, blocks_moved j.core count ahead long, one_block count some few) in
       let core = taken j.core count ahead in
       let c1 = with_core j core in
       let is1 : IsJob me c1 = job_core me j core is.whole
       (writes_length j.core (placed block_address (take count ahead))) in
       let j1 = with_open c1 1 (reading from v (k + 2)) in
-      let first : u ≡ at s j1 = takes_done pack s j0 there moment me j from v (k + 1) count u is.whole is.first some few
-      lists taking ∙ ap (λ n. at s (with_open c1 1 (reading from v n))) next in
+      let first : u ≡ at s j1 = takes_done pack s j0 there moment me j from v (k + 1) count u is.whole is.first some
+      (omega arith) lists taking ∙ ap (λ n. at s (with_open c1 1 (reading from v n))) next in
       let is2 : IsJob me j1 = job_open me c1 1 (reading from v (k + 2)) is1 in
       let o = side to kind (with_body file (take (k * 128) body)) (k + 1) in
       let out : channel_at j1 2 ≡ Some (writing o) = at_other c1 1 2 (reading from v (k + 2)) (λ e. cc) ∙ is.second in

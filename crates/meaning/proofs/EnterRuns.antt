@@ -180,7 +180,7 @@ list_end core more address e there =
     (lies_outside core (area_of command).first (area_of command).count) rest
     (option_map (λ areas. area_of command ∷ areas) rest) inside (rw e refl)
 
-one_area : (core : List ℕ) (more address count : ℕ) → 0 < count → count ≤ 128 → length core ≡ 4096
+one_area : (core : List ℕ) (more address count : ℕ) → 0 < count → count ≤ 2048 → length core ≡ 4096
     → slice_index core address ≡ join ((2 ^ 18 - count) % 2 ^ 18) (block_address - 1)
     → slice_index core (address + 1) ≡ 0 → address + 1 < 4096
     → areas_from core (suc (suc more)) address ≡ Some (part count ∷ [])
@@ -219,7 +219,7 @@ one_area core more address count some few l e f there =
     areas h l count e f small = let g : 2 ^ 18 - h ≡ count = omega arith in rw (f, g) refl
 
 -- the list names the words of the block
-pub listed : (core : List ℕ) (count : ℕ) → 0 < count → count ≤ 128 → length core ≡ 4096 → Lists count core
+pub listed : (core : List ℕ) (count : ℕ) → 0 < count → count ≤ 2048 → length core ≡ 4096 → Lists count core
     → dump_list core list_words ≡ Some (part count ∷ [])
 unfolding dump_list
 listed core count some few l is =

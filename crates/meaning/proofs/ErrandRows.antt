@@ -7,7 +7,7 @@ use Rattle.meaning.specs.CommandLists.{dump_list, areas_from}
 use Rattle.meaning.specs.Rings.{setup, out_ready, out_writes, last_words}
 use Rattle.meaning.specs.Jobs.{State}
 use Rattle.meaning.specs.Texts.{Spoken, prints, line, printed, typed}
-use Rattle.meaning.specs.Plans.{each, fetches, types_blocks}
+use Rattle.meaning.specs.Plans.{each, fetches, types_runs}
 use Rattle.meaning.specs.Errands.{keeps, gets, fills_parts}
 use Rattle.meaning.specs.declared.encoding.Encoding.{Encoding}
 use Rattle.meaning.specs.declared.encoding.Encoding.TheVariants.{Characters, Words}
@@ -27,12 +27,12 @@ back s encoding words =
 -- A text, in the place of a file that is there, and one of no characters.
 text_back : back (foo_of 0o057 300) Characters (packed (codes "HELLO" ++ 13 ∷ 10 ∷ []))
     ≡ (prints (line (codes "OK")), prints (codes "HELLO" ++ 13 ∷ 10 ∷ []))
-unfolding empty insert get remove entries size dump_list areas_from each fetches types_blocks fills_parts setup
+unfolding empty insert get remove entries size dump_list areas_from each fetches types_runs fills_parts setup
     out_ready out_writes last_words conduct
 text_back = refl
 
 nothing_back : back fresh Characters [] ≡ (prints (line (codes "OK")), prints [])
-unfolding empty insert get remove entries size dump_list areas_from each fetches types_blocks fills_parts setup
+unfolding empty insert get remove entries size dump_list areas_from each fetches types_runs fills_parts setup
     out_ready out_writes last_words conduct
 nothing_back = refl
 
@@ -40,12 +40,12 @@ nothing_back = refl
 words_back :
     (back fresh Words (replicate 300 7) ≡ (prints (line (codes "OK")), prints (printed Words (replicate 300 7))))
     × (back fresh Words (replicate 256 7) ≡ (prints (line (codes "OK")), prints (printed Words (replicate 256 7))))
-unfolding empty insert get remove entries size dump_list areas_from each fetches types_blocks fills_parts conduct
+unfolding empty insert get remove entries size dump_list areas_from each fetches types_runs fills_parts conduct
 words_back = (refl, refl)
 
 -- Characters of as many words.
 text_of_blocks : back fresh Characters (replicate 300 0o406050301402)
     ≡ (prints (line (codes "OK")), prints (typed (replicate 300 0o406050301402)))
-unfolding empty insert get remove entries size dump_list areas_from each fetches types_blocks fills_parts setup
+unfolding empty insert get remove entries size dump_list areas_from each fetches types_runs fills_parts setup
     out_ready out_writes last_words conduct
 text_of_blocks = refl

@@ -1,5 +1,5 @@
 -- A file that is read whole: the words that are fetched are those of the version that was found.
-use Rattle.std.proofs.Common.{◌≡◌, ◌⊎◌, inl, inr, ⊎_elim, ℕ, zero, suc, ◌+◌, ◌-◌, ◌*◌, ◌<◌, ◌≤◌, List, []}
+use Rattle.std.proofs.Common.{◌≡◌, ◌⊎◌, inl, inr, ⊎_elim, ℕ, zero, suc, ◌+◌, ◌-◌, ◌*◌, ◌/◌, ◌%◌, ◌<◌, ◌≤◌, List, []}
 use Rattle.std.proofs.Common.{◌∷◌, ◌++◌, length, take, drop, Some, refl, sym, ap, subst, ◌∙◌, arith}
 use Rattle.std.specs.Prelude.{slice_index}
 use Rattle.std.proofs.lemmas.List.{length-take, length-drop, take_all, take-append-drop, drop-drop}
@@ -17,7 +17,7 @@ use Rattle.meaning.specs.Runs.{Service, Serving, Steps}
 use Rattle.meaning.specs.Texts.{Spoken, prints, printed}
 use Rattle.meaning.specs.Plans.{Plan, each, finds, lists, takes, goes_to, fetches, list_words, block_address}
 use Rattle.meaning.specs.Plans.{file_words}
-use Rattle.meaning.specs.Plans.{types_blocks, types_last, types_body, reads_file}
+use Rattle.meaning.specs.Plans.{run_blocks, types_runs, types_blocks, types_last, types_body, reads_file}
 use Rattle.meaning.specs.Plans.{examines, blocks_said, until_end, ends}
 use Rattle.meaning.specs.Copies.{Comes, IsJobReady, HasHalfwordExtension, AreShort}
 use Rattle.meaning.specs.Copies.{HasFiles, IsLineRefused, IsPrinted, place_of}
@@ -32,7 +32,7 @@ use Rattle.meaning.proofs.CallRuns.{at, IsJob, with_core, deposits_done}
 use Rattle.meaning.proofs.OpenRuns.{reading, with_open, at_own, job_core, job_open, Found, finds_done}
 use Rattle.meaning.proofs.EnterRuns.{Lists, list_pair, listing}
 use Rattle.meaning.proofs.BlockRuns.{take_more, taken, moved, takes_done, goes_done}
-use Rattle.meaning.proofs.CopyRuns.{kept_lists, start_is, one_block}
+use Rattle.meaning.proofs.CopyRuns.{kept_lists, start_is, blocks_moved, one_block}
 use Rattle.meaning.proofs.SizeRuns.{said_blocks, sizes_done, fetched, told, quiet_deposits}
 use Rattle.meaning.proofs.CopyLaws.{until_done, quiet_finds, at_home}
 
@@ -45,80 +45,173 @@ pub record Reads (me : ℕ) (place : Place) (v : Version) (n count : ℕ) (j : J
 abbrev last_taken : Moment → ℕ → ℕ → List Event
 last_taken moment count n = lists count ++ goes_to moment n ∷ takes moment ∷ []
 
+-- Words of a body that follow one another, by parts as long as each other.
+
+no_parts : (count : ℕ) → 0 ≡ zero * count
+no_parts count = omega arith
+
+next_part : (count more : ℕ) → count + more * count ≡ suc more * count
+next_part count more = grind arith
+
+next_blocks : (b more k : ℕ) → k + b + more * b ≡ k + suc more * b
+next_blocks b more k = grind arith
+
+parts_joined : (body : List ℕ) (from first others to sum : ℕ) → from + first ≡ to → first + others ≡ sum
+    → take first (drop from body) ++ take others (drop to body) ≡ take sum (drop from body)
+parts_joined body from first others to sum place all =
+    ap (λ xs. take first (drop from body) ++ take others xs) (ap (λ n. drop n body) (sym place)
+    ∙ sym (drop-drop first from body))
+    ∙ sym (take_more first others (drop from body))
+    ∙ ap (λ n. take n (drop from body)) all
+
+-- the blocks that are read by runs, and those that are read one by one
+by_runs : (blocks : ℕ) → 0 + blocks / run_blocks * run_blocks + blocks % run_blocks * 1 ≡ blocks
+by_runs blocks = grind arith
+
+runs_of : (blocks : ℕ) → blocks / run_blocks * run_blocks ≤ blocks
+runs_of blocks = grind arith
+
+words_by_runs : (blocks : ℕ)
+    → blocks / run_blocks * (run_blocks * 128) + blocks % run_blocks * 128 ≡ blocks * 128
+words_by_runs blocks = grind arith
+
 module _ (pack : Pack) (s : State) (j0 : Job) (there : job_at s 1 ≡ Some j0) (moment : Moment) where
-  -- the words of a block come into core
-  block_taken : (me : ℕ) (place : Place) (v : Version) (k count : ℕ) (j : Job) (t : State)
-      → Reads me place v (k + 1) count j → 0 < count → count ≤ 128 → k * 128 + count ≤ length v.file.body
-      → Steps pack (at s j) (takes moment) Done t
-      → (j' : Job) × (t ≡ at s j') × Reads me place v (k + 2) count j'
+  -- the words of some blocks come into core
+  blocks_taken : (me : ℕ) (place : Place) (v : Version) (k b count : ℕ) (j : Job) (t : State)
+      → Reads me place v (k + 1) count j → 0 < count → count ≤ 2048 → blocks_of count ≡ b
+      → k * 128 + count ≤ length v.file.body → Steps pack (at s j) (takes moment) Done t
+      → (j' : Job) × (t ≡ at s j') × Reads me place v (k + b + 1) count j'
       × (window j'.core block_address count ≡ take count (drop (k * 128) v.file.body))
-  block_taken me place v k count j t is some few fits steps =
+  blocks_taken me place v k b count j t is some few blocks fits steps =
       let body = v.file.body in
       let ahead = words_from body (k + 1) in
       let begin = start_is k in
       let long : count ≤ length ahead = omega (arith, length-drop (block_start (k + 1)) body) in
-      let next : k + 1 + blocks_of (moved j.core count ahead) ≡ k + 2 = omega (
-        arith,
-        one_block j.core count ahead some
-            few long,
-      ) in
+      let next : k + 1 + blocks_of (moved j.core count ahead) ≡ k + b + 1 =
+      omega (arith, blocks_moved j.core count ahead long, blocks) in
       let core = taken j.core count ahead in
       let c1 = with_core j core in
       let is1 : IsJob me c1 = job_core me j core is.whole
       (writes_length j.core (placed block_address (take count ahead))) in
-      let to : t ≡ at s (with_open c1 1 (reading place v (k + 2))) =
+      let to : t ≡ at s (with_open c1 1 (reading place v (k + b + 1))) =
       takes_done pack s j0 there moment me j place v (k + 1) count t is.whole is.first some few is.named steps
       ∙ ap (λ n. at s (with_open c1 1 (reading place v n))) next in
       let words : window core block_address count ≡ take count ahead = written j.core block_address count
       (take count ahead) (omega (arith, length-take count ahead)) (let l = is.whole.core in omega arith) in (
-        with_open c1 1 (reading place v (k + 2)),
+        with_open c1 1 (reading place v (k + b + 1)),
         to,
         record {
-          whole = job_open me c1 1 (reading place v (k + 2)) is1;
-          first = at_own c1 me 1 (reading place v (k + 2)) is1 (omega arith);
+          whole = job_open me c1 1 (reading place v (k + b + 1)) is1;
+          first = at_own c1 me 1 (reading place v (k + b + 1)) is1 (omega arith);
           named = kept_lists j.core count ahead count is.named;
         },
         words ∙ ap (λ n. take count (drop n body)) begin,
       )
 
-  blocks_read : (me : ℕ) (place : Place) (v : Version) (said : Spoken) (new : Service) (more k : ℕ)
-      (next : List ℕ → Plan) (j : Job) → Reads me place v (k + 1) 128 j → (k + more) * 128 ≤ length v.file.body
-      → Comes pack (Serving (at s j)) (types_blocks moment more next) said new
+  -- INs one after the other, each of so many blocks
+  runs_read : (me : ℕ) (place : Place) (v : Version) (said : Spoken) (new : Service) (b count : ℕ) → 0 < b → b ≤ 16
+      → count ≡ b * 128 → (more k : ℕ) (next : List ℕ → Plan) (j : Job) → Reads me place v (k + 1) count j
+      → (k + more * b) * 128 ≤ length v.file.body
+      → Comes pack (Serving (at s j)) (types_runs moment more count next) said new
       → IsLineRefused s.files said new
-      ⊎ ((j' : Job) × Reads me place v (k + more + 1) 128 j'
-      × Comes pack (Serving (at s j')) (next (take (more * 128) (drop (k * 128) v.file.body))) said new)
-  unfolding types_blocks
-  blocks_read me place v said new zero k next j is fits come =
-      let e : k + 1 ≡ k + 0 + 1 = omega arith in
-      inr (j, subst (λ n. Reads me place v n 128 j) e is, come)
-  blocks_read me place v said new (suc more) k next j is fits come = ⊎_elim inl
+      ⊎ ((j' : Job) × Reads me place v (k + more * b + 1) count j'
+      × Comes pack (Serving (at s j')) (next (take (more * count) (drop (k * 128) v.file.body))) said new)
+  unfolding types_runs
+  runs_read me place v said new b count some few size zero k next j is fits come =
+      let e : k + 1 ≡ k + zero * b + 1 = omega arith in
+      inr (
+        j,
+        subst (λ n. Reads me place v n count j) e is,
+        subst (λ n. Comes pack (Serving (at s j)) (next (take n (drop (k * 128) v.file.body))) said new)
+            (no_parts count) come,
+      )
+  runs_read me place v said new b count some few size (suc more) k next j is fits come = ⊎_elim inl
       (λ (t, (u, steps, same), files, rest).
-      let d = block_taken me place v k 128 j u is (omega arith) (omega arith) (omega arith) steps in
-      let words = take 128 (drop (k * 128) v.file.body) in
-      let two : k + 2 ≡ k + 1 + 1 = omega arith in
-      let is1 : Reads me place v (k + 1 + 1) 128 d.0 = subst (λ n. Reads me place v n 128 d.0) two d.2 in
-      let behind : List ℕ → Plan = λ words. types_blocks moment more (λ others. next (words ++ others)) in
+      let left : (k + b + more * b) * 128 ≤ length v.file.body = omega (arith, next_blocks b more k) in
+      let d = blocks_taken me place v k b count j u is (omega arith) (omega arith) (whole b count size) (omega arith)
+      steps in
+      let words = take count (drop (k * 128) v.file.body) in
+      let behind : List ℕ → Plan = λ words. types_runs moment more count (λ others. next (words ++ others)) in
       let got =
-      fetched pack s j0 there moment 128 d.0 block_address behind said new (let l = d.2.whole.core in omega arith)
-      (subst (λ x. Comes pack (Serving x) (fetches moment 128 block_address behind) said new) (same ∙ d.1) rest) in
-      let one : k + 1 + more + 1 ≡ k + suc more + 1 = omega arith in
-      let all_words : words ++ take (more * 128) (drop ((k + 1) * 128) v.file.body)
-      ≡ take (suc more * 128) (drop (k * 128) v.file.body) =
-      let shift : k * 128 + 128 ≡ (k + 1) * 128 = omega arith in
-      let sum : 128 + more * 128 ≡ suc more * 128 = omega arith in
-      ap (λ xs. words ++ take (more * 128) xs) (ap (λ n. drop n v.file.body) (sym shift)
-      ∙ sym (drop-drop 128 (k * 128) v.file.body))
-      ∙ sym (take_more 128 (more * 128) (drop (k * 128) v.file.body))
-      ∙ ap (λ n. take n (drop (k * 128) v.file.body)) sum in
+      fetched pack s j0 there moment count d.0 block_address behind said new
+      (let l = d.2.whole.core in omega arith)
+      (subst (λ x. Comes pack (Serving x) (fetches moment count block_address behind) said new) (same ∙ d.1) rest) in
+      let one : k + b + more * b + 1 ≡ k + suc more * b + 1 = omega (arith, next_blocks b more k) in
+      let all_words : words ++ take (more * count) (drop ((k + b) * 128) v.file.body)
+      ≡ take (suc more * count) (drop (k * 128) v.file.body) =
+      parts_joined v.file.body (k * 128) count (more * count) ((k + b) * 128) (suc more * count) (omega arith)
+      (next_part count more) in
       ⊎_elim inl (λ (j', is', more'). inr (
         j',
-        subst (λ n. Reads me place v n 128 j') one is',
+        subst (λ n. Reads me place v n count j') one is',
         subst (λ ws. Comes pack (Serving (at s j')) (next ws) said new) all_words more',
       ))
-      (blocks_read me place v said new more (k + 1) (λ others. next (words ++ others)) d.0 is1 (omega arith)
+      (runs_read me place v said new b count some few size more (k + b) (λ others. next (words ++ others)) d.0 d.2 left
       (subst (λ ws. Comes pack (Serving (at s d.0)) (behind ws) said new) d.3 got)))
-      (each_done pack (at s j) moment (takes moment ∷ []) (fetches moment 128 block_address
-      (λ words. types_blocks moment more (λ others. next (words ++ others)))) said new (tt, tt) come)
+      (each_done pack (at s j) moment (takes moment ∷ []) (fetches moment count block_address
+      (λ words. types_runs moment more count (λ others. next (words ++ others)))) said new (tt, tt) come)
+    where
+      whole : (b count : ℕ) → count ≡ b * 128 → blocks_of count ≡ b
+      whole b count size = grind arith
+
+  -- the command list names another number of words
+  listed_anew : (me : ℕ) (place : Place) (v : Version) (said : Spoken) (new : Service) (n was count : ℕ) (next : Plan)
+      (j : Job) → Reads me place v n was j → Comes pack (Serving (at s j)) (each moment (lists count) next) said new
+      → IsLineRefused s.files said new
+      ⊎ ((j' : Job) × Reads me place v n count j' × Comes pack (Serving (at s j')) next said new)
+  listed_anew me place v said new n was count next j is come = ⊎_elim inl
+      (λ (t, all, same, rest).
+      let core = after_writes j.core (placed list_words (list_pair count)) in
+      inr (
+        with_core j core,
+        record {
+          whole = job_core me j core is.whole (writes_length j.core (placed list_words (list_pair count)));
+          first = is.first;
+          named = listing j.core count is.whole.core;
+        },
+        subst (λ u. Comes pack (Serving u) next said new)
+            (deposits_done pack s j0 there (list_pair count) j list_words t all) rest,
+      ))
+      (each_done pack (at s j) moment (lists count) next said new (quiet_deposits (list_pair count) list_words) come)
+
+  blocks_read : (me : ℕ) (place : Place) (v : Version) (said : Spoken) (new : Service) (blocks : ℕ)
+      (next : List ℕ → Plan) (j : Job) → Reads me place v 1 128 j → blocks * 128 ≤ length v.file.body
+      → Comes pack (Serving (at s j)) (types_blocks moment blocks next) said new
+      → IsLineRefused s.files said new
+      ⊎ ((j' : Job) × Reads me place v (blocks + 1) 128 j'
+      × Comes pack (Serving (at s j')) (next (take (blocks * 128) v.file.body)) said new)
+  blocks_read me place v said new blocks next j is fits come = ⊎_elim inl
+      (λ (j1, is1, come1). ⊎_elim inl
+      (λ (j2, is2, come2). ⊎_elim inl
+      (λ (j3, is3, come3). ⊎_elim inl
+      (λ (j4, is4, come4). inr (
+        j4,
+        subst (λ n. Reads me place v (n + 1) 128 j4) (by_runs blocks) is4,
+        subst (λ ws. Comes pack (Serving (at s j4)) (next ws) said new) all_words come4,
+      ))
+      (runs_read me place v said new 1 128 (omega arith) (omega arith) (omega arith) (blocks % run_blocks) runs
+      (λ others. next (words ++ others)) j3 is3 (omega (arith, by_runs blocks)) come3))
+      (listed_anew me place v said new (runs + 1) (run_blocks * 128) 128
+      (types_runs moment (blocks % run_blocks) 128 (λ others. next (words ++ others))) j2 is2 come2))
+      (runs_read me place v said new run_blocks (run_blocks * 128) (omega arith) (omega arith) (omega arith)
+      (blocks / run_blocks) 0 behind j1 is1 (omega (arith, runs_of blocks)) come1))
+      (listed_anew me place v said new 1 128 (run_blocks * 128)
+      (types_runs moment (blocks / run_blocks) (run_blocks * 128) behind) j is come)
+    where
+      runs : ℕ
+      runs = 0 + blocks / run_blocks * run_blocks
+
+      words : List ℕ
+      words = take (blocks / run_blocks * (run_blocks * 128)) (drop (0 * 128) v.file.body)
+
+      behind : List ℕ → Plan
+      behind words = each moment (lists 128)
+          (types_runs moment (blocks % run_blocks) 128 (λ others. next (words ++ others)))
+
+      all_words : words ++ take (blocks % run_blocks * 128) (drop (runs * 128) v.file.body)
+          ≡ take (blocks * 128) v.file.body
+      all_words = parts_joined v.file.body 0 (blocks / run_blocks * (run_blocks * 128)) (blocks % run_blocks * 128)
+          (runs * 128) (blocks * 128) (omega arith) (words_by_runs blocks)
 
   last_read : (me : ℕ) (place : Place) (v : Version) (said : Spoken) (new : Service) (more : ℕ) (next : List ℕ → Plan)
       (j : Job) → Reads me place v (more + 1) 128 j → length v.file.body ≤ longest → more * 128 < length v.file.body
@@ -161,7 +254,8 @@ module _ (pack : Pack) (s : State) (j0 : Job) (there : job_at s 1 ≡ Some j0) (
             named = listing j1.core count is1.core;
           } in
           let taking = parts.2.2 in
-          let d = block_taken me place v more count j3 taking.0 is3 (omega arith) (omega arith) (omega arith)
+          let d = blocks_taken me place v more 1 count j3 taking.0 is3 (omega arith) (omega arith)
+          (one_block count (omega arith) (omega arith)) (omega arith)
           (subst (λ u. Steps pack u (takes moment) Done taking.0) to3 taking.1) in
           let all_words : take count (drop (more * 128) v.file.body) ≡ drop (more * 128) v.file.body =
           take_all count (drop (more * 128) v.file.body) (omega (arith, length-drop (more * 128) v.file.body)) in
@@ -171,7 +265,7 @@ module _ (pack : Pack) (s : State) (j0 : Job) (there : job_at s 1 ≡ Some j0) (
           rest) in (
             d.0,
             d.2.whole,
-            (more + 2, d.2.first),
+            (more + 1 + 1, d.2.first),
             subst (λ ws. Comes pack (Serving (at s d.0)) (next ws) said new) (d.3 ∙ all_words) got,
           )
 
@@ -206,18 +300,15 @@ module _ (pack : Pack) (s : State) (j0 : Job) (there : job_at s 1 ≡ Some j0) (
         subst (λ ws. Comes pack (Serving (at s j2)) (next ws) said new)
             (take-append-drop (more * 128) v.file.body) last,
       ))
-      (last_read me place v said new more (λ others. next (take (more * 128) v.file.body ++ others)) j1
-      (subst (λ n. Reads me place v n 128 j1) start is1) fits (omega (arith, bounds)) (omega (arith, bounds))
+      (last_read me place v said new more (λ others. next (take (more * 128) v.file.body ++ others)) j1 is1 fits
+      (omega (arith, bounds)) (omega (arith, bounds))
       (subst (λ n. Comes pack (Serving (at s j1)) (types_last moment n (size_word (length v.file.body))
       (λ others. next (take (more * 128) v.file.body ++ others))) said new) one_more rest)))
-      (blocks_read me place v said new more 0 (λ words. types_last moment (suc more) (size_word (length v.file.body))
+      (blocks_read me place v said new more (λ words. types_last moment (suc more) (size_word (length v.file.body))
       (λ others. next (words ++ others))) j is (omega (arith, bounds)) come)
     where
       one_more : suc more ≡ more + 1
       one_more = omega arith
-
-      start : 0 + more + 1 ≡ more + 1
-      start = omega arith
 
       bounds : (more * 128 < length v.file.body) × (length v.file.body ≤ (more + 1) * 128)
       bounds = bound more (length v.file.body) count

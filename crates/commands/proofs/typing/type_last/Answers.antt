@@ -1,7 +1,6 @@
-use Rattle.std.proofs.Common.{take}
 use Rattle.std.proofs.lemmas.Result.{err_from_is_err_and}
 use Rattle.commands.proofs.TypingLaws.{handed_on, two_made, asked_done, asked_failed, not_counted, no_list, no_last}
-use Rattle.commands.proofs.TypingLaws.{no_last_words, read_last}
+use Rattle.commands.proofs.TypingLaws.{read_last}
 use Rattle.commands.proofs.typing.type_last.Goals as goal
 
 pub returns-in_err-count : goal.returns-in_err-count
@@ -28,20 +27,10 @@ returns-in_err-ask_all-2 g c =
     (asked_failed g.S.FileService.machine c.args.moment c.in_err-ask_all-2.field-0.0
     (two_made c.goes_to.ensures c.takes.ensures) c.in_err-ask_all-2.ensures)
 
-pub returns-in_err-block : goal.returns-in_err-block
-returns-in_err-block g c =
-    let p = err_from_is_err_and c.from_residual-in_err-block.result c.from_residual-in_err-block.ensures.1 in
-    no_last_words g.S.FileService.machine _ _ c.args.moment c.args.n c.args.size c.in_ok-count.count
-    c.in_ok-count.ensures.led _ _
-    (asked_done g.S.FileService.machine c.args.moment c.lists.ensures c.in_ok-ask_all.ensures) _
-    (asked_done g.S.FileService.machine c.args.moment (two_made c.goes_to.ensures c.takes.ensures)
-    c.in_ok-ask_all-2.ensures) _ _ _ (handed_on p.1 p.2) (λ next. c.in_err-block.ensures c.args.moment next)
-
 pub returns : goal.returns
 returns g c =
     read_last g.S.FileService.machine _ _ c.args.moment c.args.n c.args.size c.in_ok-count.count
     c.in_ok-count.ensures.led _ _
     (asked_done g.S.FileService.machine c.args.moment c.lists.ensures c.in_ok-ask_all.ensures) _
     (asked_done g.S.FileService.machine c.args.moment (two_made c.goes_to.ensures c.takes.ensures)
-    c.in_ok-ask_all-2.ensures) _ tt (take c.in_ok-count.count c.in_ok-block.block) _
-    (λ next. c.in_ok-block.ensures c.args.moment next) c.push.ensures
+    c.in_ok-ask_all-2.ensures) _ _ _ (c.type_words.ensures c.args.moment)
