@@ -3,7 +3,7 @@ use Rattle.std.specs.Prelude.{◌≡◌, ◌+◌, ◌-◌, ◌<◌, ◌≤◌, �
 use Rattle.std.specs.Prelude.{length, get_or}
 use Rattle.std.proofs.Common.{⊎_elim, refl, ap, ◌∙◌, sym, arith, subst}
 use Rattle.std.proofs.lemmas.Bool.{cases_lt}
-use Rattle.blockdisk.specs.Calls.{IsRead, IsRunRead}
+use Rattle.blockdisk.specs.Calls.{IsRunRead}
 use Rattle.blockdisk.specs.Disk.{Contents, DiskState, MayLeave, Keeps, SameDisk, AreRead, one_more}
 use Rattle.blockdisk.specs.Laws.{same_contents, keeps_on, passes_start, same_disk_start, same_disk_on}
 use Rattle.blockdisk.specs.declared.fault.Fault.{Fault}
@@ -21,38 +21,6 @@ pub record IsPartRead (first count : ℕ) (s s' : DiskState) (blocks : List (Lis
   pub keeps : s'.honest → Keeps s s'
   pub same : SameDisk s s'
   pub served : s'.failures ≡ s.failures
-
--- none yet
-pub part_start : (first : ℕ) (s : DiskState) (blocks : List (List ℕ)) → IsPartRead first 0 s s blocks
-part_start first s blocks = record {
-  words = λ h i less. absurd (none i less);
-  keeps = λ h. record { contents = λ m. refl; is_open = λ m. refl; time = passes_start s (MayLeave s) };
-  same = same_disk_start s;
-  served = refl;
-}
-  where
-    none : (i : ℕ) → i < 0 → ⊥
-    none i less = omega (arith, less)
-
--- one block, by a read
-pub part_read : (n : ℕ) (s s' : DiskState) (words : List ℕ) → IsRead n s s' (Ok words)
-    → IsPartRead n 1 s s' (words ∷ [])
-part_read n s s' words read = record {
-  words = λ h i less. only h i less (first_place i less);
-  keeps = read.keeps;
-  same = read.same;
-  served = read.served (no_fault words Device);
-}
-  where
-    first_place : (i : ℕ) → i < 1 → i ≡ 0
-    first_place i less = omega (arith, less)
-
-    at_first : n + 0 ≡ n
-    at_first = omega arith
-
-    only : s'.honest → (i : ℕ) → i < 1 → i ≡ 0 → s.contents (n + i) ≡ Some (get_or (words ∷ []) i [])
-    only h i less is = subst (λ k. s.contents (n + k) ≡ Some (get_or (words ∷ []) k [])) (sym is)
-        (ap s.contents at_first ∙ read.words h)
 
 -- all of a run
 pub part_run : (first : ℕ) (s s' : DiskState) (blocks : List (List ℕ)) → IsRunRead first s s' blocks (Ok None)
@@ -149,22 +117,3 @@ module _ (first count : ℕ) (s s' : DiskState) (blocks : List (List ℕ)) (befo
       failed = λ is. behind.failed is ∙ ap one_more before.served;
       served = λ ok. absurd (not_ok fault ok);
     }
-
--- A read that fails, as a run of one block.
-pub read_damaged : (n : ℕ) (s s' : DiskState) (block : List ℕ) → IsRead n s s' (Err Damaged)
-    → IsRunRead n s s' (block ∷ []) (Ok (Some n))
-read_damaged n s s' block read = record {
-  within = (omega arith, omega arith);
-  words = λ h. (read.damaged h refl, λ i low. absurd (none i low));
-  keeps = read.keeps;
-  same = read.same;
-  device = no_fault (Some n) Damaged;
-  failed = λ is. absurd (no_fault (Some n) Device is);
-  served = λ ok. read.served not_device;
-}
-  where
-    none : (i : ℕ) → n + i < n → ⊥
-    none i low = omega (arith, low)
-
-    not_device : IsErrOf {T = List ℕ} (Err Damaged) Device → ⊥
-    not_device is = cc

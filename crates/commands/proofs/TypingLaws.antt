@@ -11,7 +11,7 @@ use Rattle.words36.specs.Ascii.{unpacked, five_characters}
 use Rattle.words36.specs.declared.moment.Moment.{Moment}
 use Rattle.meaning.specs.Plans.{Plan, Say, each, examines, fetches, sizes, finds, lists, takes, goes_to, ends, fails}
 use Rattle.meaning.specs.Plans.{file_words, block_address, blocks_said, types_blocks, types_last, types_body, until_end}
-use Rattle.meaning.specs.Plans.{reads_file, run_blocks, types_runs}
+use Rattle.meaning.specs.Plans.{reads_file, blocks_at_once, types_runs}
 use Rattle.words36.specs.Blocks.{word_bytes, block_bytes}
 use Rattle.meaning.specs.Texts.{Spoken, typed, printed, not_null, prints, refuses, refusal, is_broken, line}
 use Rattle.meaning.specs.declared.encoding.Encoding.{Encoding}
@@ -355,10 +355,10 @@ module _ {S : Type 0} (machine : S → Machine) where
 
   module _ (moment : Moment) (blocks : ℕ) where
     abbrev by_runs : (List ℕ → Plan) → Plan
-    by_runs = types_listed moment (blocks / run_blocks) (run_blocks * 128)
+    by_runs = types_listed moment (blocks / blocks_at_once) (blocks_at_once * 128)
 
     abbrev one_by_one : (List ℕ → Plan) → Plan
-    one_by_one = types_listed moment (blocks % run_blocks) 128
+    one_by_one = types_listed moment (blocks % blocks_at_once) 128
 
     abbrev behind_runs : (List ℕ → Plan) → List ℕ → Plan
     behind_runs next words = one_by_one (λ others. next (words ++ others))

@@ -17,7 +17,7 @@ use Rattle.meaning.specs.Runs.{Service, Serving, Steps}
 use Rattle.meaning.specs.Texts.{Spoken, prints, printed}
 use Rattle.meaning.specs.Plans.{Plan, each, finds, lists, takes, goes_to, fetches, list_words, block_address}
 use Rattle.meaning.specs.Plans.{file_words}
-use Rattle.meaning.specs.Plans.{run_blocks, types_runs, types_blocks, types_last, types_body, reads_file}
+use Rattle.meaning.specs.Plans.{blocks_at_once, types_runs, types_blocks, types_last, types_body, reads_file}
 use Rattle.meaning.specs.Plans.{examines, blocks_said, until_end, ends}
 use Rattle.meaning.specs.Copies.{Comes, IsJobReady, HasHalfwordExtension, AreShort}
 use Rattle.meaning.specs.Copies.{HasFiles, IsLineRefused, IsPrinted, place_of}
@@ -65,14 +65,14 @@ parts_joined body from first others to sum place all =
     ∙ ap (λ n. take n (drop from body)) all
 
 -- the blocks that are read by runs, and those that are read one by one
-by_runs : (blocks : ℕ) → 0 + blocks / run_blocks * run_blocks + blocks % run_blocks * 1 ≡ blocks
+by_runs : (blocks : ℕ) → 0 + blocks / blocks_at_once * blocks_at_once + blocks % blocks_at_once * 1 ≡ blocks
 by_runs blocks = grind arith
 
-runs_of : (blocks : ℕ) → blocks / run_blocks * run_blocks ≤ blocks
+runs_of : (blocks : ℕ) → blocks / blocks_at_once * blocks_at_once ≤ blocks
 runs_of blocks = grind arith
 
 words_by_runs : (blocks : ℕ)
-    → blocks / run_blocks * (run_blocks * 128) + blocks % run_blocks * 128 ≡ blocks * 128
+    → blocks / blocks_at_once * (blocks_at_once * 128) + blocks % blocks_at_once * 128 ≡ blocks * 128
 words_by_runs blocks = grind arith
 
 module _ (pack : Pack) (s : State) (j0 : Job) (there : job_at s 1 ≡ Some j0) (moment : Moment) where
@@ -189,28 +189,28 @@ module _ (pack : Pack) (s : State) (j0 : Job) (there : job_at s 1 ≡ Some j0) (
         subst (λ n. Reads me place v (n + 1) 128 j4) (by_runs blocks) is4,
         subst (λ ws. Comes pack (Serving (at s j4)) (next ws) said new) all_words come4,
       ))
-      (runs_read me place v said new 1 128 (omega arith) (omega arith) (omega arith) (blocks % run_blocks) runs
+      (runs_read me place v said new 1 128 (omega arith) (omega arith) (omega arith) (blocks % blocks_at_once) runs
       (λ others. next (words ++ others)) j3 is3 (omega (arith, by_runs blocks)) come3))
-      (listed_anew me place v said new (runs + 1) (run_blocks * 128) 128
-      (types_runs moment (blocks % run_blocks) 128 (λ others. next (words ++ others))) j2 is2 come2))
-      (runs_read me place v said new run_blocks (run_blocks * 128) (omega arith) (omega arith) (omega arith)
-      (blocks / run_blocks) 0 behind j1 is1 (omega (arith, runs_of blocks)) come1))
-      (listed_anew me place v said new 1 128 (run_blocks * 128)
-      (types_runs moment (blocks / run_blocks) (run_blocks * 128) behind) j is come)
+      (listed_anew me place v said new (runs + 1) (blocks_at_once * 128) 128
+      (types_runs moment (blocks % blocks_at_once) 128 (λ others. next (words ++ others))) j2 is2 come2))
+      (runs_read me place v said new blocks_at_once (blocks_at_once * 128) (omega arith) (omega arith) (omega arith)
+      (blocks / blocks_at_once) 0 behind j1 is1 (omega (arith, runs_of blocks)) come1))
+      (listed_anew me place v said new 1 128 (blocks_at_once * 128)
+      (types_runs moment (blocks / blocks_at_once) (blocks_at_once * 128) behind) j is come)
     where
       runs : ℕ
-      runs = 0 + blocks / run_blocks * run_blocks
+      runs = 0 + blocks / blocks_at_once * blocks_at_once
 
       words : List ℕ
-      words = take (blocks / run_blocks * (run_blocks * 128)) (drop (0 * 128) v.file.body)
+      words = take (blocks / blocks_at_once * (blocks_at_once * 128)) (drop (0 * 128) v.file.body)
 
       behind : List ℕ → Plan
       behind words = each moment (lists 128)
-          (types_runs moment (blocks % run_blocks) 128 (λ others. next (words ++ others)))
+          (types_runs moment (blocks % blocks_at_once) 128 (λ others. next (words ++ others)))
 
-      all_words : words ++ take (blocks % run_blocks * 128) (drop (runs * 128) v.file.body)
+      all_words : words ++ take (blocks % blocks_at_once * 128) (drop (runs * 128) v.file.body)
           ≡ take (blocks * 128) v.file.body
-      all_words = parts_joined v.file.body 0 (blocks / run_blocks * (run_blocks * 128)) (blocks % run_blocks * 128)
+      all_words = parts_joined v.file.body 0 (blocks / blocks_at_once * (blocks_at_once * 128)) (blocks % blocks_at_once * 128)
           (runs * 128) (blocks * 128) (omega arith) (words_by_runs blocks)
 
   last_read : (me : ℕ) (place : Place) (v : Version) (said : Spoken) (new : Service) (more : ℕ) (next : List ℕ → Plan)

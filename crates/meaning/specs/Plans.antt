@@ -220,8 +220,8 @@ shows owner = Show owner (λ answer. Say (list_said Columns owner answer))
 -- Typing: the words of whole blocks, then those of the last.
 
 -- how many blocks an IN of a file that is read moves, as long as so many whole ones are left
-abbrev pub run_blocks : ℕ
-run_blocks = 16
+abbrev pub blocks_at_once : ℕ
+blocks_at_once = 16
 
 -- so many INs, each of which moves as many words
 unfoldable pub types_runs : Moment → ℕ → ℕ → (List ℕ → Plan) → Plan
@@ -231,9 +231,9 @@ types_runs moment (suc more) count next = each moment (takes moment ∷ [])
 
 -- so many whole blocks: by runs, and those that make none one by one
 abbrev pub types_blocks : Moment → ℕ → (List ℕ → Plan) → Plan
-types_blocks moment blocks next = each moment (lists (run_blocks * 128))
-    (types_runs moment (blocks / run_blocks) (run_blocks * 128) (λ words. each moment (lists 128)
-    (types_runs moment (blocks % run_blocks) 128 (λ others. next (words ++ others)))))
+types_blocks moment blocks next = each moment (lists (blocks_at_once * 128))
+    (types_runs moment (blocks / blocks_at_once) (blocks_at_once * 128) (λ words. each moment (lists 128)
+    (types_runs moment (blocks % blocks_at_once) 128 (λ others. next (words ++ others)))))
 
 abbrev pub types_last : Moment → ℕ → ℕ → (List ℕ → Plan) → Plan
 types_last moment n size next = sizes moment n size
