@@ -3,7 +3,7 @@
 use Rattle.std.specs.Prelude.{◌≡◌, ◌<◌, ◌+◌, ℕ, List, Option, Some, None, Result, IsOk, IfOk, OnOk, OnErr, IsErrOf}
 use Rattle.std.specs.Prelude.{length}
 use Rattle.blockdisk.specs.Disk.{DiskState, SameDisk, Keeps, Writes, Syncs, Fails, one_more}
-use Rattle.blockdisk.specs.Disk.{AreRead, AreVerified, IsWithin}
+use Rattle.blockdisk.specs.Disk.{AreRead, AreVerified, IsWithin, HoldRun, IsInRun, Modifies}
 use Rattle.blockdisk.specs.declared.fault.Fault.{Fault}
 use Rattle.blockdisk.specs.declared.fault.Fault.TheVariants.{Device, Damaged}
 
@@ -42,6 +42,16 @@ pub record IsWrite (n : ℕ) (words : List ℕ) (s s' : DiskState) (answer : Res
   pub put : s'.honest → OnOk answer (s'.contents n ≡ Some words)
   pub moves : s'.honest → OnOk answer (s.clock < s'.clock)
   pub writes : s'.honest → Writes n s s'
+  pub same : SameDisk s s'
+  pub device : IsErrOf answer Damaged → ⊥
+  pub failed : IsErrOf answer Device → s'.failures ≡ one_more s.failures
+  pub served : OnOk answer (s'.failures ≡ s.failures)
+
+-- a write of these blocks from `first` on
+pub record IsRunWrite (first : ℕ) (blocks : List (List ℕ)) (s s' : DiskState) (answer : Result (Unit {0}) Fault)
+    : Type 0 where
+  pub put : s'.honest → OnOk answer (HoldRun s'.contents first blocks)
+  pub writes : s'.honest → Modifies (IsInRun first (length blocks)) s s'
   pub same : SameDisk s s'
   pub device : IsErrOf answer Damaged → ⊥
   pub failed : IsErrOf answer Device → s'.failures ≡ one_more s.failures

@@ -26,10 +26,18 @@ abbrev pub IsWithin : ℕ → ℕ → Option ℕ → Type 0
 IsWithin first end None = Unit {0}
 IsWithin first end (Some bad) = (first ≤ bad) × (bad < end)
 
+-- It is one of so many blocks from `first` on.
+abbrev pub IsInRun : ℕ → ℕ → ℕ → Type 0
+IsInRun first count n = (first ≤ n) × (n < first + count)
+
+-- The blocks from `first` on hold these words, one after the other.
+abbrev pub HoldRun : Contents → ℕ → List (List ℕ) → Type 0
+HoldRun contents first blocks = (i : ℕ) → i < length blocks → contents (first + i) ≡ Some (get_or blocks i [])
+
 -- These are the words of the blocks from `first` on, one for each place: of all, or of those before this one, which is
 -- damaged.
 abbrev pub AreRead : Contents → ℕ → List (List ℕ) → Option ℕ → Type 0
-AreRead contents first blocks None = (i : ℕ) → i < length blocks → contents (first + i) ≡ Some (get_or blocks i [])
+AreRead contents first blocks None = HoldRun contents first blocks
 AreRead contents first blocks (Some bad) = (contents bad ≡ None)
     × ((i : ℕ) → first + i < bad → contents (first + i) ≡ Some (get_or blocks i []))
 

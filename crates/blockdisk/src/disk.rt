@@ -1,7 +1,7 @@
 ghost use Rattle.std.specs.Prelude.{◌≡◌, ◌+◌, ◌<◌, ◌≤◌, ℕ, Some, None, IsOk, IfOk, OnOk, OnErr, IsErrOf, length};
 ghost use Rattle.blockdisk.specs.declared.fault.Fault.TheVariants.{Device, Damaged};
 ghost use Rattle.blockdisk.specs.Disk.{Contents, DiskState, MayLeave, SameDisk, Keeps, Writes, Syncs, Fails, one_more};
-ghost use Rattle.blockdisk.specs.Disk.{AreRead, AreVerified, IsWithin};
+ghost use Rattle.blockdisk.specs.Disk.{AreRead, AreVerified, HoldRun, IsInRun, IsWithin, Modifies};
 
 use crate::Fault;
 use words36::Block;
@@ -101,6 +101,28 @@ pub trait Disk {
         ensures device { IsErrOf result Damaged → ⊥ }
         ensures failed { IsErrOf result Device → (state self.new).failures ≡ one_more (state self.old).failures }
         ensures served { OnOk result ((state self.new).failures ≡ (state self.old).failures) };
+
+    /// Writes neighbouring blocks, from one on. They are open from then on, whatever the answer, until a sync succeeds.
+    ///
+    /// # Errors
+    ///
+    /// `Device` where the device failed; each of the blocks may then hold anything.
+    fn write_run(&mut self, first: u32, blocks: &[Block]) -> Result<(), Fault>
+        requires { first + length blocks.now ≤ (state self.old).size }
+        ensures put { (state self.new).honest → OnOk result (HoldRun (state self.new).contents first blocks.now) }
+        ensures writes { (state self.new).honest
+            → Modifies (IsInRun first (length blocks.now)) (state self.old) (state self.new) }
+        ensures same { SameDisk (state self.old) (state self.new) }
+        ensures device { IsErrOf result Damaged → ⊥ }
+        ensures failed { IsErrOf result Device → (state self.new).failures ≡ one_more (state self.old).failures }
+        ensures served { OnOk result ((state self.new).failures ≡ (state self.old).failures) }
+    {
+        let _size = self.blocks(); // no more than a u32 counts
+        for place in 0..blocks.len() {
+            self.write(first + place as u32, &blocks[place])?;
+        }
+        Ok(())
+    }
 
     /// Waits until all that was written is on the disk. No block is open then.
     ///

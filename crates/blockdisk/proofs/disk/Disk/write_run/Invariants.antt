@@ -1,0 +1,13 @@
+use Rattle.std.proofs.Common.{◌≡◌, ◌+◌, ◌<◌, ℕ, Some, [], length, get_or}
+use Rattle.blockdisk.specs.Disk.{IsInRun, Modifies, SameDisk}
+use Rattle.blockdisk.proofs.disk.Disk.write_run.Given as goal
+
+abbrev pub invariant-loop-place : goal.invariant-loop-place
+invariant-loop-place g l = record {
+  put : (g.Self.Disk.state l.self).honest → (i : ℕ) → i < l.place
+      → (g.Self.Disk.state l.self).contents (l.first + i) ≡ Some (get_or l.blocks i []);
+  writes : (g.Self.Disk.state l.self).honest
+      → Modifies (IsInRun l.first (length l.blocks)) (g.Self.Disk.state l.fn.self) (g.Self.Disk.state l.self);
+  same : SameDisk (g.Self.Disk.state l.fn.self) (g.Self.Disk.state l.self);
+  served : (g.Self.Disk.state l.self).failures ≡ (g.Self.Disk.state l.fn.self).failures;
+}
