@@ -14,6 +14,7 @@ pub mod RunReads
 pub mod Holding
 pub mod NewBlocks
 pub mod Placed
+pub mod PlaceWrites
 pub mod Staying
 pub mod Growing
 pub mod Putting

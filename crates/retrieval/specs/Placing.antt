@@ -36,6 +36,18 @@ pub record HoldsNew (contents : Contents) (at : ℕ) (words : List ℕ) (place :
   pub is : contents n ≡ Some new
   pub is_new : IsNewBlock at words place kept i new
 
+-- It is the block at one of the places from `first` on before `end`.
+pub record AtPlace (blocks : List ℕ) (first end n : ℕ) : Type 0 where
+  pub at : ℕ
+  pub from : first ≤ at
+  pub below : at < end
+  pub is : slice_index blocks at ≡ n
+
+-- Each block at the places from `first` on before `end` stands at no other place.
+abbrev pub AreApart : List ℕ → ℕ → ℕ → Type 0
+AreApart blocks first end = (j k : ℕ) → first ≤ j → j < end → k < length blocks → (k ≡ j → ⊥)
+    → slice_index blocks k ≡ slice_index blocks j → ⊥
+
 -- The blocks from `first` up to i have their new words; at the other places the same blocks stand as before.
 pub record IsPartlyPlaced (before now : Contents) (old new : List ℕ) (at : ℕ) (words : List ℕ) (place : ℕ)
     (kept : List ℕ)

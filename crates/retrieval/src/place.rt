@@ -1,4 +1,5 @@
-ghost use Rattle.std.specs.Prelude.{◌≡◌, ◌+◌, ◌-◌, ◌*◌, ◌<◌, ◌≤◌, ℕ, length, slice_index, slice_set, OnOk, IsErrOf};
+ghost use Rattle.std.specs.Prelude.{◌≡◌, ◌⊎◌, ◌+◌, ◌-◌, ◌*◌, ◌<◌, ◌≤◌, ℕ, length, slice_index, slice_set, IfOk, OnOk};
+ghost use Rattle.std.specs.Prelude.{IsErrOf};
 ghost use Rattle.std.specs.List.{AllByRecursion};
 ghost use Rattle.blockdisk.specs.Disk.{SameDisk, Modifies, one_more};
 ghost use Rattle.blockdisk.specs.declared.fault.Fault.TheVariants.{Device as DeviceFault, Damaged};
@@ -7,7 +8,7 @@ ghost use Rattle.meaning.specs.Faults.{InSpace};
 ghost use Rattle.meaning.specs.Maps.{times};
 ghost use Rattle.alloctab.specs.TableState.{holds, space, uses, bit};
 ghost use Rattle.retrieval.specs.Bodies.{IsOwn, AddsFree, KeepsOwn};
-ghost use Rattle.retrieval.specs.Placing.{IsPartlyPlaced};
+ghost use Rattle.retrieval.specs.Placing.{AreApart, AtPlace, HoldsNew, IsPartlyPlaced};
 ghost use Rattle.retrieval.specs.Writing.{IsFixed};
 
 use crate::block_list::BlockList;
@@ -52,6 +53,130 @@ pub(crate) fn own_place(table: &mut Table, blocks: &mut BlockList, i: usize) -> 
     table.unhold(shared);
     blocks.set(i, n);
     n
+}
+
+/// Makes the blocks from one place on before another the version's own, as `own_place` does one.
+fn own_places(table: &mut Table, blocks: &mut BlockList, first: usize, end: usize)
+    requires order { first ≤ end }
+    requires fits { end ≤ length blocks.old.blocks }
+    requires spare { 2 * (end - first) ≤ blocks.old.spare }
+    requires inside { AllByRecursion (InSpace table.old.size) blocks.old.blocks }
+    requires held { (n : ℕ) → times n blocks.old.blocks ≤ holds table.old n }
+    requires fixed { IsFixed table.old }
+    requires used { uses table.old < table.old.booked }
+    requires room { table.old.booked ≤ space table.old.size }
+
+    // The blocks at these places, and those at the others.
+    ensures own { (j : ℕ) → first ≤ j → j < end → IsOwn table.old blocks.old.blocks (slice_index blocks.new.blocks j) }
+    ensures apart { AreApart blocks.new.blocks first end }
+    ensures others { (j : ℕ) → (j < first) ⊎ (end ≤ j)
+        → slice_index blocks.new.blocks j ≡ slice_index blocks.old.blocks j }
+    ensures long { length blocks.new.blocks ≡ length blocks.old.blocks }
+    ensures inside { AllByRecursion (InSpace table.old.size) blocks.new.blocks }
+    ensures adds { AddsFree table.old blocks.old.blocks blocks.new.blocks }
+    ensures stays { KeepsOwn table.old blocks.old.blocks blocks.new.blocks }
+    // The table.
+    ensures table { table.new ≡ record table.old { held = table.new.held } }
+    ensures held { (n : ℕ) → holds table.new n + times n blocks.old.blocks
+        ≡ holds table.old n + times n blocks.new.blocks }
+    ensures used { uses table.new ≡ uses table.old }
+{
+    for i in first..end {
+        let _n = own_place(table, blocks, i);
+    }
+}
+
+/// How many blocks from place i on are filled by so many words that are put from place `at` on.
+fn filled_from(at: usize, count: usize, i: usize) -> usize
+    ensures from { 0 < result → at ≤ i }
+    ensures within { 0 < result → (i - at + result) * 128 ≤ count }
+{
+    if i < at {
+        return 0;
+    }
+    (count / BLOCK_WORDS).saturating_sub(i - at)
+}
+
+/// Writes blocks of a version from place i on, of which at least one is left: a run of those that the words fill, or
+/// one block. Answers how many.
+///
+/// # Errors
+///
+/// `Device` where the device failed; some of the places that are left may be written then.
+fn write_some<D: Disk>(
+    disk: &mut D,
+    blocks: &BlockList,
+    kept: &Kept,
+    at: usize,
+    words: &[Word],
+    i: usize,
+) -> Result<usize, Fault>
+    requires left { i < at + blocks_of (length words.now) }
+    requires fits { at + blocks_of (length words.now) ≤ length blocks.now.blocks }
+    requires few { length blocks.now.blocks ≤ 16384 }
+    requires inside { AllByRecursion (InSpace (D.state disk.old).size) blocks.now.blocks }
+    requires apart { AreApart blocks.now.blocks i (at + blocks_of (length words.now)) }
+    ensures some { IfOk result (λ count. 0 < count) }
+    ensures within { IfOk result (λ count. i + count ≤ at + blocks_of (length words.now)) }
+    ensures written { (D.state disk.new).honest → IfOk result (λ count. (j : ℕ) → i ≤ j → j < i + count
+        → HoldsNew (D.state disk.new).contents at words.now kept.now.place kept.now.words j
+        (slice_index blocks.now.blocks j)) }
+    ensures modified { (D.state disk.new).honest
+        → Modifies (AtPlace blocks.now.blocks i (at + blocks_of (length words.now)))
+        (D.state disk.old) (D.state disk.new) }
+    ensures same { SameDisk (D.state disk.old) (D.state disk.new) }
+    ensures device { IsErrOf result Damaged → ⊥ }
+    ensures failed { IsErrOf result DeviceFault → (D.state disk.new).failures ≡ one_more (D.state disk.old).failures }
+    ensures served { OnOk result ((D.state disk.new).failures ≡ (D.state disk.old).failures) }
+{
+    let run = blocks.run_at(i);
+    let filled = filled_from(at, words.len(), i);
+    if filled == 0 {
+        disk.write(run.first, &new_block(kept, at, words, i))?;
+        return Ok(1);
+    }
+    let count = run.count().min(filled);
+    let (whole, _rest) = words.as_chunks::<BLOCK_WORDS>();
+    disk.write_run(run.first, &whole[i - at..i - at + count])?;
+    Ok(count)
+}
+
+/// Writes the blocks of a version from place `first` on, each of which is its own, with words put from place `at` on
+/// over those that stay, and zeros before where none do.
+///
+/// # Errors
+///
+/// `Device` where the device failed; some of the places are written then.
+fn write_all<D: Disk>(
+    disk: &mut D,
+    blocks: &BlockList,
+    kept: &Kept,
+    first: usize,
+    at: usize,
+    words: &[Word],
+) -> Result<(), Fault>
+    requires fits { at + blocks_of (length words.now) ≤ length blocks.now.blocks }
+    requires few { length blocks.now.blocks ≤ 16384 }
+    requires order { first ≤ at + blocks_of (length words.now) }
+    requires inside { AllByRecursion (InSpace (D.state disk.old).size) blocks.now.blocks }
+    requires apart { AreApart blocks.now.blocks first (at + blocks_of (length words.now)) }
+    ensures written { (D.state disk.new).honest → OnOk result ((j : ℕ) → first ≤ j → j < at + blocks_of (length words.now)
+        → HoldsNew (D.state disk.new).contents at words.now kept.now.place kept.now.words j
+        (slice_index blocks.now.blocks j)) }
+    ensures modified { (D.state disk.new).honest
+        → Modifies (AtPlace blocks.now.blocks first (at + blocks_of (length words.now)))
+        (D.state disk.old) (D.state disk.new) }
+    ensures same { SameDisk (D.state disk.old) (D.state disk.new) }
+    ensures device { IsErrOf result Damaged → ⊥ }
+    ensures failed { IsErrOf result DeviceFault → (D.state disk.new).failures ≡ one_more (D.state disk.old).failures }
+    ensures served { OnOk result ((D.state disk.new).failures ≡ (D.state disk.old).failures) }
+{
+    let end = at + words.len().div_ceil(BLOCK_WORDS);
+    let mut i = first;
+    while i < end {
+        i += write_some(disk, blocks, kept, at, words, i)?;
+    }
+    Ok(())
 }
 
 /// Writes the blocks of a version from place `first` on, with words put from place `at` on over those that
@@ -107,10 +232,6 @@ pub(crate) fn write_places<D: Disk>(
     ensures failed { IsErrOf result DeviceFault → (D.state disk.new).failures ≡ one_more (D.state disk.old).failures }
     ensures served { OnOk result ((D.state disk.new).failures ≡ (D.state disk.old).failures) }
 {
-    for i in first..at + words.len().div_ceil(BLOCK_WORDS) {
-        let n = own_place(table, blocks, i);
-        let block = new_block(kept, at, words, i);
-        disk.write(n, &block)?;
-    }
-    Ok(())
+    own_places(table, blocks, first, at + words.len().div_ceil(BLOCK_WORDS));
+    write_all(disk, blocks, kept, first, at, words)
 }

@@ -93,7 +93,7 @@ impl Version {
     pub fn run_at(&self, i: usize) -> Run
         requires { i < length self.now.blocks }
         ensures within { i + (result.last - result.first) < length self.now.blocks }
-        ensures blocks { (j : ℕ) → j ≤ result.last - result.first
+        ensures side_by_side { (j : ℕ) → j ≤ result.last - result.first
             → slice_index self.now.blocks (i + j) ≡ result.first + j }
     {
         self.blocks.run_at(i)

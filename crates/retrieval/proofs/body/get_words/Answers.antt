@@ -24,7 +24,7 @@ get_run-requires-clause-inside g c =
     let within = c.run_at-run.ensures.within in
     let below : at + (count - 1) < length blocks = omega (arith, within, few) in
     let last : slice_index blocks (at + (count - 1)) ≡ run.first + (count - 1) =
-    c.run_at-run.ensures.blocks (count - 1) (omega (arith, few, some)) in
+    c.run_at-run.ensures.side_by_side (count - 1) (omega (arith, few, some)) in
     let inside = all_at (InSpace (g.D.Disk.state c.args.disk.now).size) blocks (at + (count - 1)) c.requires.inside below in
     omega (arith, last, inside.below, c.loop-done.invariant.same.size, some)
 
@@ -42,7 +42,7 @@ returns-in_err-get_run-clause-damaged g c h k is =
     let bad = c.get_run.ensures.bad h k (passed_on c.from_residual-in_err-get_run.result c.get_run.result p.0
     c.in_err-get_run.field-0.0 (BadData k) is p.1 p.2 c.in_err-get_run.was) in
     let place = damaged_place blocks at run.first c.min-count.result k
-    (λ j less. c.run_at-run.ensures.blocks j (omega (arith, less, few))) bad.0 bad.1 in
+    (λ j less. c.run_at-run.ensures.side_by_side j (omega (arith, less, few))) bad.0 bad.1 in
     damaged_at s.contents now.contents blocks blocks k (at + (k - run.first)) refl
     (omega (arith, within, few, place.1)) place.0 (ap now.contents (sym place.0) ∙ bad.2)
     (c.loop-done.invariant.keeps (c.get_run.ensures.same.was_honest h)).contents
@@ -65,7 +65,7 @@ loop-done-preserved g c =
     omega (arith, c.min-count.ensures, c.min.ensures, c.count.ensures.value) in
     let some : 0 < count = omega (arith, c.min-count.ensures, c.min.ensures, c.count.ensures.value, test) in
     let within = c.run_at-run.ensures.within in
-    let side = λ (j : ℕ) (less : j < count). c.run_at-run.ensures.blocks j (omega (arith, less, few)) in
+    let side = λ (j : ℕ) (less : j < count). c.run_at-run.ensures.side_by_side j (omega (arith, less, few)) in
     let whole_now : length items ≡ done * 128 =
     omega (arith, c.loop-done.invariant.long, test, c.div_ceil-blocks.ensures) in
     let was : new.honest → now.honest = c.get_run.ensures.same.was_honest in

@@ -20,8 +20,8 @@ returns-clause-within c =
     rw (← c.self.view_is) (rest_below runs c.args.i place.run place.offset run is_in c.index.ensures
     (c.rest.result.last - c.rest.result.first) within)
 
-pub returns-clause-blocks : goal.returns-clause-blocks
-returns-clause-blocks c j few =
+pub returns-clause-side_by_side : goal.returns-clause-side_by_side
+returns-clause-side_by_side c j few =
     let runs = c.self.inside.runs.items in
     let place = c.in-Some.place in
     let run = c.index.result.now in
