@@ -1,6 +1,6 @@
 -- Blocks of a version that are made its own, and then written by runs.
-use Rattle.std.proofs.Common.{◌≡◌, ◌⊎◌, ⊎_elim, inl, inr, ℕ, zero, suc, ◌+◌, ◌-◌, ◌*◌, ◌/◌, ◌<◌, ◌≤◌, List, [], ◌∷◌, Some}
-use Rattle.std.proofs.Common.{length, get_or, take, drop, min, refl, sym, ◌∙◌, ap, subst, arith}
+use Rattle.std.proofs.Common.{◌≡◌, ◌⊎◌, ⊎_elim, inl, inr, ℕ, zero, suc, ◌+◌, ◌-◌, ◌*◌, ◌/◌, ◌<◌, ◌≤◌, List, [], Some}
+use Rattle.std.proofs.Common.{length, get_or, take, drop, sym, ◌∙◌, ap, subst, arith}
 use Rattle.std.specs.Prelude.{slice_index, slice_set}
 use Rattle.std.specs.Simd.{first_chunks}
 use Rattle.std.proofs.lemmas.Bool.{cases_eq, cases_lt}
@@ -10,9 +10,7 @@ use Rattle.blockdisk.specs.Disk.{Contents, DiskState, HoldRun, IsInRun, Modifies
 use Rattle.blockdisk.specs.Laws.{modifies_on, modifies_wider, writes_modifies}
 use Rattle.meaning.specs.Costs.{blocks_of}
 use Rattle.meaning.specs.Maps.{times}
-use Rattle.alloctab.specs.TableState.{TableState}
-use Rattle.retrieval.specs.Bodies.{IsOwn}
-use Rattle.retrieval.specs.Placing.{AreApart, AtPlace, IsNewBlock, HoldsNew, IsPartlyPlaced}
+use Rattle.retrieval.specs.Placing.{AreApart, AtPlace, IsNewBlock, HoldsNew}
 use Rattle.retrieval.proofs.Holding.{alone_at}
 
 -- One place more whose block is the version's own.
@@ -42,6 +40,7 @@ module _ (blocks : List ℕ) (first i n : ℕ) (below : i < length blocks) where
     where
       new : List ℕ
       new = slice_set blocks i n
+
       below' : i < length new
       below' = omega (arith, below, length-set blocks i n)
 
@@ -135,26 +134,6 @@ module _ (at : ℕ) (words : List ℕ) (place : ℕ) (kept : List ℕ) where
           not_same : here.at ≡ j → i ≤ here.at → j < i → ⊥
           not_same e above below = omega (arith, e, above, below)
 
-  -- All places are written, and the blocks at the others are as they were.
-  pub all_placed : (before now : Contents) (old new : List ℕ) (first end : ℕ) → length new ≡ length old
-      → end ≤ length old
-      → AreApart new first end → ((j : ℕ) → (j < first) ⊎ (end ≤ j) → slice_index new j ≡ slice_index old j)
-      → ((n : ℕ) → (AtPlace new first end n → ⊥) → now n ≡ before n)
-      → ((j : ℕ) → first ≤ j → j < end → HoldsNew now at words place kept j (slice_index new j))
-      → IsPartlyPlaced before now old new at words place kept first end
-  all_placed before now old new first end long fits apart others same written = record {
-    stays = λ j inside out. (others j out, same (slice_index old j) (λ here. away j inside out here));
-    placed = written;
-  }
-    where
-      other_place : (j k : ℕ) → (j < first) ⊎ (end ≤ j) → first ≤ k → k < end → j ≡ k → ⊥
-      other_place j k (inl low) from below e = omega (arith, low, from, e)
-      other_place j k (inr high) from below e = omega (arith, high, below, e)
-
-      away : (j : ℕ) → j < length old → (j < first) ⊎ (end ≤ j) → AtPlace new first end (slice_index old j) → ⊥
-      away j inside out here = apart here.at j here.from here.below (omega (arith, inside, long))
-          (other_place j here.at out here.from here.below) (others j out ∙ sym here.is)
-
 -- The part of the filled blocks that is written.
 
 pub part_is : (d count : ℕ) (chunks whole : List (List ℕ)) → chunks ≡ whole
@@ -226,10 +205,3 @@ more_modified blocks first i end s s' s'' begun before more = modifies_on (AtPla
       below = here.below;
       is = here.is;
     }) more)
-
--- what stands at these places is the version's own
-pub own_modified : (t : TableState) (old new : List ℕ) (first end : ℕ) (s s' : DiskState)
-    → ((j : ℕ) → first ≤ j → j < end → IsOwn t old (slice_index new j)) → Modifies (AtPlace new first end) s s'
-    → Modifies (IsOwn t old) s s'
-own_modified t old new first end s s' own = modifies_wider (AtPlace new first end) (IsOwn t old) s s'
-    (λ n here. subst (IsOwn t old) here.is (own here.at here.from here.below))

@@ -1,73 +1,18 @@
 -- Blocks that are written one after the other, each to a place of its own.
-use Rattle.std.proofs.Common.{◌≡◌, ◌⊎◌, ⊎_elim, inl, inr, ℕ, zero, suc, ◌+◌, ◌<◌, ◌≤◌, List, [], ◌∷◌, Some, length}
-use Rattle.std.proofs.Common.{refl, sym, ◌∙◌, ap, subst, arith}
+use Rattle.std.proofs.Common.{◌≡◌, ◌⊎◌, ⊎_elim, inl, inr, ℕ, zero, suc, ◌+◌, ◌<◌, ◌≤◌, List, [], ◌∷◌, length}
+use Rattle.std.proofs.Common.{sym, ◌∙◌, ap, subst, arith}
 use Rattle.std.specs.Prelude.{slice_index, slice_set}
 use Rattle.std.specs.List.{AllByRecursion}
 use Rattle.std.proofs.lemmas.Bool.{cases_eq, cases_lt}
-use Rattle.std.proofs.lemmas.List.{get_or-set_same, get_or-set_other, length-set}
-use Rattle.blockdisk.specs.Disk.{Contents}
+use Rattle.std.proofs.lemmas.List.{get_or-set_same, get_or-set_other}
 use Rattle.meaning.specs.Faults.{InSpace}
 use Rattle.meaning.specs.Maps.{times}
 use Rattle.changeset.specs.PutLaws.{times_tail}
 use Rattle.alloctab.specs.TableState.{TableState, IsFree, bit, holds, space}
 use Rattle.retrieval.specs.Bodies.{IsOwn, AddsClear, AddsFree, KeepsOwn}
 use Rattle.retrieval.specs.Writing.{IsFixed}
-use Rattle.retrieval.specs.Placing.{IsNewBlock, HoldsNew, IsPartlyPlaced}
-use Rattle.retrieval.proofs.Holding.{times_set, alone_at}
+use Rattle.retrieval.proofs.Holding.{times_set}
 use Rattle.retrieval.proofs.Parts.{times_at}
-
-module _ (before : Contents) (old : List ℕ) (at : ℕ) (words : List ℕ) (place : ℕ) (kept : List ℕ) (first : ℕ) where
-  pub placed_none : (i : ℕ) → i ≡ first → IsPartlyPlaced before before old old at words place kept first i
-  placed_none i is = record { stays = λ j below out. (refl, refl); placed = λ j from below. absurd (omega arith) }
-
-  -- one block more
-  pub placed_more : (now now' : Contents) (blocks : List ℕ) (i n : ℕ) (new : List ℕ)
-      → IsPartlyPlaced before now old blocks at words place kept first i → length blocks ≡ length old → first ≤ i
-      → i < length blocks
-      → times n (slice_set blocks i n) ≡ 1 → ((m : ℕ) → (m ≡ n → ⊥) → now' m ≡ now m) → now' n ≡ Some new
-      → IsNewBlock at words place kept i new
-      → IsPartlyPlaced before now' old (slice_set blocks i n) at words place kept first (i + 1)
-  placed_more now now' blocks i n new so_far long after below alone others put is_new =
-      record { stays = stays; placed = placed }
-    where
-      here : slice_index (slice_set blocks i n) i ≡ n
-      here = get_or-set_same blocks i n 0 below
-
-      elsewhere : (j : ℕ) → (j ≡ i → ⊥) → slice_index (slice_set blocks i n) j ≡ slice_index blocks j
-      elsewhere j other = get_or-set_other blocks i j n 0 other
-
-      apart : (j : ℕ) → j < length blocks → (j ≡ i → ⊥) → slice_index blocks j ≡ n → ⊥
-      apart j inside other is =
-          let l = length-set blocks i n in
-          alone_at n (slice_set blocks i n) i j alone (omega arith) (omega arith) here other (elsewhere j other ∙ is)
-
-      outside : (j : ℕ) → (j < first) ⊎ (i + 1 ≤ j) → j ≡ i → ⊥
-      outside j (inl a) e = absurd (omega arith)
-      outside j (inr b) e = absurd (omega arith)
-
-      stays : (j : ℕ) → j < length old → (j < first) ⊎ (i + 1 ≤ j)
-          → (slice_index (slice_set blocks i n) j ≡ slice_index old j)
-          × (now' (slice_index old j) ≡ before (slice_index old j))
-      stays j inside out =
-          let other : j ≡ i → ⊥ = λ e. outside j out e in
-          let was = so_far.stays j inside (⊎_elim (λ a. inl a) (λ b. inr (omega arith)) out) in
-          (elsewhere j other ∙ was.0, others (slice_index old j) (λ e. apart j (omega arith) other (was.0 ∙ e)) ∙ was.1)
-
-      placed : (j : ℕ) → first ≤ j → j < i + 1
-          → HoldsNew now' at words place kept j (slice_index (slice_set blocks i n) j)
-      placed j from upto = ⊎_elim
-          (λ (e : j ≡ i). subst (λ (z : ℕ). HoldsNew now' at words place kept z (slice_index (slice_set blocks i n) z))
-          (sym e) (record { new = new; is = ap now' here ∙ put; is_new = is_new }))
-          (λ (other : j ≡ i → ⊥).
-          let was = so_far.placed j from (omega arith) in
-          let same = elsewhere j other in
-          record {
-            new = was.new;
-            is = ap now' same ∙ others (slice_index blocks j) (apart j (omega arith) other)
-                ∙ was.is;
-            is_new = was.is_new;
-          })
-          (cases_eq j i)
 
 -- What a table and a list keep while blocks are changed for others.
 module _ (t t' : TableState) (same : t' ≡ record t { held = t'.held }) where

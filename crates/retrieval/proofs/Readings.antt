@@ -5,7 +5,7 @@ use Rattle.std.specs.List.{AllByRecursion}
 use Rattle.std.proofs.lemmas.Bool.Decides.{nat_tests}
 use Rattle.std.proofs.lemmas.List.{map-append}
 use Rattle.blockdisk.specs.Disk.{Contents, DiskState, MayLeave, Keeps}
-use Rattle.blockdisk.specs.Laws.{passes_start, passes_on, passes_weaker}
+use Rattle.blockdisk.specs.Laws.{passes_start}
 use Rattle.meaning.specs.Maps.{times}
 use Rattle.meaning.specs.Costs.{blocks_of}
 use Rattle.meaning.specs.Retrieval.{Prime, Run, IsRun, run_blocks, Extension, all_runs, extension_numbers}

@@ -1,4 +1,4 @@
-use Rattle.std.proofs.Common.{◌≡◌, length, subst, arith}
+use Rattle.std.proofs.Common.{◌≡◌, length, arith}
 use Rattle.std.proofs.lemmas.Result.{err_from_is_err_and}
 use Rattle.retrieval.specs.declared.error.BodyError.TheVariants.{BadData}
 use Rattle.changeset.proofs.Reading.{passed_on}

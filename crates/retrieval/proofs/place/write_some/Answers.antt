@@ -1,9 +1,8 @@
-use Rattle.std.proofs.Common.{◌≡◌, ◌+◌, ◌-◌, ◌*◌, ◌/◌, ◌<◌, ◌≤◌, ℕ, List, length, take, drop, min, sym, ap, subst, ◌∙◌, refl, arith}
+use Rattle.std.proofs.Common.{◌≡◌, ◌+◌, ◌-◌, ◌/◌, ◌<◌, ◌≤◌, ℕ, length, take, drop, arith}
 use Rattle.std.specs.Prelude.{slice_index}
 use Rattle.std.specs.Simd.{first_chunks}
 use Rattle.meaning.specs.Costs.{blocks_of}
 use Rattle.meaning.specs.Faults.{InSpace}
-use Rattle.retrieval.specs.Placing.{HoldsNew}
 use Rattle.retrieval.proofs.Parts.{all_at}
 use Rattle.retrieval.proofs.PlaceWrites.{run_written, one_first, one_written, run_modifies, one_modifies}
 use Rattle.retrieval.proofs.PlaceWrites.{part_is, part_size, filled_fits, filled_within, whole_words}

@@ -1,6 +1,5 @@
-use Rattle.std.proofs.Common.{◌≡◌, ◌+◌, ◌-◌, ◌≤◌, ◌∙◌, ap, sym, subst, List, arith, length}
-use Rattle.std.specs.Prelude.{slice_index}
-use Rattle.retrieval.specs.Runs.{IsAtOffset, blocks_of_runs}
+use Rattle.std.proofs.Common.{◌≡◌, ◌+◌, ◌-◌, ◌≤◌, ◌∙◌, subst, List, arith}
+use Rattle.retrieval.specs.Runs.{IsAtOffset}
 use Rattle.retrieval.specs.declared.run.Run.{Run as RunValue}
 use Rattle.retrieval.proofs.KeptRuns.{index_behind, rest_below, offset_of}
 use Rattle.retrieval.proofs.block_list.BlockList.run_at.Goals as goal
