@@ -41,9 +41,11 @@ module _ (first count : ℕ) (s s' : DiskState) (blocks : List (List ℕ)) (befo
     same h = same_contents s.contents s'.contents (before.keeps h).contents
 
     -- Behind them so many more, which a group has.
-    pub part_on : (more : ℕ) (s'' : DiskState) (group new : List (List ℕ)) → IsPartRead (first + count) more s' s'' group
+    pub part_on : (more : ℕ) (s'' : DiskState) (group new : List (List ℕ))
+        → IsPartRead (first + count) more s' s'' group
         → ((i : ℕ) → i < count → get_or new i [] ≡ get_or blocks i [])
-        → ((i : ℕ) → i < more → get_or new (count + i) [] ≡ get_or group i []) → IsPartRead first (count + more) s s'' new
+        → ((i : ℕ) → i < more → get_or new (count + i) [] ≡ get_or group i [])
+        → IsPartRead first (count + more) s s'' new
     part_on more s'' group new behind kept put = record {
       words = λ h i less. ⊎_elim (λ low. before.words (honest h) i low ∙ ap Some (sym (kept i low)))
           (λ past. of_group h i less past) (cases_lt i count);

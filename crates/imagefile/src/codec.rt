@@ -325,7 +325,7 @@ fn write_group<F: Durable>(
     file.write_at(place_of(form, first), group)
 }
 
-/// Puts the bytes of these blocks one behind the other.
+/// Puts the bytes of blocks into as many places, one behind the other.
 fn put_blocks(form: Form, blocks: &[Block], bytes: &mut [u8])
     requires { length bytes.old ≡ block_length form * length blocks.now }
     ensures long { length bytes.new ≡ length bytes.old }
@@ -333,15 +333,12 @@ fn put_blocks(form: Form, blocks: &[Block], bytes: &mut [u8])
 {
     let size = form.block_bytes() as usize;
     for place in 0..blocks.len() {
-        put_block(
-            form,
-            &blocks[place],
-            &mut bytes[size * place..size * place + size],
-        );
+        let start = size * place;
+        put_block(form, &blocks[place], &mut bytes[start..start + size]);
     }
 }
 
-/// Puts the bytes of a block.
+/// Puts the bytes of a block into as many places.
 fn put_block(form: Form, block: &Block, bytes: &mut [u8])
     requires { length bytes.old ≡ block_length form }
     ensures long { length bytes.new ≡ length bytes.old }

@@ -8,7 +8,8 @@ abbrev pub invariant-loop-done : goal.invariant-loop-done
 invariant-loop-done g l = record {
   same : SameFile (g.F.Durable.state l.fn.file) (g.F.Durable.state l.file);
   written : (size : ℕ) → IsPartWrite l.fn.first l.done l.fn.blocks
-      (image_state l.fn.form size (g.F.Durable.state l.fn.file)) (image_state l.fn.form size (g.F.Durable.state l.file));
+      (image_state l.fn.form size (g.F.Durable.state l.fn.file))
+      (image_state l.fn.form size (g.F.Durable.state l.file));
   within : l.done ≤ length l.blocks;
 }
 
