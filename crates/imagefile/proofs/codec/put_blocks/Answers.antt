@@ -1,8 +1,8 @@
 use Rattle.std.proofs.Common.{◌≡◌, ◌∙◌, ◌+◌, ◌*◌, ◌-◌, ◌≤◌, Some, [], ⊎_elim, length, get_or, ap, sym, arith}
 use Rattle.std.proofs.lemmas.Bool.{cases_eq}
-use Rattle.std.proofs.lemmas.List.{get_or_read}
+use Rattle.std.proofs.lemmas.Grind.{common_steps}
 use borrow.Rule.Slice.PartMut.{put_mid}
-use Rattle.imagefile.specs.Image.{block_length, blocks_in}
+use Rattle.imagefile.specs.Image.{block_content, block_length, blocks_in}
 use Rattle.imagefile.proofs.BlockWrites.{part_long, ends_before, block_before, block_here}
 use Rattle.imagefile.proofs.codec.put_blocks.Goals as goal
 
@@ -21,11 +21,10 @@ loop-place-preserved c =
     let room : size * place + size ≤ length bytes = ends_before size place (length blocks) (length bytes) below
     (c.loop-place.auto.bytes ∙ c.requires ∙ ap (λ n. n * length blocks) (sym is)) in
     let long : length part ≡ k = part_long (size * place) size k bytes part room step c.put_block.ensures.long in
+    let words : block_content form part ≡ Some (get_or blocks place []) = grind (arith, common_steps) in
     λ i less. ⊎_elim
     (λ here. ap (blocks_in form (put_mid (size * place) k bytes part)) here
-    ∙ block_here form size place k bytes part is step room long ∙ c.put_block.ensures.words
-    ∙ ap Some (get_or_read blocks place c.index-blocks-place.result below c.index-blocks-place.is [])
-    ∙ ap (λ j. Some (get_or blocks j [])) (sym here))
+    ∙ block_here form size place k bytes part is step room long ∙ words ∙ ap (λ j. Some (get_or blocks j [])) (sym here))
     (λ other. block_before form size place k bytes part is step room long i (omega (arith, less, other))
     ∙ c.loop-place.invariant i (omega (arith, less, other)))
     (cases_eq i place)
