@@ -10,7 +10,7 @@ use Rattle.std.specs.Option.{option_map_or}
 use Rattle.lru.specs.LruCache.{lru_cache, put_entries, promoted}
 use Rattle.lru.proofs.Splits.{Contains-cons, Contains-nil}
 use Rattle.lru.proofs.CallerLemmas.{Contains-put_entries, Contains-promoted, Contains-lookup, Contains-remove_entry}
-use Rattle.blockdisk.specs.Disk.{Contents}
+use Rattle.blockdisk.specs.Disk.{Contents, SameOutside}
 use Rattle.blockcache.specs.Cache.{Kept, AreHeld, IsCached, used, without}
 
 same_key : (n m : ℕ) → nat_eq n m ≡ true → m ≡ n
@@ -111,3 +111,23 @@ pub held_beside : (entries : List (ℕ × List ℕ)) (contents now : Contents) (
     → lookup (nat_eq n) entries ≡ None → ((m : ℕ) → (m ≡ n → ⊥) → now m ≡ contents m) → AreHeld entries now
 held_beside entries contents now n held none others e is =
     others e.0 (λ here. found_somewhere n entries e is here none) ∙ held e is
+
+-- what is not found is not found after an entry is taken out
+pub none_without : (m n : ℕ) (es : List (ℕ × List ℕ)) → lookup (nat_eq m) es ≡ None
+    → lookup (nat_eq m) (remove_entry (nat_eq n) es) ≡ None
+none_without m n [] none = refl
+none_without m n (f ∷ es) none = (elim (nat_eq m f.0) as (λ b. nat_eq m f.0 ≡ b
+    → lookup (nat_eq m) (remove_entry (nat_eq n) (f ∷ es)) ≡ None) [
+      | true ↦ λ t. let none' = rw t at none in absurd (none_some f.1 none')
+      | false ↦ λ t. let none' = rw t at none in (elim (nat_eq n f.0) as (λ b. nat_eq n f.0 ≡ b
+          → lookup (nat_eq m) (remove_entry (nat_eq n) (f ∷ es)) ≡ None) [
+            | true ↦ λ u. rw u none'
+            | false ↦ λ u. rw (u, t) (none_without m n es none')
+          ]) refl
+    ]) refl
+
+-- what is kept of other blocks stays, whatever becomes of those of a set of blocks
+pub held_outside : (In : ℕ → Type 0) (entries : List (ℕ × List ℕ)) (contents now : Contents) → AreHeld entries contents
+    → ((n : ℕ) → In n → lookup (nat_eq n) entries ≡ None) → SameOutside In contents now → AreHeld entries now
+held_outside In entries contents now held none others e is =
+    others e.0 (λ within. found_somewhere e.0 entries e is refl (none e.0 within)) ∙ held e is

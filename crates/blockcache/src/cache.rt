@@ -1,10 +1,10 @@
-ghost use Rattle.std.specs.Prelude.{◌≡◌, ◌+◌, ◌<◌, ◌≤◌, Some, None, Ok, IfOk, IfErr, OnOk, OnErr, IfSome, [], nat_eq};
-ghost use Rattle.std.specs.Prelude.{length};
+ghost use Rattle.std.specs.Prelude.{◌≡◌, ◌+◌, ◌<◌, ◌≤◌, ◌^◌, ℕ, List, Some, None, Ok, IfOk, IfErr, OnOk, OnErr, IfSome};
+ghost use Rattle.std.specs.Prelude.{[], Contains, length, nat_eq};
 ghost use Rattle.std.specs.NonZero.{non_zero_usize_get};
 ghost use Rattle.std.specs.Map.{lookup};
 ghost use Rattle.lru.specs.LruCache.{lru_cache};
-ghost use Rattle.blockdisk.specs.Calls.{IsRead, IsRunRead, IsVerify, IsWrite, IsSync};
-ghost use Rattle.blockdisk.specs.Disk.{IsWithin};
+ghost use Rattle.blockdisk.specs.Calls.{IsRead, IsRunRead, IsVerify, IsWrite, IsRunWrite, IsSync};
+ghost use Rattle.blockdisk.specs.Disk.{IsInRun, IsWithin};
 ghost use Rattle.blockcache.specs.Cache.{AreHeld, IsCached, used, without, emptied};
 
 use blockdisk::{Disk, Fault, NoMemory};
@@ -83,6 +83,18 @@ impl<D: Disk> Cached<D> {
         let _kept = self.cache.len(); // no block is kept twice
         let _block = self.cache.pop(&n);
     }
+
+    /// Keeps nothing of so many neighbouring blocks any more, from one on.
+    fn forget_run(&mut self, first: u32, count: u32)
+        requires { first + count < 2 ^ 32 }
+        ensures none { (n : ℕ) → IsInRun first count n → lookup (nat_eq n) self.new.cache.entries ≡ None }
+        ensures no_others { (e : ℕ × List ℕ) → Contains self.new.cache.entries e → Contains self.old.cache.entries e }
+        ensures inner { self.new.inner ≡ self.old.inner }
+    {
+        for number in first..first + count {
+            self.forget(number);
+        }
+    }
 }
 
 impl<D: Disk> Disk for Cached<D> {
@@ -155,6 +167,22 @@ impl<D: Disk> Disk for Cached<D> {
         self.inner.write(n, block)?;
         self.keep(n, block);
         Ok(())
+    }
+
+    /// A run of several blocks goes past those that are kept, and nothing is kept of it any more: it would drive the
+    /// others out. A single block is written as by `write`.
+    fn write_run(&mut self, first: u32, blocks: &[Block]) -> Result<(), Fault>
+        requires { first + length blocks.now ≤ (D.state self.old.inner).size }
+        ensures writes { IsRunWrite first blocks.now (D.state self.old.inner) (D.state self.new.inner) result }
+        ensures none { (length blocks.now ≡ 1 → ⊥) → (n : ℕ) → IsInRun first (length blocks.now) n
+            → lookup (nat_eq n) self.new.cache.entries ≡ None }
+    {
+        if blocks.len() == 1 {
+            return self.write(first, &blocks[0]);
+        }
+        let _size = self.blocks(); // no more than a u32 counts
+        self.forget_run(first, blocks.len() as u32);
+        self.inner.write_run(first, blocks)
     }
 
     fn sync(&mut self) -> Result<(), Fault>

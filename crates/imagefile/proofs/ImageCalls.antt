@@ -1,13 +1,13 @@
 -- The calls of a disk over an image, from what a file promises of its own.
 use Rattle.std.proofs.Common.{◌≡◌, ◌+◌, ◌*◌, ◌<◌, ℕ, length, List, Result, Ok, Err, Some, None, OnOk}
 use Rattle.std.proofs.Common.{OnErr, IsErrOf, refl, Option}
-use Rattle.blockdisk.specs.Disk.{SameDisk, Syncs, Fails, AreRead, AreVerified, IsWithin, one_more}
-use Rattle.blockdisk.specs.Calls.{IsRead, IsRunRead, IsVerify, IsWrite}
+use Rattle.blockdisk.specs.Disk.{SameDisk, Syncs, Fails, AreRead, AreVerified, HoldRun, IsWithin, one_more}
+use Rattle.blockdisk.specs.Calls.{IsRead, IsRunRead, IsVerify, IsWrite, IsRunWrite}
 use Rattle.blockdisk.specs.declared.fault.Fault.{Fault}
 use Rattle.blockdisk.specs.declared.fault.Fault.TheVariants.{Device, Damaged}
 use Rattle.imagefile.specs.File.{FileState, SameFile, FileKeeps, FileWrites, FileSyncs, FileFails}
 use Rattle.imagefile.specs.Image.{block_length, image_contents, image_state}
-use Rattle.imagefile.specs.ImageLaws.{image_keeps, image_writes, image_syncs, image_fails}
+use Rattle.imagefile.specs.ImageLaws.{image_keeps, image_writes, image_writes_run, image_syncs, image_fails}
 use Rattle.imagefile.specs.declared.form.Form.{Form}
 
 same_disk : (form : Form) (blocks : ℕ) (s s' : FileState) → SameFile s s'
@@ -89,6 +89,21 @@ block_written form blocks n at len s s' words answer place long put moves writes
   moves = moves;
   writes = λ h. image_writes form blocks s s' n (rw (← place, ← long) (writes h));
   same = same_disk form blocks s s' same;
+  device = device;
+  failed = failed;
+  served = served;
+}
+
+pub run_written : (form : Form) (size first at len : ℕ) (s s' : FileState) (blocks : List (List ℕ))
+    (answer : Result (Unit {0}) Fault) → at ≡ block_length form * first → len ≡ block_length form * length blocks
+    → (s'.honest → OnOk answer (HoldRun (image_contents form s'.bytes) first blocks))
+    → (s'.honest → FileWrites at len s s') → SameFile s s' → (IsErrOf answer Damaged → ⊥)
+    → (IsErrOf answer Device → s'.failures ≡ one_more s.failures) → OnOk answer (s'.failures ≡ s.failures)
+    → IsRunWrite first blocks (image_state form size s) (image_state form size s') answer
+run_written form size first at len s s' blocks answer place long put writes same device failed served = record {
+  put = put;
+  writes = λ h. image_writes_run form size s s' first (length blocks) (rw (← place, ← long) (writes h));
+  same = same_disk form size s s' same;
   device = device;
   failed = failed;
   served = served;

@@ -5,3 +5,4 @@ pub mod Groups
 pub mod CallLaws
 pub mod ImageCalls
 pub mod BlockReads
+pub mod BlockWrites

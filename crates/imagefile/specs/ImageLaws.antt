@@ -2,7 +2,8 @@
 use Rattle.std.specs.Prelude.{◌≡◌, ◌+◌, ◌*◌, ◌||◌, ℕ, zero, suc, Bool, true, false, ◌∷◌, Some, None, if◌then◌else◌}
 use Rattle.std.proofs.Common.{inl, inr, ⊎_elim, refl, sym, ◌∙◌, ap, arith}
 use Rattle.std.proofs.lemmas.Bool.{cases_eq, or_parts, or_from, or_left, cond-true, cond-false, false_from_ne_true}
-use Rattle.blockdisk.specs.Disk.{Contents, MayLeave, Passes, Keeps, Writes, Syncs, Fails}
+use Rattle.blockdisk.specs.Disk.{Contents, MayLeave, Passes, Keeps, Writes, Syncs, Fails, IsInRun, Modifies}
+use Rattle.blockdisk.specs.RunLaws.{run_modifies}
 use Rattle.imagefile.specs.File.{Bytes, Remains, FileState, MayRemain, Inside, window, FilePasses, FileKeeps}
 use Rattle.imagefile.specs.File.{FileWrites, FileSyncs, FileFails}
 use Rattle.imagefile.specs.Image.{block_length, block_content, image_contents, opened_in, InBlock, ReadsAs, image_state}
@@ -40,6 +41,18 @@ first_in at len m is = record { low = omega arith; high = omega (arith, is) }
 apart : (form : Form) (n m p : ℕ) → (m ≡ n → ⊥) → InBlock form m p → InBlock form n p → ⊥
 apart Wide n m p other there here = other (omega (arith, there.low, there.high, here.low, here.high))
 apart Packed n m p other there here = other (omega (arith, there.low, there.high, here.low, here.high))
+
+-- no byte of the blocks of a run is in another block
+run_apart : (form : Form) (first count m p : ℕ) → (IsInRun first count m → ⊥) → InBlock form m p
+    → Inside (block_length form * first) (block_length form * count) p → ⊥
+run_apart Wide first count m p other there here = other (
+  omega (arith, there.low, there.high, here.low, here.high),
+  omega (arith, there.low, there.high, here.low, here.high),
+)
+run_apart Packed first count m p other there here = other (
+  omega (arith, there.low, there.high, here.low, here.high),
+  omega (arith, there.low, there.high, here.low, here.high),
+)
 
 -- Open blocks
 
@@ -166,6 +179,17 @@ module _ (form : Form) (blocks : ℕ) where
           (λ p inside. writes.is_open p (apart form n m p other inside));
       time = image_passes writes.time;
     }
+
+    pub image_writes_run : (first count : ℕ)
+        → FileWrites (block_length form * first) (block_length form * count) s s'
+        → Modifies (IsInRun first count) (image_state form blocks s) (image_state form blocks s')
+    image_writes_run first count writes = run_modifies first count (image_state form blocks s)
+        (image_state form blocks s')
+        (λ m out. content-same form s.bytes s'.bytes m
+        (λ p inside. writes.bytes p (run_apart form first count m p out inside)))
+        (λ m out. opened-same s.is_open s'.is_open (block_length form * m) (block_length form)
+        (λ p inside. writes.is_open p (run_apart form first count m p out inside)))
+        (image_passes writes.time)
 
     pub image_fails : FileFails s s' → Fails (image_state form blocks s) (image_state form blocks s')
     image_fails fails = record {

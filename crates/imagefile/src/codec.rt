@@ -1,6 +1,6 @@
-ghost use Rattle.std.specs.Prelude.{◌≡◌, ◌+◌, ◌*◌, ◌<◌, ◌≤◌, ◌^◌, ℕ, length};
-ghost use Rattle.blockdisk.specs.Calls.{IsRead, IsRunRead, IsVerify, IsWrite};
-ghost use Rattle.blockdisk.specs.Disk.{AreRead, IsWithin};
+ghost use Rattle.std.specs.Prelude.{◌≡◌, ◌+◌, ◌*◌, ◌<◌, ◌≤◌, ◌^◌, ℕ, Some, length};
+ghost use Rattle.blockdisk.specs.Calls.{IsRead, IsRunRead, IsVerify, IsWrite, IsRunWrite};
+ghost use Rattle.blockdisk.specs.Disk.{AreRead, HoldRun, IsWithin};
 ghost use Rattle.imagefile.specs.File.{SameFile};
 ghost use Rattle.imagefile.specs.Image.{block_content, block_length, blocks_in, image_state};
 ghost use Rattle.imagefile.specs.declared.form.Form.TheVariants.{Wide, Packed};
@@ -12,7 +12,7 @@ use words36::{
     block_to_bytes, block_to_nine, first_bad_word,
 };
 
-/// How many neighbouring blocks are read or looked at by one call of the file.
+/// How many neighbouring blocks are read, looked at or written by one call of the file.
 const GROUP_BLOCKS: u32 = 8;
 
 /// The words of block n of the image that this file is.
@@ -112,6 +112,33 @@ pub(crate) fn write_block<F: Durable>(
         Form::Wide => file.write_at(at, &block_to_bytes(block)),
         Form::Packed => file.write_at(at, &block_to_nine(block)),
     }
+}
+
+/// Writes the words of neighbouring blocks of the image that this file is, from one on.
+///
+/// # Errors
+///
+/// As of a disk: `Device` where the file fails.
+pub(crate) fn write_blocks<F: Durable>(
+    form: Form,
+    file: &mut F,
+    first: u32,
+    blocks: &[Block],
+) -> Result<(), Fault>
+    requires fits { first + length blocks.now < 2 ^ 32 }
+    requires inside { (F.state file.old).honest
+        → block_length form * (first + length blocks.now) ≤ (F.state file.old).size }
+    ensures same { SameFile (F.state file.old) (F.state file.new) }
+    ensures writes { (size : ℕ) → IsRunWrite first blocks.now (image_state form size (F.state file.old))
+        (image_state form size (F.state file.new)) result }
+{
+    let mut done = 0;
+    while done < blocks.len() {
+        let stop = blocks.len().min(done + GROUP_BLOCKS as usize);
+        write_group(form, file, first + done as u32, &blocks[done..stop])?;
+        done = stop;
+    }
+    Ok(())
 }
 
 /// The place of a block's first byte.
@@ -276,4 +303,49 @@ fn verify_packed<F: Durable>(file: &mut F, first: u32, end: u32) -> Result<Optio
     let group = &mut bytes[..(end - first) as usize * PACKED_BYTES];
     file.read_at(place_of(Form::Packed, first), group)?;
     Ok(None)
+}
+
+/// Writes neighbouring blocks by one call.
+fn write_group<F: Durable>(
+    form: Form,
+    file: &mut F,
+    first: u32,
+    blocks: &[Block],
+) -> Result<(), Fault>
+    requires few { length blocks.now ≤ 8 }
+    requires inside { (F.state file.old).honest
+        → block_length form * (first + length blocks.now) ≤ (F.state file.old).size }
+    ensures same { SameFile (F.state file.old) (F.state file.new) }
+    ensures writes { (size : ℕ) → IsRunWrite first blocks.now (image_state form size (F.state file.old))
+        (image_state form size (F.state file.new)) result }
+{
+    let mut bytes = [0; GROUP_BLOCKS as usize * BLOCK_BYTES];
+    let group = &mut bytes[..blocks.len() * form.block_bytes() as usize];
+    put_blocks(form, blocks, group);
+    file.write_at(place_of(form, first), group)
+}
+
+/// Puts the bytes of blocks into as many places, one behind the other.
+fn put_blocks(form: Form, blocks: &[Block], bytes: &mut [u8])
+    requires { length bytes.old ≡ block_length form * length blocks.now }
+    ensures long { length bytes.new ≡ length bytes.old }
+    ensures words { HoldRun (blocks_in form bytes.new) 0 blocks.now }
+{
+    let size = form.block_bytes() as usize;
+    for place in 0..blocks.len() {
+        let start = size * place;
+        put_block(form, &blocks[place], &mut bytes[start..start + size]);
+    }
+}
+
+/// Puts the bytes of a block into as many places.
+fn put_block(form: Form, block: &Block, bytes: &mut [u8])
+    requires { length bytes.old ≡ block_length form }
+    ensures long { length bytes.new ≡ length bytes.old }
+    ensures words { block_content form bytes.new ≡ Some block.now }
+{
+    match form {
+        Form::Wide => bytes.copy_from_slice(&block_to_bytes(block)),
+        Form::Packed => bytes.copy_from_slice(&block_to_nine(block)),
+    }
 }

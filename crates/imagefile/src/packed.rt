@@ -4,7 +4,7 @@ ghost use Rattle.imagefile.specs.ImageLaws.{image_counts_now, image_only_now, im
 ghost use Rattle.imagefile.specs.Measured.{IsImageOf, IsNoImage};
 ghost use Rattle.imagefile.specs.declared.form.Form.TheVariants.{Packed};
 
-use crate::codec::{read_block, read_blocks, verify_blocks, write_block};
+use crate::codec::{read_block, read_blocks, verify_blocks, write_block, write_blocks};
 use crate::{Durable, Form, ImageDisk, ImageError};
 use blockdisk::{Disk, Fault};
 use words36::Block;
@@ -81,6 +81,11 @@ impl<F: Durable> Disk for PackedDisk<F> {
 
     fn write(&mut self, n: u32, block: &Block) -> Result<(), Fault> {
         write_block(Form::Packed, &mut self.file, n, block)
+    }
+
+    fn write_run(&mut self, first: u32, blocks: &[Block]) -> Result<(), Fault> {
+        let _size = self.blocks(); // no more than a u32 counts
+        write_blocks(Form::Packed, &mut self.file, first, blocks)
     }
 
     fn sync(&mut self) -> Result<(), Fault> {
