@@ -13,7 +13,7 @@ use words36::{
 };
 
 /// How many neighbouring blocks are read, looked at or written by one call of the file.
-const GROUP_BLOCKS: u32 = 8;
+const GROUP_BLOCKS: u32 = 16;
 
 /// The words of block n of the image that this file is.
 ///
@@ -182,7 +182,7 @@ fn read_group<F: Durable>(
     first: u32,
     blocks: &mut [Block],
 ) -> Result<Option<u32>, Fault>
-    requires few { length blocks.old ≤ 8 }
+    requires few { length blocks.old ≤ 16 }
     requires fits { first + length blocks.old < 2 ^ 32 }
     requires inside { (F.state file.old).honest
         → block_length form * (first + length blocks.old) ≤ (F.state file.old).size }
@@ -242,7 +242,7 @@ fn block_of(form: Form, bytes: &[u8]) -> Option<Block>
 fn group_end(first: u32, end: u32) -> u32
     requires { first < end }
     ensures some { first < result }
-    ensures few { result ≤ first + 8 }
+    ensures few { result ≤ first + 16 }
     ensures within { result ≤ end }
 {
     if end - first > GROUP_BLOCKS {
@@ -260,7 +260,7 @@ fn verify_group<F: Durable>(
     end: u32,
 ) -> Result<Option<u32>, Fault>
     requires some { first < end }
-    requires few { end ≤ first + 8 }
+    requires few { end ≤ first + 16 }
     requires inside { (F.state file.old).honest → block_length form * end ≤ (F.state file.old).size }
     ensures same { SameFile (F.state file.old) (F.state file.new) }
     ensures verifies { (blocks : ℕ) → IsVerify first end (image_state form blocks (F.state file.old))
@@ -275,7 +275,7 @@ fn verify_group<F: Durable>(
 /// A group of eight bytes to a word: its top bits are looked at, and no word is made.
 fn verify_wide<F: Durable>(file: &mut F, first: u32, end: u32) -> Result<Option<u32>, Fault>
     requires some { first < end }
-    requires few { end ≤ first + 8 }
+    requires few { end ≤ first + 16 }
     requires inside { (F.state file.old).honest → 1024 * end ≤ (F.state file.old).size }
     ensures same { SameFile (F.state file.old) (F.state file.new) }
     ensures verifies { (blocks : ℕ) → IsVerify first end (image_state Wide blocks (F.state file.old))
@@ -293,7 +293,7 @@ fn verify_wide<F: Durable>(file: &mut F, first: u32, end: u32) -> Result<Option<
 /// A group of nine bytes to two words: any bytes are words, where they can be read.
 fn verify_packed<F: Durable>(file: &mut F, first: u32, end: u32) -> Result<Option<u32>, Fault>
     requires some { first < end }
-    requires few { end ≤ first + 8 }
+    requires few { end ≤ first + 16 }
     requires inside { (F.state file.old).honest → 576 * end ≤ (F.state file.old).size }
     ensures same { SameFile (F.state file.old) (F.state file.new) }
     ensures verifies { (blocks : ℕ) → IsVerify first end (image_state Packed blocks (F.state file.old))
@@ -312,7 +312,7 @@ fn write_group<F: Durable>(
     first: u32,
     blocks: &[Block],
 ) -> Result<(), Fault>
-    requires few { length blocks.now ≤ 8 }
+    requires few { length blocks.now ≤ 16 }
     requires inside { (F.state file.old).honest
         → block_length form * (first + length blocks.now) ≤ (F.state file.old).size }
     ensures same { SameFile (F.state file.old) (F.state file.new) }

@@ -16,7 +16,7 @@ use std::alloc::Global;
 use words36::{BLOCK_WORDS, Block, Word};
 
 /// How many neighbouring data blocks are read by one call of the disk at most.
-const RUN_BLOCKS: usize = 8;
+const RUN_BLOCKS: usize = 16;
 
 /// Reads a data block.
 pub(crate) fn read_data<D: Disk>(disk: &mut D, n: u32) -> Result<Block, BodyError>
@@ -128,7 +128,7 @@ fn get_run<D: Disk>(
     words: &mut Vec<Word>,
 ) -> Result<(), BodyError>
     requires inside { first + count ≤ (D.state disk.old).size }
-    requires short { count ≤ 8 }
+    requires short { count ≤ 16 }
     requires few { length words.old.items ≤ wanted }
     requires room { wanted ≤ vec_capacity words.old }
     ensures room { wanted ≤ vec_capacity words.new }
