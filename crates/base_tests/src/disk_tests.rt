@@ -67,6 +67,41 @@ fn the_first_damaged_block_is_named(rt: HostRuntime) -> Result<(), Fail> {
     Ok(())
 }
 
+/// Blocks 2 to 5 are written as one run and read as one; then block 4 is damaged.
+#[test]
+fn a_run_is_written_and_read(rt: HostRuntime) -> Result<(), Fail> {
+    let mut disk = MemDisk::new(rt.alloc(), 8, 4)?;
+    assert_eq!(rt; disk.blocks(), 8);
+    let blocks = [filled(2), filled(3), filled(4), filled(5)];
+    assert_eq!(rt; disk.write_run(2, &blocks), Ok(()));
+    assert_eq!(rt; disk.blocks(), 8);
+    let mut places = [filled(9); 4];
+    assert_eq!(rt; disk.read_run(2, &mut places), Ok(None));
+    assert!(rt; places == blocks);
+    expect_block(&rt, &mut disk, 1, &filled(0));
+    expect_block(&rt, &mut disk, 6, &filled(0));
+    assert_eq!(rt; disk.blocks(), 8);
+    disk.damage(4);
+    let mut places = [filled(9); 4];
+    assert_eq!(rt; disk.read_run(2, &mut places), Ok(Some(4)));
+    assert!(rt; places[0] == blocks[0] && places[1] == blocks[1]);
+    assert_eq!(rt; disk.read_run(8, &mut []), Ok(None));
+    Ok(())
+}
+
+/// The record has room for two blocks of three.
+#[test]
+fn a_run_that_finds_no_room_answers_device(rt: HostRuntime) -> Result<(), Fail> {
+    let mut disk = MemDisk::new(rt.alloc(), 8, 2)?;
+    assert_eq!(rt; disk.blocks(), 8);
+    let blocks = [filled(2), filled(3), filled(4)];
+    assert_eq!(rt; disk.write_run(2, &blocks), Err(Fault::Device));
+    expect_block(&rt, &mut disk, 2, &filled(2));
+    expect_block(&rt, &mut disk, 3, &filled(3));
+    expect_block(&rt, &mut disk, 4, &filled(0));
+    Ok(())
+}
+
 #[test]
 fn a_full_record_answers_device(rt: HostRuntime) -> Result<(), Fail> {
     let mut disk = MemDisk::new(rt.alloc(), 2, 2)?;

@@ -11,10 +11,14 @@ pub(crate) enum Asked {
     Sync,
     /// A look at the blocks from the first on before the second.
     Verify(u32, u32),
+    /// Three neighbours are read.
+    ReadRun(u32),
+    /// Three neighbours are written, each filled with one number.
+    WriteRun(u32, u64),
 }
 
-/// What it answers: the number that fills the block that was read; the first damaged block that was met, and 0 where
-/// there is none; and 0 for a write or a sync.
+/// What it answers: the number that fills the block that was read, or the last one of a run; the first damaged block
+/// that was met, or 0 of a look that met none; and 0 for a write or a sync.
 pub(crate) type Answer = Result<u64, Fault>;
 
 /// A block whose words are all this number.
@@ -66,6 +70,18 @@ fn expect_verified<D: Disk>(rt: &impl Abort, disk: &mut D, first: u32, end: u32,
     }
 }
 
+/// A read of three neighbours is answered so: the number that fills the last, or the damaged block.
+fn expect_run_read<D: Disk>(rt: &impl Abort, disk: &mut D, first: u32, wanted: Answer) {
+    let mut places = [filled(0); 3];
+    assert!(rt; first < 100 && first + 3 <= disk.blocks());
+    match (disk.read_run(first, &mut places), wanted) {
+        (Ok(None), Ok(number)) => assert!(rt; places[2] == filled(number)),
+        (Ok(Some(bad)), Ok(number)) => assert_eq!(rt; u64::from(bad), number),
+        (Err(fault), Err(other)) => assert_eq!(rt; fault, other),
+        _ => panic!(rt; "another answer"),
+    }
+}
+
 /// These calls of a disk, one after the other, are answered so.
 pub(crate) fn expect_calls<D: Disk>(rt: &impl Abort, disk: &mut D, calls: &[(Asked, Answer)]) {
     for &(asked, wanted) in calls {
@@ -77,6 +93,11 @@ pub(crate) fn expect_calls<D: Disk>(rt: &impl Abort, disk: &mut D, calls: &[(Ask
             }
             Asked::Sync => expect_done(rt, disk.sync(), wanted),
             Asked::Verify(first, end) => expect_verified(rt, disk, first, end, wanted),
+            Asked::ReadRun(first) => expect_run_read(rt, disk, first, wanted),
+            Asked::WriteRun(first, number) => {
+                assert!(rt; first < 100 && first + 3 <= disk.blocks());
+                expect_done(rt, disk.write_run(first, &[filled(number); 3]), wanted);
+            }
         }
     }
 }

@@ -46,6 +46,25 @@ fn a_block_that_is_kept_asks_no_device(rt: HostRuntime) -> Result<(), Fail> {
     Ok(())
 }
 
+/// Three neighbours that are written go past block 20, which was kept, and a read of it asks the device again; a read of
+/// three asks it for each.
+#[test]
+fn a_run_goes_past_what_is_kept(rt: HostRuntime) -> Result<(), Fail> {
+    let calls = [
+        (Asked::ReadRun(19), Ok(19)),
+        (Asked::Read(20), Ok(20)),
+        (Asked::WriteRun(19, 5), Ok(0)),
+        (Asked::ReadRun(19), Ok(5)),
+        (Asked::Read(20), Ok(5)),
+        (Asked::Read(20), Ok(5)),
+        (Asked::Read(21), DEVICE),
+    ];
+    let under = [(Asked::Read(19), Ok(5)), (Asked::Read(21), Ok(5))];
+    let one = NonZeroUsize::MIN;
+    expect_cached(&rt, rt.alloc(), one, (9, Failing::All), &calls, &under)?;
+    Ok(())
+}
+
 /// Where there is room for one block, the one used last is kept.
 #[test]
 fn another_block_takes_the_place(rt: HostRuntime) -> Result<(), Fail> {

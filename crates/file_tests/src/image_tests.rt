@@ -250,6 +250,55 @@ fn damaged_blocks_of_an_image(rt: HostRuntime) -> Result<(), Fail> {
     Ok(())
 }
 
+/// Twenty neighbours of an image of forty blocks are written and read, in both forms.
+#[test]
+fn runs_of_an_image(rt: HostRuntime) -> Result<(), Fail> {
+    for (form, bytes) in [(Form::Wide, 40960), (Form::Packed, 23040)] {
+        let zeros = vec![in rt.alloc(); 0; bytes]?;
+        let file = MemFile::new(rt.alloc(), zeros.as_slice(), 20);
+        drop(zeros);
+        let mut disk = match ImageDisk::of_form(file?, form) {
+            Ok(disk) => disk,
+            Err(_refused) => panic!(rt; "the file is an image"),
+        };
+        expect_run(&rt, &mut disk, 3);
+        expect_block(&rt, &mut disk, 2, Ok(filled(0)));
+        expect_block(&rt, &mut disk, 23, Ok(filled(0)));
+    }
+    Ok(())
+}
+
+/// A run of twenty blocks from one on is written, and reads as it was written.
+fn expect_run<D: Disk>(rt: &impl Abort, disk: &mut D, first: u32) {
+    let mut blocks = [filled(0); 20];
+    for place in 0..20 {
+        blocks[place] = filled(100 + place as u64);
+    }
+    assert!(rt; first <= 20 && disk.blocks() == 40);
+    assert_eq!(rt; disk.write_run(first, &blocks), Ok(()));
+    assert!(rt; disk.blocks() == 40);
+    let mut places = [filled(9); 20];
+    assert_eq!(rt; disk.read_run(first, &mut places), Ok(None));
+    assert!(rt; places == blocks);
+}
+
+/// Twenty blocks of zeros, of which block 17 has a word with top bits, its last one.
+#[test]
+fn a_damaged_block_ends_a_run(rt: HostRuntime) -> Result<(), Fail> {
+    let mut bytes = vec![in rt.alloc(); 0; 20480]?;
+    bytes[17 * 1024 + 1019] = 0x10;
+    let file = MemFile::new(rt.alloc(), bytes.as_slice(), 1);
+    drop(bytes);
+    let mut disk = disk_over(&rt, file?);
+    assert_eq!(rt; disk.blocks(), 20);
+    let mut places = [filled(9); 20];
+    assert_eq!(rt; disk.read_run(0, &mut places), Ok(Some(17)));
+    assert!(rt; places[16] == filled(0));
+    assert_eq!(rt; disk.read_run(0, &mut places[..17]), Ok(None));
+    assert_eq!(rt; disk.read_run(18, &mut places[..2]), Ok(None));
+    Ok(())
+}
+
 #[test]
 fn a_file_that_is_no_image(rt: HostRuntime) -> Result<(), Fail> {
     let file = MemFile::new(rt.alloc(), &[1; 1025], 1)?;

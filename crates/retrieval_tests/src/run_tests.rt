@@ -11,6 +11,21 @@ pub(crate) fn expect_blocks(rt: &impl Abort, version: &Version, blocks: &[u32]) 
     }
 }
 
+/// Blocks 30, 31, 32 and 40: the rest of the run at each place.
+#[test]
+fn the_rest_of_a_run(rt: HostRuntime) -> Result<(), Fail> {
+    let mut version = Version::new(rt.alloc());
+    for block in [30, 31, 32, 40] {
+        version.push(block)?;
+    }
+    for (i, first, last) in [(0, 30, 32), (1, 31, 32), (2, 32, 32), (3, 40, 40)] {
+        assert!(rt; i < version.count());
+        let run = version.run_at(i);
+        assert_eq!(rt; (run.first, run.last), (first, last));
+    }
+    Ok(())
+}
+
 /// Both versions have the same blocks in the same order.
 pub(crate) fn expect_same_blocks(rt: &impl Abort, one: &Version, other: &Version) {
     assert_eq!(rt; one.count(), other.count());
