@@ -1,13 +1,13 @@
 -- How a read or a write of neighbouring blocks is made of those of fewer.
 use Rattle.std.specs.Prelude.{◌≡◌, ◌⊎◌, ◌+◌, ◌-◌, ◌<◌, ◌≤◌, ℕ, List, Option, Some, None, Result, Ok, Err, OnOk, IsOk}
-use Rattle.std.specs.Prelude.{IsErrOf, false, [], ◌∷◌, length, get_or, take, drop}
+use Rattle.std.specs.Prelude.{IsErrOf, false, [], length, get_or, take, drop}
 use Rattle.std.proofs.Common.{inl, inr, ⊎_elim, refl, ap, ◌∙◌, sym, arith, subst}
 use Rattle.std.proofs.lemmas.Bool.{cases_lt}
 use Rattle.std.proofs.lemmas.List.{get_or-take, get_or-drop, length-take, length-drop}
 use Rattle.blockdisk.specs.Calls.{IsRunRead, IsWrite, IsRunWrite}
-use Rattle.blockdisk.specs.Disk.{Contents, DiskState, MayLeave, Passes, Keeps, SameDisk, AreRead, HoldRun, IsInRun}
+use Rattle.blockdisk.specs.Disk.{Contents, DiskState, MayLeave, Passes, Keeps, SameDisk, HoldRun, IsInRun}
 use Rattle.blockdisk.specs.Disk.{SameOutside, Near, Modifies, one_more}
-use Rattle.blockdisk.specs.Laws.{same_contents, keeps_on, passes_start, passes_weaker, same_disk_start, same_disk_on}
+use Rattle.blockdisk.specs.Laws.{same_contents, keeps_on, passes_weaker, same_disk_start, same_disk_on}
 use Rattle.blockdisk.specs.Laws.{modifies_start, modifies_on, modifies_wider, writes_modifies}
 use Rattle.blockdisk.specs.declared.fault.Fault.{Fault}
 use Rattle.blockdisk.specs.declared.fault.Fault.TheVariants.{Device, Damaged}

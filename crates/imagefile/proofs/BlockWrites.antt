@@ -1,6 +1,6 @@
 -- Neighbouring blocks that are written by one call: the bytes of each, one behind the other.
-use Rattle.std.proofs.Common.{◌≡◌, ◌∙◌, ◌⊎◌, ◌+◌, ◌*◌, ◌-◌, ◌<◌, ◌≤◌, ℕ, List, [], length, get_or, take, drop}
-use Rattle.std.proofs.Common.{Result, Ok, Err, OnOk, Some, None, refl, sym, ap, arith}
+use Rattle.std.proofs.Common.{◌≡◌, ◌∙◌, ◌+◌, ◌*◌, ◌-◌, ◌<◌, ◌≤◌, ℕ, List, length, take, drop}
+use Rattle.std.proofs.Common.{Result, Ok, Err, OnOk, refl, sym, ap, arith}
 use Rattle.std.proofs.lemmas.List.{drop-take, length-take, length-drop}
 use Rattle.std.proofs.lemmas.Slice.{take-put_mid_below, between-put_mid}
 use borrow.Rule.Slice.PartMut.{put_mid}

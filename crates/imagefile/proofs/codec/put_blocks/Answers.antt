@@ -24,7 +24,8 @@ loop-place-preserved c =
     let words : block_content form part ≡ Some (get_or blocks place []) = grind (arith, common_steps) in
     λ i less. ⊎_elim
     (λ here. ap (blocks_in form (put_mid (size * place) k bytes part)) here
-    ∙ block_here form size place k bytes part is step room long ∙ words ∙ ap (λ j. Some (get_or blocks j [])) (sym here))
+    ∙ block_here form size place k bytes part is step room long ∙ words
+    ∙ ap (λ j. Some (get_or blocks j [])) (sym here))
     (λ other. block_before form size place k bytes part is step room long i (omega (arith, less, other))
     ∙ c.loop-place.invariant i (omega (arith, less, other)))
     (cases_eq i place)
