@@ -75,7 +75,7 @@ module _ (pack : Pack) (s : State) (j0 : Job) (there : job_at s 1 ≡ Some j0) (
 
   -- the words of the block are put behind those that were
   pub puts_done : (me : ℕ) (j : Job) (o : Output) (count : ℕ) (t : State) → IsJob me j
-      → channel_at j 2 ≡ Some (writing o) → 0 < count → count ≤ 128 → Lists count j.core
+      → channel_at j 2 ≡ Some (writing o) → 0 < count → count ≤ 2048 → Lists count j.core
       → Steps pack (at s j) (asks_out moment) Done t
       → t ≡ at s (with_open j 2 (writing (record o {
         pending = record o.pending { body = splice o.pending.body o.next (window j.core block_address count) };
@@ -86,7 +86,7 @@ module _ (pack : Pack) (s : State) (j0 : Job) (there : job_at s 1 ≡ Some j0) (
       let c = writing o in
       let row = row_done pack s j0 there j (out_answer pack (at s j) j c list_words) (out_done j 2 c list_words)
       (stopped_in j 2 c) t (on_open pack s j0 there j 2 c _ t held call.1) in
-      let names = listed j.core count some (omega arith) is.core lists in
+      let names = listed j.core count some few is.core lists in
       let words : joined j.core (part count ∷ []) ≡ window j.core block_address count =
       append-nil _ ∙ range_window j.core block_address count in
       row.1

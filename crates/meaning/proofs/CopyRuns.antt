@@ -82,8 +82,8 @@ module _ (pack : Pack) (s : State) (j0 : Job) (there : job_at s 1 ≡ Some j0) (
       let o = side to kind (with_body file (take (k * 128) body)) (k + 1) in
       let out : channel_at j1 2 ≡ Some (writing o) = at_other c1 1 2 (reading from v (k + 2)) (λ e. cc) ∙ is.second in
       let second =
-      puts_done pack s j0 there moment me j1 o count w is2 out some few (kept_lists j.core count ahead count
-      lists) (subst (λ x. Steps pack x (asks_out moment) Done w) first putting) in
+      puts_done pack s j0 there moment me j1 o count w is2 out some (omega arith) (kept_lists j.core count ahead
+      count lists) (subst (λ x. Steps pack x (asks_out moment) Done w) first putting) in
       let words : window core block_address count ≡ take count ahead = written j.core block_address count
       (take count ahead) (omega (arith, length-take count ahead)) (let l = is.whole.core in omega arith) in
       let long' : length (window core block_address count) ≡ count = ap length words ∙ omega (

@@ -8,7 +8,6 @@ use Rattle.std.proofs.Math.ListN.{length-set}
 use Rattle.std.proofs.lemmas.List.{get_or-set_same, length-replicate}
 use Rattle.words36.specs.declared.moment.Moment.{Moment}
 use Rattle.meaning.specs.Files.{File}
-use Rattle.meaning.specs.Costs.{blocks_of}
 use Rattle.meaning.specs.Cores.{first_free, rings_begin}
 use Rattle.meaning.specs.Jobs.{Job, State, job_at, with_job}
 use Rattle.meaning.specs.Sessions.{login_answer, new_job}
@@ -18,7 +17,7 @@ use Rattle.meaning.specs.Texts.{Spoken}
 use Rattle.meaning.specs.Transcripts.{core_words}
 use Rattle.meaning.specs.Plans.{Plan, each, calls, ends, ok, names, asks_out, reads_file, new_words}
 use Rattle.meaning.specs.Plans.{deposits, open_words}
-use Rattle.meaning.specs.Errands.{enters, creates, fills_all, keeps, gets}
+use Rattle.meaning.specs.Errands.{enters, creates, parts_of, fills_all, keeps, gets}
 use Rattle.meaning.specs.Copies.{Comes, IsJobReady, IsLineRefused, HasHalfwordExtension}
 use Rattle.meaning.specs.Copies.{AreShort, IsPrinted, IsPut, place_of, made}
 use Rattle.meaning.specs.Copies.{put_mode}
@@ -146,8 +145,8 @@ puts_are_exact pack moment me s encoding spec words said new there few come = 鈯
         鈯巁elim inr (位 (n, j', is, more). closes_done pack base j0 there0 moment open_channel
         (side (place_of me spec) b.1 (with_body (here Words) words) (n + 1)) said new j' is.second refl b.4 more)
         (parts_done pack base moment Words (PutsWords me (place_of me spec) b.1 (here Words))
-        (words_done pack base j0 there0 moment me (place_of me spec) b.1 (here Words)) (blocks_of (length words)) 0 []
-        words closing said new b.0 refl b.3 (位 some. refl)
+        (words_done pack base j0 there0 moment me (place_of me spec) b.1 (here Words)) (parts_of Words (length words)) 0
+        [] words closing said new b.0 refl b.3 (位 some. refl)
         (subst (位 u. Comes pack (Serving u) (filling Words) said new) b.2 rest))
     by Characters t all rest =
         let b = characters_begun pack base j0 there0 moment me j0 spec t (is_job me) few (ring_base me)
@@ -157,5 +156,5 @@ puts_are_exact pack moment me s encoding spec words said new there few come = 鈯
         (no_last j'.core is.whole.core is.ring) b.4 more)
         (parts_done pack base moment Characters (PutsCharacters me (place_of me spec) b.1 (here Characters))
         (characters_done pack base j0 there0 moment me (place_of me spec) b.1 (here Characters))
-        (blocks_of (length words)) 0 [] words closing said new b.0 refl b.3 (位 some. refl)
+        (parts_of Characters (length words)) 0 [] words closing said new b.0 refl b.3 (位 some. refl)
         (subst (位 u. Comes pack (Serving u) (filling Characters) said new) b.2 rest))

@@ -32,7 +32,7 @@ use Rattle.meaning.proofs.CallRuns.{at, IsJob, with_core, call_done, on_open, ro
 use Rattle.meaning.proofs.OpenRuns.{with_open, at_own, job_core, job_open, open_test}
 use Rattle.meaning.proofs.EnterRuns.{side, outputs, enter_done_by, writes_done}
 use Rattle.meaning.proofs.BlockRuns.{put_at_end}
-use Rattle.meaning.proofs.CopyRuns.{with_body, start_is}
+use Rattle.meaning.proofs.CopyRuns.{with_body, start_is, one_block}
 use Rattle.meaning.proofs.FillLaws.{PartsAreDone, PutsWords}
 use Rattle.meaning.proofs.RingRuns.{header, Ring, ring_made, setup_is, made_fresh, fresh_ready, fresh_words}
 use Rattle.meaning.proofs.RingRuns.{fresh_after, used_ready, used_words, used_after}
@@ -163,6 +163,7 @@ module _ (pack : Pack) (s : State) (j0 : Job) (there : job_at s 1 ≡ Some j0) (
       let body : splice done (k + 1) (ring_words core2 header) ≡ done ++ part =
       ap (splice done (k + 1)) words ∙ put_at_end done (k + 1) part (start_is k ∙ sym long) in
       let o' = side to kind (with_body file (done ++ part)) (k + 1 + 1) in
+      let one : k + 1 ≡ k + blocks_of count = omega (arith, one_block count some few) in
       let core3 = after_writes core2 (out_writes core2 header 7) in
       let j3 = with_core j2 core3 in
       let is3 : IsJob me j3 = job_core me j2 core3 is2 (writes_length core2 (out_writes core2 header 7)) in (
@@ -170,11 +171,12 @@ module _ (pack : Pack) (s : State) (j0 : Job) (there : job_at s 1 ≡ Some j0) (
         both.2.2 ∙ to3 ∙ ap {A = List ℕ × ℕ}
             (λ b. at s (with_open j3 2 (outputs ring_channel (side to kind (with_body file b.0) b.1))))
             (λ i. (body i, after i)),
-        record {
-          whole = job_open me j3 2 (outputs ring_channel o') is3;
-          ring = used_after core2 is2.core count few ring;
-          second = at_own j3 me 2 (outputs ring_channel o') is3 (omega arith);
-        },
+        subst (λ n. PutsCharacters me to kind file n (done ++ part) (with_open j3 2 (outputs ring_channel o'))) one
+            (record {
+              whole = job_open me j3 2 (outputs ring_channel o') is3;
+              ring = used_after core2 is2.core count few ring;
+              second = at_own j3 me 2 (outputs ring_channel o') is3 (omega arith);
+            }),
       )
     where
       two : (n : ℕ) → 0 < n → n ≤ 128 → k + 1 + blocks_of n ≡ k + 1 + 1

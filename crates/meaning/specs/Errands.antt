@@ -1,7 +1,7 @@
 -- Errands: what job 1 asks of the service where it logs in for one thing. A file is got, or put, or directories are
 -- listed.
-use Rattle.std.specs.Prelude.{◌≡◌, ℕ, ℤ, zero, suc, ◌+◌, ◌-◌, ◌&&◌, nat_le, Bool, List, [], ◌∷◌, ◌++◌, length, take}
-use Rattle.std.specs.Prelude.{drop}
+use Rattle.std.specs.Prelude.{◌≡◌, ℕ, ℤ, zero, suc, ◌+◌, ◌-◌, ◌*◌, ◌/◌, ◌&&◌, nat_le, Bool, List, [], ◌∷◌, ◌++◌, length}
+use Rattle.std.specs.Prelude.{take, drop}
 use Rattle.std.specs.Prelude.{All, Option, Some, None, Result, Ok, Err, codes, flat_map}
 use Rattle.std.specs.Fmt.{decimal, signed_decimal}
 use Rattle.words36.specs.Words.{IsWord, join}
@@ -9,13 +9,12 @@ use Rattle.words36.specs.Ascii.{packed}
 use Rattle.words36.specs.Blocks.{word_bytes}
 use Rattle.words36.specs.declared.moment.Moment.{Moment}
 use Rattle.words36.specs.declared.names.FileName.{FileName}
-use Rattle.meaning.specs.Costs.{blocks_of}
 use Rattle.meaning.specs.Opening.{disk}
 use Rattle.meaning.specs.Spellings.{Are}
 use Rattle.meaning.specs.Texts.{Spoken, line, silent, both_said, complains, refuses, list_said}
 use Rattle.meaning.specs.Plans.{Plan, Show, Say, each, calls, deposits}
 use Rattle.meaning.specs.Plans.{names, writes, lists, asks_out, reads_file, ends, ok}
-use Rattle.meaning.specs.Plans.{open_words, new_words, block_address}
+use Rattle.meaning.specs.Plans.{open_words, new_words, block_address, blocks_at_once}
 use Rattle.meaning.specs.Transcripts.{core_words}
 use Rattle.meaning.specs.declared.call.Call.TheVariants.{Open, Enter, Outbuf, Close}
 use Rattle.meaning.specs.declared.call.Event.{Event}
@@ -104,14 +103,24 @@ part_address Words = block_address
 abbrev pub fills : Moment → Encoding → List ℕ → List Event
 fills moment encoding part = deposits (part_address encoding) part ++ announces moment encoding (length part)
 
--- words are put in parts of a block each, the last of which may be shorter
+-- how many words a part has at most: those of a buffer, or of 16 blocks that a command list names
+abbrev pub part_words : Encoding → ℕ
+part_words Characters = 128
+part_words Words = blocks_at_once * 128
+
+-- how many parts so many words make
+abbrev pub parts_of : Encoding → ℕ → ℕ
+parts_of encoding count = (count + part_words encoding - 1) / part_words encoding
+
+-- words are put in parts, the last of which may be shorter
 unfoldable pub fills_parts : Moment → Encoding → ℕ → List ℕ → Plan → Plan
 fills_parts moment encoding zero words next = next
-fills_parts moment encoding (suc more) words next = each moment (fills moment encoding (take 128 words))
-    (fills_parts moment encoding more (drop 128 words) next)
+fills_parts moment encoding (suc more) words next = each moment
+    (fills moment encoding (take (part_words encoding) words))
+    (fills_parts moment encoding more (drop (part_words encoding) words) next)
 
 abbrev pub fills_all : Moment → Encoding → List ℕ → Plan → Plan
-fills_all moment encoding words next = fills_parts moment encoding (blocks_of (length words)) words next
+fills_all moment encoding words next = fills_parts moment encoding (parts_of encoding (length words)) words next
 
 -- nothing is asked where the bytes are none that a file can have
 abbrev pub keeps : Moment → ℕ → Encoding → Spec → Option (List ℕ) → Plan
