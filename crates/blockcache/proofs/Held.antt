@@ -1,5 +1,5 @@
 -- What is kept stays what the disk holds, whatever is put or taken out.
-use Rattle.std.proofs.Common.{◌≡◌, ◌∙◌, ◌⊎◌, ℕ, true, false, List, [], ◌∷◌, Some, None, Result, Ok}
+use Rattle.std.proofs.Common.{◌≡◌, ◌∙◌, ◌⊎◌, ◌+◌, suc, ℕ, true, false, List, [], ◌∷◌, Some, None, Result, Ok}
 use Rattle.std.proofs.Common.{Err, OnOk, OnErr, Contains, nat_eq, refl, sym, ap, subst, inl, inr, arith, ⊎_elim}
 use Rattle.std.proofs.lemmas.Bool.Decides.{nat_tests}
 use Rattle.std.proofs.lemmas.Map.{lookup-remove_entry}
@@ -11,7 +11,7 @@ use Rattle.lru.specs.LruCache.{lru_cache, put_entries, promoted}
 use Rattle.lru.proofs.Splits.{Contains-cons, Contains-nil}
 use Rattle.lru.proofs.CallerLemmas.{Contains-put_entries, Contains-promoted, Contains-lookup, Contains-remove_entry}
 use Rattle.blockdisk.specs.Disk.{Contents, SameOutside}
-use Rattle.blockcache.specs.Cache.{Kept, AreHeld, IsCached, used, without}
+use Rattle.blockcache.specs.Cache.{Kept, AreHeld, IsCached, used, without, without_run}
 
 same_key : (n m : ℕ) → nat_eq n m ≡ true → m ≡ n
 same_key n m e = grind (arith, nat_tests)
@@ -105,6 +105,12 @@ found_somewhere n (f ∷ es) e is key none = (elim (nat_eq n f.0) as (λ b. nat_
 pub held_without : (kept : Kept) (contents : Contents) (n : ℕ) → AreHeld kept.entries contents
     → AreHeld (without n kept).entries contents
 held_without kept contents n held e is = held e (Contains-remove_entry (nat_eq n) kept.entries e is)
+
+-- nothing is kept of one block more
+pub run_more : (first more count : ℕ) (kept : Kept) → more + 1 ≡ count
+    → without (first + more) (without_run first more kept) ≡ without_run first count kept
+run_more first more count kept is =
+    let next : suc more ≡ count = omega (arith, is) in ap (λ k. without_run first k kept) next
 
 -- what is kept of other blocks stays, whatever becomes of block n
 pub held_beside : (entries : List (ℕ × List ℕ)) (contents now : Contents) (n : ℕ) → AreHeld entries contents

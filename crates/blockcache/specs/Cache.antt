@@ -1,5 +1,5 @@
 -- Blocks that are kept in memory, each by its number, the one used last first.
-use Rattle.std.specs.Prelude.{◌≡◌, ◌⊎◌, ℕ, List, [], Some, Contains, nat_eq}
+use Rattle.std.specs.Prelude.{◌≡◌, ◌⊎◌, ◌+◌, ℕ, zero, suc, List, [], Some, Contains, nat_eq}
 use Rattle.std.specs.Map.{remove_entry}
 use Rattle.lru.specs.LruCache.{LruCache, lru_cache, promoted, put_entries}
 use Rattle.blockdisk.specs.Disk.{Contents}
@@ -19,6 +19,11 @@ used n kept = lru_cache (promoted (nat_eq n) kept.entries) kept.cap
 -- nothing is kept of block n
 abbrev pub without : ℕ → Kept → Kept
 without n kept = lru_cache (remove_entry (nat_eq n) kept.entries) kept.cap
+
+-- nothing is kept of so many blocks from `first` on
+abbrev pub without_run : ℕ → ℕ → Kept → Kept
+without_run first zero kept = kept
+without_run first (suc more) kept = without (first + more) (without_run first more kept)
 
 -- no block is kept
 abbrev pub emptied : Kept → Kept

@@ -5,7 +5,7 @@ ghost use Rattle.std.specs.Map.{lookup};
 ghost use Rattle.lru.specs.LruCache.{lru_cache};
 ghost use Rattle.blockdisk.specs.Calls.{IsRead, IsRunRead, IsVerify, IsWrite, IsRunWrite, IsSync};
 ghost use Rattle.blockdisk.specs.Disk.{IsInRun, IsWithin};
-ghost use Rattle.blockcache.specs.Cache.{AreHeld, IsCached, used, without, emptied};
+ghost use Rattle.blockcache.specs.Cache.{AreHeld, IsCached, used, without, without_run, emptied};
 
 use blockdisk::{Disk, Fault, NoMemory};
 use lru::LruCache;
@@ -87,6 +87,7 @@ impl<D: Disk> Cached<D> {
     /// Keeps nothing of so many neighbouring blocks any more, from one on.
     fn forget_run(&mut self, first: u32, count: u32)
         requires { first + count < 2 ^ 32 }
+        ensures forgotten { self.new.cache ≡ without_run first count self.old.cache }
         ensures none { (n : ℕ) → IsInRun first count n → lookup (nat_eq n) self.new.cache.entries ≡ None }
         ensures no_others { (e : ℕ × List ℕ) → Contains self.new.cache.entries e → Contains self.old.cache.entries e }
         ensures inner { self.new.inner ≡ self.old.inner }
@@ -174,6 +175,8 @@ impl<D: Disk> Disk for Cached<D> {
     fn write_run(&mut self, first: u32, blocks: &[Block]) -> Result<(), Fault>
         requires { first + length blocks.now ≤ (D.state self.old.inner).size }
         ensures writes { IsRunWrite first blocks.now (D.state self.old.inner) (D.state self.new.inner) result }
+        ensures forgets { (length blocks.now ≡ 1 → ⊥)
+            → self.new.cache ≡ without_run first (length blocks.now) self.old.cache }
         ensures none { (length blocks.now ≡ 1 → ⊥) → (n : ℕ) → IsInRun first (length blocks.now) n
             → lookup (nat_eq n) self.new.cache.entries ≡ None }
     {

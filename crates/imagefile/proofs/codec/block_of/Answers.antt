@@ -1,4 +1,4 @@
-use Rattle.std.proofs.Common.{◌≡◌, ◌∙◌, sym, ap, subst, Some, None, Err}
+use Rattle.std.proofs.Common.{◌≡◌, ◌∙◌, sym, ap, Err}
 use Rattle.words36.specs.Blocks.{block_bytes}
 use Rattle.imagefile.specs.Image.{block_content}
 use Rattle.imagefile.specs.declared.form.Form.TheVariants.{Wide}

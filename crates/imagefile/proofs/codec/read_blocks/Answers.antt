@@ -1,4 +1,4 @@
-use Rattle.std.proofs.Common.{◌≡◌, ◌+◌, ◌-◌, ◌≤◌, ℕ, List, Ok, None, Some, length, subst, sym, ap, ◌∙◌, arith}
+use Rattle.std.proofs.Common.{◌≡◌, ◌+◌, ◌-◌, ◌≤◌, ℕ, Ok, length, subst, ◌∙◌, arith}
 use borrow.Rule.Slice.PartMut.{put_mid}
 use Rattle.blockdisk.specs.Calls.{IsRunRead}
 use Rattle.blockdisk.specs.RunLaws.{IsPartRead, part_run, part_on, part_all, part_damaged, part_failed}

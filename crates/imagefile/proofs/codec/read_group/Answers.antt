@@ -1,4 +1,4 @@
-use Rattle.std.proofs.Common.{◌≡◌, ◌+◌, ◌*◌, ◌<◌, ◌∙◌, length, arith, ap, Some, None, refl, rules}
+use Rattle.std.proofs.Common.{◌+◌, length, arith, Some, None, refl, rules}
 use Rattle.std.proofs.lemmas.Grind.{common_steps}
 use Rattle.imagefile.proofs.BlockReads.{blocks_there, damaged_there}
 use Rattle.imagefile.proofs.ImageCalls.{run_read}

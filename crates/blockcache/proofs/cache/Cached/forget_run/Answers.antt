@@ -1,15 +1,18 @@
-use Rattle.std.proofs.Common.{◌≡◌, ◌∙◌, None, Contains, nat_eq, ⊎_elim, subst, sym, refl, arith}
+use Rattle.std.proofs.Common.{◌≡◌, ◌∙◌, ◌+◌, ◌-◌, ap, None, Contains, nat_eq, ⊎_elim, subst, sym, refl, arith}
 use Rattle.std.proofs.lemmas.Bool.{cases_eq}
 use Rattle.std.specs.Map.{lookup}
 use Rattle.lru.proofs.CallerLemmas.{Contains-remove_entry}
-use Rattle.blockcache.specs.Cache.{Kept}
-use Rattle.blockcache.proofs.Held.{none_without}
+use Rattle.blockcache.specs.Cache.{Kept, without, without_run}
+use Rattle.blockcache.proofs.Held.{none_without, run_more}
 use Rattle.blockcache.proofs.cache.Cached.forget_run.Goals as goal
 
 pub loop-number-init : goal.loop-number-init
 loop-number-init g c = record {
   none = λ n from below. absurd (omega (arith, from, below));
   no_others = λ e is. is;
+  forgotten =
+      let none : 0 ≡ c.args.first - c.args.first = omega arith in
+      ap (λ k. without_run c.args.first k c.args.self.now.cache) none;
   inner = refl;
 }
 
@@ -28,6 +31,12 @@ loop-number-preserved g c =
           (cases_eq n number);
       no_others = λ e is. c.loop-number.invariant.no_others e (Contains-remove_entry (nat_eq number) before e
           (subst (λ (kept : Kept). Contains kept.entries e) gone is));
+      forgotten =
+          let here : number ≡ c.args.first + (number - c.args.first) = omega arith in
+          let more : number - c.args.first + 1 ≡ number + 1 - c.args.first = omega arith in
+          gone ∙ ap (without number) c.loop-number.invariant.forgotten
+          ∙ ap (λ k. without k (without_run c.args.first (number - c.args.first) c.args.self.now.cache)) here
+          ∙ run_more c.args.first (number - c.args.first) (number + 1 - c.args.first) c.args.self.now.cache more;
       inner = c.forget.ensures.inner ∙ c.loop-number.invariant.inner;
     }
 
@@ -35,3 +44,8 @@ pub returns-clause-none : goal.returns-clause-none
 returns-clause-none g c n within =
     let ended = c.loop-number-test.false in
     c.loop-number.invariant.none n within.0 (omega (arith, within.1, ended))
+
+pub returns-clause-forgotten : goal.returns-clause-forgotten
+returns-clause-forgotten g c =
+    let all : c.loop-number.number - c.args.first ≡ c.args.count = omega arith in
+    c.loop-number.invariant.forgotten ∙ ap (λ k. without_run c.args.first k c.args.self.now.cache) all

@@ -1,4 +1,4 @@
-use Rattle.std.proofs.Common.{◌≡◌, ◌+◌, ◌<◌, ◌≤◌, ◌∙◌, ℕ, Some, [], ⊎_elim, length, get_or, ap, sym, refl, arith}
+use Rattle.std.proofs.Common.{◌+◌, ◌∙◌, Some, [], ⊎_elim, length, get_or, ap, sym, refl, arith}
 use Rattle.std.proofs.lemmas.Bool.{cases_eq}
 use Rattle.std.proofs.lemmas.List.{get_or_read}
 use Rattle.blockdisk.specs.Disk.{IsInRun}

@@ -1,4 +1,4 @@
-use Rattle.std.proofs.Common.{◌≡◌, ◌+◌, ◌<◌, ◌≤◌, ◌^◌, length, arith, subst, IfOk}
+use Rattle.std.proofs.Common.{◌≡◌, ◌+◌, length, arith, subst, IfOk}
 use Rattle.blockdisk.specs.Disk.{IsWithin}
 use Rattle.imagefile.proofs.packed.PackedDiskDisk.read_run.Goals as goal
 
