@@ -3,7 +3,7 @@
 use Rattle.std.specs.Prelude.{◌≡◌, ◌<◌, ◌+◌, ℕ, List, Option, Some, None, Result, IsOk, IfOk, OnOk, OnErr, IsErrOf}
 use Rattle.std.specs.Prelude.{length}
 use Rattle.blockdisk.specs.Disk.{DiskState, SameDisk, Keeps, Writes, Syncs, Fails, one_more}
-use Rattle.blockdisk.specs.Disk.{AreRead, AreVerified, IsWithin, HoldRun, IsInRun, Modifies}
+use Rattle.blockdisk.specs.Disk.{AreFilled, AreVerified, IsWithin, HoldRun, IsInRun, Modifies}
 use Rattle.blockdisk.specs.declared.fault.Fault.{Fault}
 use Rattle.blockdisk.specs.declared.fault.Fault.TheVariants.{Device, Damaged}
 
@@ -20,7 +20,7 @@ pub record IsRead (n : ℕ) (s s' : DiskState) (answer : Result (List ℕ) Fault
 pub record IsRunRead (first : ℕ) (s s' : DiskState) (blocks : List (List ℕ)) (answer : Result (Option ℕ) Fault)
     : Type 0 where
   pub within : IfOk answer (IsWithin first (first + length blocks))
-  pub words : s'.honest → IfOk answer (AreRead s.contents first blocks)
+  pub words : s'.honest → IfOk answer (AreFilled s.contents first blocks)
   pub keeps : s'.honest → Keeps s s'
   pub same : SameDisk s s'
   pub device : IsErrOf answer Damaged → ⊥

@@ -36,9 +36,9 @@ HoldRun contents first blocks = (i : ℕ) → i < length blocks → contents (fi
 
 -- These are the words of the blocks from `first` on, one for each place: of all, or of those before this one, which is
 -- damaged.
-abbrev pub AreRead : Contents → ℕ → List (List ℕ) → Option ℕ → Type 0
-AreRead contents first blocks None = HoldRun contents first blocks
-AreRead contents first blocks (Some bad) = (contents bad ≡ None)
+abbrev pub AreFilled : Contents → ℕ → List (List ℕ) → Option ℕ → Type 0
+AreFilled contents first blocks None = HoldRun contents first blocks
+AreFilled contents first blocks (Some bad) = (contents bad ≡ None)
     × ((i : ℕ) → first + i < bad → contents (first + i) ≡ Some (get_or blocks i []))
 
 -- a disk as contracts see it

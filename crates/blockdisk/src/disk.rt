@@ -1,7 +1,7 @@
 ghost use Rattle.std.specs.Prelude.{◌≡◌, ◌+◌, ◌<◌, ◌≤◌, ℕ, Some, None, IsOk, IfOk, OnOk, OnErr, IsErrOf, length};
 ghost use Rattle.blockdisk.specs.declared.fault.Fault.TheVariants.{Device, Damaged};
 ghost use Rattle.blockdisk.specs.Disk.{Contents, DiskState, MayLeave, SameDisk, Keeps, Writes, Syncs, Fails, one_more};
-ghost use Rattle.blockdisk.specs.Disk.{AreRead, AreVerified, HoldRun, IsInRun, IsWithin, Modifies};
+ghost use Rattle.blockdisk.specs.Disk.{AreFilled, AreVerified, HoldRun, IsInRun, IsWithin, Modifies};
 
 use crate::Fault;
 use words36::Block;
@@ -43,7 +43,7 @@ pub trait Disk {
     fn read_run(&mut self, first: u32, blocks: &mut [Block]) -> Result<Option<u32>, Fault>
         requires { first + length blocks.old ≤ (state self.old).size }
         ensures within { IfOk result (IsWithin first (first + length blocks.old)) }
-        ensures words { (state self.new).honest → IfOk result (AreRead (state self.old).contents first blocks.new) }
+        ensures words { (state self.new).honest → IfOk result (AreFilled (state self.old).contents first blocks.new) }
         ensures keeps { (state self.new).honest → Keeps (state self.old) (state self.new) }
         ensures same { SameDisk (state self.old) (state self.new) }
         ensures device { IsErrOf result Damaged → ⊥ }

@@ -3,9 +3,9 @@ use Rattle.std.proofs.Common.{◌≡◌, ◌∙◌, ◌+◌, ◌*◌, ◌-◌, �
 use Rattle.std.proofs.Common.{Some, None, min, sym, ap, arith, rules}
 use Rattle.std.proofs.lemmas.List.{get_or-take, get_or-drop, ext_get_or, places, length-take, length-drop}
 use borrow.Rule.Slice.PartMut.{put_mid}
-use Rattle.blockdisk.specs.Disk.{AreRead}
+use Rattle.blockdisk.specs.Disk.{AreFilled}
 use Rattle.imagefile.specs.File.{Bytes, window}
-use Rattle.imagefile.specs.Image.{block_content, block_length, blocks_in, image_contents}
+use Rattle.imagefile.specs.Image.{block_content, block_length, spelled_blocks, image_contents}
 use Rattle.imagefile.specs.declared.form.Form.{Form}
 use Rattle.imagefile.proofs.CallLaws.{length-window}
 use Rattle.imagefile.proofs.FileLaws.{window-at}
@@ -50,7 +50,7 @@ window_part b at len i n within = ext_get_or 0 (take n (drop i (window b at len)
 module _ (form : Form) (b : Bytes) (first count at len : ℕ) (bytes : List ℕ) (place : at ≡ block_length form * first)
     (long : len ≡ block_length form * count) (is : bytes ≡ window b at len) where
   -- one of the blocks
-  block_there : (i : ℕ) → i < count → blocks_in form bytes i ≡ image_contents form b (first + i)
+  block_there : (i : ℕ) → i < count → spelled_blocks form bytes i ≡ image_contents form b (first + i)
   block_there i less =
       let size = block_length form in
       ap (λ l. block_content form (take size (drop (size * i) l))) is
@@ -63,20 +63,20 @@ module _ (form : Form) (b : Bytes) (first count at len : ℕ) (bytes : List ℕ)
       there : (size : ℕ) → at ≡ size * first → at + size * i ≡ size * (first + i)
       there size place = grind arith
 
-  pub blocks_there : (blocks : List (List ℕ)) → length blocks ≡ count → AreRead (blocks_in form bytes) 0 blocks None
-      → AreRead (image_contents form b) first blocks None
+  pub blocks_there : (blocks : List (List ℕ)) → length blocks ≡ count → AreFilled (spelled_blocks form bytes) 0 blocks None
+      → AreFilled (image_contents form b) first blocks None
   blocks_there blocks all read i less =
       let zero_on : 0 + i ≡ i = omega arith in
-      sym (block_there i (omega (arith, all, less))) ∙ ap (blocks_in form bytes) (sym zero_on) ∙ read i less
+      sym (block_there i (omega (arith, all, less))) ∙ ap (spelled_blocks form bytes) (sym zero_on) ∙ read i less
 
   pub damaged_there : (blocks : List (List ℕ)) (spot : ℕ) → spot < count
-      → AreRead (blocks_in form bytes) 0 blocks (Some spot)
-      → AreRead (image_contents form b) first blocks (Some (first + spot))
+      → AreFilled (spelled_blocks form bytes) 0 blocks (Some spot)
+      → AreFilled (image_contents form b) first blocks (Some (first + spot))
   damaged_there blocks spot within read = (
     sym (block_there spot within) ∙ read.0,
     λ i less.
         let zero_on : 0 + i ≡ i = omega arith in
         let low : i < spot = omega (arith, less) in
-        sym (block_there i (omega (arith, low, within))) ∙ ap (blocks_in form bytes) (sym zero_on)
+        sym (block_there i (omega (arith, low, within))) ∙ ap (spelled_blocks form bytes) (sym zero_on)
         ∙ read.1 i (omega (arith, low)),
   )

@@ -7,7 +7,7 @@ use borrow.Rule.Slice.PartMut.{put_mid}
 use Rattle.blockdisk.specs.Disk.{HoldRun}
 use Rattle.blockdisk.specs.declared.fault.Fault.{Fault}
 use Rattle.imagefile.specs.File.{Bytes, window}
-use Rattle.imagefile.specs.Image.{block_content, block_length, blocks_in, image_contents}
+use Rattle.imagefile.specs.Image.{block_content, block_length, spelled_blocks, image_contents}
 use Rattle.imagefile.specs.declared.form.Form.{Form}
 use Rattle.imagefile.proofs.BlockReads.{blocks_there}
 
@@ -41,13 +41,13 @@ module _ (form : Form) (size place k : ℕ) (bytes part : List ℕ) (is : size �
   within : size * place + k ≤ length bytes
   within = omega (arith, room, step)
 
-  pub block_before : (i : ℕ) → i < place → blocks_in form filled i ≡ blocks_in form bytes i
+  pub block_before : (i : ℕ) → i < place → spelled_blocks form filled i ≡ spelled_blocks form bytes i
   block_before i less = ap (λ n. block_content form (take n (drop (n * i) filled))) (sym is)
       ∙ ap (block_content form) (part_before (size * place) k bytes part within long (size * i) size
       (ends_before size i place (size * place) less refl))
       ∙ ap (λ n. block_content form (take n (drop (n * i) bytes))) is
 
-  pub block_here : blocks_in form filled place ≡ block_content form part
+  pub block_here : spelled_blocks form filled place ≡ block_content form part
   block_here = ap (λ n. block_content form (take n (drop (n * place) filled))) (sym is)
       ∙ ap (λ n. block_content form (take n (drop (size * place) filled))) (sym step)
       ∙ ap (block_content form) (part_there (size * place) k bytes part within long)
@@ -55,7 +55,7 @@ module _ (form : Form) (size place k : ℕ) (bytes part : List ℕ) (is : size �
 -- What was written is what these bytes hold.
 pub run_put : (answer : Result (Unit {0}) Fault) (form : Form) (b : Bytes) (first at : ℕ) (bytes : List ℕ)
     (blocks : List (List ℕ)) → at ≡ block_length form * first → length bytes ≡ block_length form * length blocks
-    → HoldRun (blocks_in form bytes) 0 blocks → OnOk answer (window b at (length bytes) ≡ bytes)
+    → HoldRun (spelled_blocks form bytes) 0 blocks → OnOk answer (window b at (length bytes) ≡ bytes)
     → OnOk answer (HoldRun (image_contents form b) first blocks)
 run_put (Ok done) form b first at bytes blocks place long words put =
     blocks_there form b first (length blocks) at (length bytes) bytes place long (sym put) blocks refl words

@@ -1,7 +1,7 @@
 -- The calls of a disk over an image, from what a file promises of its own.
 use Rattle.std.proofs.Common.{◌≡◌, ◌+◌, ◌*◌, ◌<◌, ℕ, length, List, Result, Ok, Err, Some, None, OnOk}
 use Rattle.std.proofs.Common.{OnErr, IsErrOf, refl, Option}
-use Rattle.blockdisk.specs.Disk.{SameDisk, Syncs, Fails, AreRead, AreVerified, HoldRun, IsWithin, one_more}
+use Rattle.blockdisk.specs.Disk.{SameDisk, Syncs, Fails, AreFilled, AreVerified, HoldRun, IsWithin, one_more}
 use Rattle.blockdisk.specs.Calls.{IsRead, IsRunRead, IsVerify, IsWrite, IsRunWrite}
 use Rattle.blockdisk.specs.declared.fault.Fault.{Fault}
 use Rattle.blockdisk.specs.declared.fault.Fault.TheVariants.{Device, Damaged}
@@ -50,7 +50,7 @@ no_device found fault is = cc
 
 pub run_read : (form : Form) (size first : ℕ) (s s' : FileState) (blocks : List (List ℕ)) (found : Option ℕ)
     → SameFile s s' → IsWithin first (first + length blocks) found
-    → (s'.honest → AreRead (image_contents form s.bytes) first blocks found)
+    → (s'.honest → AreFilled (image_contents form s.bytes) first blocks found)
     → (s'.honest → FileKeeps s s') → s'.failures ≡ s.failures
     → IsRunRead first (image_state form size s) (image_state form size s') blocks (Ok found)
 run_read form size first s s' blocks found same within read keeps served = record {

@@ -43,8 +43,8 @@ abbrev pub image_contents : Form → Bytes → Contents
 image_contents form b n = block_content form (window b (block_length form * n) (block_length form))
 
 -- what the blocks hold that have these bytes, one behind the other
-abbrev pub blocks_in : Form → List ℕ → Contents
-blocks_in form bytes i = block_content form (take (block_length form) (drop (block_length form * i) bytes))
+abbrev pub spelled_blocks : Form → List ℕ → Contents
+spelled_blocks form bytes i = block_content form (take (block_length form) (drop (block_length form * i) bytes))
 
 -- one of the n places from `at` on is open
 unfoldable pub opened_in : (ℕ → Bool) → ℕ → ℕ → Bool

@@ -1,8 +1,8 @@
 ghost use Rattle.std.specs.Prelude.{◌≡◌, ◌+◌, ◌*◌, ◌<◌, ◌≤◌, ◌^◌, ℕ, Some, length};
 ghost use Rattle.blockdisk.specs.Calls.{IsRead, IsRunRead, IsVerify, IsWrite, IsRunWrite};
-ghost use Rattle.blockdisk.specs.Disk.{AreRead, HoldRun, IsWithin};
+ghost use Rattle.blockdisk.specs.Disk.{AreFilled, HoldRun, IsWithin};
 ghost use Rattle.imagefile.specs.File.{SameFile};
-ghost use Rattle.imagefile.specs.Image.{block_content, block_length, blocks_in, image_state};
+ghost use Rattle.imagefile.specs.Image.{block_content, block_length, spelled_blocks, image_state};
 ghost use Rattle.imagefile.specs.declared.form.Form.TheVariants.{Wide, Packed};
 
 use crate::{Durable, Form};
@@ -204,7 +204,7 @@ fn read_group<F: Durable>(
 fn fill_blocks(form: Form, bytes: &[u8], blocks: &mut [Block]) -> Option<usize>
     requires { length bytes.now ≡ block_length form * length blocks.old }
     ensures within { IsWithin 0 (length blocks.old) result }
-    ensures words { AreRead (blocks_in form bytes.now) 0 blocks.new result }
+    ensures words { AreFilled (spelled_blocks form bytes.now) 0 blocks.new result }
 {
     let size = form.block_bytes() as usize;
     for place in 0..blocks.len() {
@@ -329,7 +329,7 @@ fn write_group<F: Durable>(
 fn put_blocks(form: Form, blocks: &[Block], bytes: &mut [u8])
     requires { length bytes.old ≡ block_length form * length blocks.now }
     ensures long { length bytes.new ≡ length bytes.old }
-    ensures words { HoldRun (blocks_in form bytes.new) 0 blocks.now }
+    ensures words { HoldRun (spelled_blocks form bytes.new) 0 blocks.now }
 {
     let size = form.block_bytes() as usize;
     for place in 0..blocks.len() {

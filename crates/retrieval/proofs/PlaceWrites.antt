@@ -10,12 +10,12 @@ use Rattle.blockdisk.specs.Disk.{Contents, DiskState, HoldRun, IsInRun, Modifies
 use Rattle.blockdisk.specs.Laws.{modifies_on, modifies_wider, writes_modifies}
 use Rattle.meaning.specs.Costs.{blocks_of}
 use Rattle.meaning.specs.Maps.{times}
-use Rattle.retrieval.specs.Placing.{AreApart, AtPlace, IsNewBlock, HoldsNew}
+use Rattle.retrieval.specs.Placing.{StandAlone, AtPlace, IsNewBlock, HoldsNew}
 use Rattle.retrieval.proofs.Holding.{alone_at}
 
 -- One place more whose block is the version's own.
 
-pub apart_none : (blocks : List ℕ) (first : ℕ) → AreApart blocks first first
+pub apart_none : (blocks : List ℕ) (first : ℕ) → StandAlone blocks first first
 apart_none blocks first j k from upto inside other same = omega (arith, from, upto)
 
 module _ (blocks : List ℕ) (first i n : ℕ) (below : i < length blocks) where
@@ -25,8 +25,8 @@ module _ (blocks : List ℕ) (first i n : ℕ) (below : i < length blocks) where
   elsewhere : (j : ℕ) → (j ≡ i → ⊥) → slice_index (slice_set blocks i n) j ≡ slice_index blocks j
   elsewhere j other = get_or-set_other blocks i j n 0 other
 
-  pub apart_more : AreApart blocks first i → times n (slice_set blocks i n) ≡ 1
-      → AreApart (slice_set blocks i n) first (i + 1)
+  pub apart_more : StandAlone blocks first i → times n (slice_set blocks i n) ≡ 1
+      → StandAlone (slice_set blocks i n) first (i + 1)
   apart_more so_far alone j k from upto inside other same = ⊎_elim
       (λ is. alone_at n new i k alone below' inside here (λ e. other (e ∙ sym is)) (same ∙ ap (slice_index new) is
       ∙ here))
@@ -113,7 +113,7 @@ module _ (at : ℕ) (words : List ℕ) (place : ℕ) (kept : List ℕ) where
 
   -- blocks behind others that stay written
   pub written_more : (contents new : Contents) (blocks : List ℕ) (first i count end : ℕ) → end ≤ length blocks
-      → i ≤ end → AreApart blocks first end → ((n : ℕ) → (AtPlace blocks i end n → ⊥) → new n ≡ contents n)
+      → i ≤ end → StandAlone blocks first end → ((n : ℕ) → (AtPlace blocks i end n → ⊥) → new n ≡ contents n)
       → ((j : ℕ) → first ≤ j → j < i → HoldsNew contents at words place kept j (slice_index blocks j))
       → ((j : ℕ) → i ≤ j → j < i + count → HoldsNew new at words place kept j (slice_index blocks j))
       → (j : ℕ) → first ≤ j → j < i + count → HoldsNew new at words place kept j (slice_index blocks j)

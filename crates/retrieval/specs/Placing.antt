@@ -44,8 +44,8 @@ pub record AtPlace (blocks : List ℕ) (first end n : ℕ) : Type 0 where
   pub is : slice_index blocks at ≡ n
 
 -- Each block at the places from `first` on before `end` stands at no other place.
-abbrev pub AreApart : List ℕ → ℕ → ℕ → Type 0
-AreApart blocks first end = (j k : ℕ) → first ≤ j → j < end → k < length blocks → (k ≡ j → ⊥)
+abbrev pub StandAlone : List ℕ → ℕ → ℕ → Type 0
+StandAlone blocks first end = (j k : ℕ) → first ≤ j → j < end → k < length blocks → (k ≡ j → ⊥)
     → slice_index blocks k ≡ slice_index blocks j → ⊥
 
 -- The blocks from `first` up to i have their new words; at the other places the same blocks stand as before.

@@ -8,7 +8,7 @@ ghost use Rattle.meaning.specs.Faults.{InSpace};
 ghost use Rattle.meaning.specs.Maps.{times};
 ghost use Rattle.alloctab.specs.TableState.{holds, space, uses, bit};
 ghost use Rattle.retrieval.specs.Bodies.{IsOwn, AddsFree, KeepsOwn};
-ghost use Rattle.retrieval.specs.Placing.{AreApart, AtPlace, HoldsNew, IsPartlyPlaced};
+ghost use Rattle.retrieval.specs.Placing.{StandAlone, AtPlace, HoldsNew, IsPartlyPlaced};
 ghost use Rattle.retrieval.specs.Writing.{IsFixed};
 
 use crate::block_list::BlockList;
@@ -68,7 +68,7 @@ fn own_places(table: &mut Table, blocks: &mut BlockList, first: usize, end: usiz
 
     // The blocks at these places, and those at the others.
     ensures own { (j : ℕ) → first ≤ j → j < end → IsOwn table.old blocks.old.blocks (slice_index blocks.new.blocks j) }
-    ensures apart { AreApart blocks.new.blocks first end }
+    ensures apart { StandAlone blocks.new.blocks first end }
     ensures others { (j : ℕ) → (j < first) ⊎ (end ≤ j)
         → slice_index blocks.new.blocks j ≡ slice_index blocks.old.blocks j }
     ensures long { length blocks.new.blocks ≡ length blocks.old.blocks }
@@ -115,7 +115,7 @@ fn write_some<D: Disk>(
     requires fits { at + blocks_of (length words.now) ≤ length blocks.now.blocks }
     requires few { length blocks.now.blocks ≤ 16384 }
     requires inside { AllByRecursion (InSpace (D.state disk.old).size) blocks.now.blocks }
-    requires apart { AreApart blocks.now.blocks i (at + blocks_of (length words.now)) }
+    requires apart { StandAlone blocks.now.blocks i (at + blocks_of (length words.now)) }
     ensures some { IfOk result (λ count. 0 < count) }
     ensures within { IfOk result (λ count. i + count ≤ at + blocks_of (length words.now)) }
     ensures written { (D.state disk.new).honest → IfOk result (λ count. (j : ℕ) → i ≤ j → j < i + count
@@ -159,7 +159,7 @@ fn write_all<D: Disk>(
     requires few { length blocks.now.blocks ≤ 16384 }
     requires order { first ≤ at + blocks_of (length words.now) }
     requires inside { AllByRecursion (InSpace (D.state disk.old).size) blocks.now.blocks }
-    requires apart { AreApart blocks.now.blocks first (at + blocks_of (length words.now)) }
+    requires apart { StandAlone blocks.now.blocks first (at + blocks_of (length words.now)) }
     ensures written { (D.state disk.new).honest → OnOk result ((j : ℕ) → first ≤ j → j < at + blocks_of (length words.now)
         → HoldsNew (D.state disk.new).contents at words.now kept.now.place kept.now.words j
         (slice_index blocks.now.blocks j)) }

@@ -2,7 +2,7 @@ use Rattle.std.proofs.Common.{◌≡◌, ◌∙◌, ◌+◌, ◌*◌, ◌-◌, �
 use Rattle.std.proofs.lemmas.Bool.{cases_eq}
 use Rattle.std.proofs.lemmas.Grind.{common_steps}
 use borrow.Rule.Slice.PartMut.{put_mid}
-use Rattle.imagefile.specs.Image.{block_content, block_length, blocks_in}
+use Rattle.imagefile.specs.Image.{block_content, block_length, spelled_blocks}
 use Rattle.imagefile.proofs.BlockWrites.{part_long, ends_before, block_before, block_here}
 use Rattle.imagefile.proofs.codec.put_blocks.Goals as goal
 
@@ -23,7 +23,7 @@ loop-place-preserved c =
     let long : length part ≡ k = part_long (size * place) size k bytes part room step c.put_block.ensures.long in
     let words : block_content form part ≡ Some (get_or blocks place []) = grind (arith, common_steps) in
     λ i less. ⊎_elim
-    (λ here. ap (blocks_in form (put_mid (size * place) k bytes part)) here
+    (λ here. ap (spelled_blocks form (put_mid (size * place) k bytes part)) here
     ∙ block_here form size place k bytes part is step room long ∙ words
     ∙ ap (λ j. Some (get_or blocks j [])) (sym here))
     (λ other. block_before form size place k bytes part is step room long i (omega (arith, less, other))

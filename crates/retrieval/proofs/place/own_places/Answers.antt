@@ -5,7 +5,7 @@ use Rattle.std.proofs.lemmas.List.{length-set}
 use Rattle.meaning.specs.Faults.{InSpace}
 use Rattle.meaning.specs.Maps.{times}
 use Rattle.retrieval.specs.Bodies.{IsOwn, AddsFree, KeepsOwn}
-use Rattle.retrieval.specs.Placing.{AreApart}
+use Rattle.retrieval.specs.Placing.{StandAlone}
 use Rattle.retrieval.proofs.Placed.{same_on, size_same, own_before, held_again, inside_set}
 use Rattle.retrieval.proofs.Placed.{adds_set, few_more, stays_more}
 use Rattle.retrieval.proofs.PlaceWrites.{apart_more, own_more, others_more}
@@ -33,7 +33,7 @@ loop-i-preserved c =
     record {
       own = λ j from upto. subst (λ (l : List ℕ). IsOwn t xs (slice_index l j)) (sym blocks_are)
           (own_more ys c.args.first i n below (IsOwn t xs) inv.own own j from upto);
-      apart = subst (λ (l : List ℕ). AreApart l c.args.first (i + 1)) (sym blocks_are)
+      apart = subst (λ (l : List ℕ). StandAlone l c.args.first (i + 1)) (sym blocks_are)
           (apart_more ys c.args.first i n below inv.apart alone);
       others = λ j out. ap (λ (l : List ℕ). slice_index l j) blocks_are
           ∙ others_more ys c.args.first i n below xs first inv.others j out;

@@ -5,13 +5,13 @@ use Rattle.meaning.specs.Faults.{InSpace}
 use Rattle.meaning.specs.Maps.{times}
 use Rattle.alloctab.specs.TableState.{holds, uses}
 use Rattle.retrieval.specs.Bodies.{IsOwn, AddsFree, KeepsOwn}
-use Rattle.retrieval.specs.Placing.{AreApart}
+use Rattle.retrieval.specs.Placing.{StandAlone}
 use Rattle.retrieval.proofs.place.own_places.Given as goal
 
 abbrev pub invariant-loop-i : goal.invariant-loop-i
 invariant-loop-i l = record {
   own : (j : ℕ) → l.first ≤ j → j < l.i → IsOwn l.fn.table l.fn.blocks.blocks (slice_index l.blocks.blocks j);
-  apart : AreApart l.blocks.blocks l.first l.i;
+  apart : StandAlone l.blocks.blocks l.first l.i;
   others : (j : ℕ) → (j < l.first) ⊎ (l.i ≤ j) → slice_index l.blocks.blocks j ≡ slice_index l.fn.blocks.blocks j;
   spare : 2 * (l.end - l.i) ≤ l.blocks.spare;
   long : length l.blocks.blocks ≡ length l.fn.blocks.blocks;
