@@ -34,8 +34,8 @@ pub trait Disk {
         ensures failed { IsErrOf result Device → (state self.new).failures ≡ one_more (state self.old).failures }
         ensures served { (IsErrOf result Device → ⊥) → (state self.new).failures ≡ (state self.old).failures };
 
-    /// Puts the words of neighbouring blocks, from one on, into as many places. Answers the first damaged block of them,
-    /// if any: the places before its own are filled, and the others may hold anything.
+    /// Puts the words of neighbouring blocks, from one on, into as many places. Answers the first damaged block of
+    /// them, if any: the places before its own are filled, and the others may hold anything.
     ///
     /// # Errors
     ///

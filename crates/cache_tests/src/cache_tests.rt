@@ -46,8 +46,8 @@ fn a_block_that_is_kept_asks_no_device(rt: HostRuntime) -> Result<(), Fail> {
     Ok(())
 }
 
-/// Three neighbours that are written go past block 20, which was kept, and a read of it asks the device again; a read of
-/// three asks it for each.
+/// Three neighbours that are written go past block 20, which was kept, and a read of it asks the device again; a read
+/// of three asks it for each.
 #[test]
 fn a_run_goes_past_what_is_kept(rt: HostRuntime) -> Result<(), Fail> {
     let calls = [

@@ -63,7 +63,8 @@ module _ (form : Form) (b : Bytes) (first count at len : ℕ) (bytes : List ℕ)
       there : (size : ℕ) → at ≡ size * first → at + size * i ≡ size * (first + i)
       there size place = grind arith
 
-  pub blocks_there : (blocks : List (List ℕ)) → length blocks ≡ count → AreFilled (spelled_blocks form bytes) 0 blocks None
+  pub blocks_there : (blocks : List (List ℕ)) → length blocks ≡ count
+      → AreFilled (spelled_blocks form bytes) 0 blocks None
       → AreFilled (image_contents form b) first blocks None
   blocks_there blocks all read i less =
       let zero_on : 0 + i ≡ i = omega arith in

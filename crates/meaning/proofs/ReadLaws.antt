@@ -210,7 +210,8 @@ module _ (pack : Pack) (s : State) (j0 : Job) (there : job_at s 1 ≡ Some j0) (
 
       all_words : words ++ take (blocks % blocks_at_once * 128) (drop (runs * 128) v.file.body)
           ≡ take (blocks * 128) v.file.body
-      all_words = parts_joined v.file.body 0 (blocks / blocks_at_once * (blocks_at_once * 128)) (blocks % blocks_at_once * 128)
+      all_words = parts_joined v.file.body 0 (blocks / blocks_at_once * (blocks_at_once * 128))
+          (blocks % blocks_at_once * 128)
           (runs * 128) (blocks * 128) (omega arith) (words_by_runs blocks)
 
   last_read : (me : ℕ) (place : Place) (v : Version) (said : Spoken) (new : Service) (more : ℕ) (next : List ℕ → Plan)

@@ -43,7 +43,8 @@ module _ (before done got : List ℕ) (blocks : List (List ℕ)) (place here wan
           let whole : length done ≡ length before + i * 128 = omega (arith, long, same, within) in
           let back : length before + i * 128 + k - length done ≡ k = omega (arith, whole) in
           let inside : k < here = omega (arith, here_is, whole, short, within) in
-          get_or-append_right done (take here got) (length done) (length before + i * 128 + k) 0 refl (omega (arith, whole))
+          get_or-append_right done (take here got) (length done) (length before + i * 128 + k) 0 refl
+          (omega (arith, whole))
           ∙ ap (slice_index (take here got)) back ∙ get_or-take here got k 0 inside
           ∙ ap (λ l. slice_index l k) (get_or_read blocks place got below is [])
           ∙ ap (λ j. slice_index (get_or blocks j []) k) (sym same)
@@ -53,7 +54,8 @@ pub whole_more : (blocks : List (List ℕ)) (got : List ℕ) (place : ℕ) → p
     → got ≡ get_or blocks place got → length got ≡ 128 → ((i : ℕ) → i < place → length (get_or blocks i []) ≡ 128)
     → (i : ℕ) → i < place + 1 → length (get_or blocks i []) ≡ 128
 whole_more blocks got place below is all whole i less = ⊎_elim
-    (λ same. ap (λ j. length (get_or blocks j [])) same ∙ ap length (sym (get_or_read blocks place got below is [])) ∙ all)
+    (λ same. ap (λ j. length (get_or blocks j [])) same
+    ∙ ap length (sym (get_or_read blocks place got below is [])) ∙ all)
     (λ other. whole i (omega (arith, less, other))) (cases_eq i place)
 
 -- blocks that were read, and whose words were put

@@ -160,7 +160,8 @@ fn write_all<D: Disk>(
     requires order { first ≤ at + blocks_of (length words.now) }
     requires inside { AllByRecursion (InSpace (D.state disk.old).size) blocks.now.blocks }
     requires apart { StandAlone blocks.now.blocks first (at + blocks_of (length words.now)) }
-    ensures written { (D.state disk.new).honest → OnOk result ((j : ℕ) → first ≤ j → j < at + blocks_of (length words.now)
+    ensures written { (D.state disk.new).honest
+        → OnOk result ((j : ℕ) → first ≤ j → j < at + blocks_of (length words.now)
         → HoldsNew (D.state disk.new).contents at words.now kept.now.place kept.now.words j
         (slice_index blocks.now.blocks j)) }
     ensures modified { (D.state disk.new).honest

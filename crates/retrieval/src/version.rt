@@ -1,4 +1,5 @@
-ghost use Rattle.std.specs.Prelude.{◌≡◌, ◌+◌, ◌-◌, ◌<◌, ◌≤◌, ℕ, ◌++◌, ◌∷◌, [], slice_set, slice_get, slice_index, length, Some, IfOk};
+ghost use Rattle.std.specs.Prelude.{◌≡◌, ◌+◌, ◌-◌, ◌<◌, ◌≤◌, ◌++◌, ◌∷◌, ℕ, [], slice_set, slice_get, slice_index};
+ghost use Rattle.std.specs.Prelude.{length, Some, IfOk};
 ghost use Rattle.std.specs.Prelude.{OnOk, OnErr};
 ghost use Rattle.retrieval.specs.Runs.{BlocksState, blocks_of_runs, pairs_of, longest_runs};
 ghost use Rattle.retrieval.specs.Versions.{VersionState};

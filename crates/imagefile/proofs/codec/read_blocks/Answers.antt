@@ -32,7 +32,8 @@ loop-done-preserved g c =
           (stop - done) (image new size) group (put_mid done (stop - done) blocks group)
           (subst (λ k. IsPartRead (c.args.first + done) k (image now size) (image new size) group) long
           (part_run (c.args.first + done) (image now size) (image new size) group (read size)))
-          (filled_before done (stop - done) blocks group room long) (filled_in done (stop - done) blocks group room long));
+          (filled_before done (stop - done) blocks group room long)
+          (filled_in done (stop - done) blocks group room long));
       within = omega (arith, whole);
       long = whole ∙ c.loop-done.invariant.long;
     }

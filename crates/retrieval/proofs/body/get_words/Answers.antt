@@ -18,14 +18,16 @@ get_run-requires-clause-inside g c =
     let at : ℕ = c.args.block - 1 + c.loop-done.done in
     let count = c.min-count.result in
     let run = c.run_at-run.result in
-    let few : count ≤ run.last - run.first + 1 = omega (arith, c.min-count.ensures, c.min.ensures, c.count.ensures.value) in
+    let few : count ≤ run.last - run.first + 1 =
+    omega (arith, c.min-count.ensures, c.min.ensures, c.count.ensures.value) in
     let some : 0 < count = let t = c.loop-done-test.true in
     omega (arith, c.min-count.ensures, c.min.ensures, c.count.ensures.value) in
     let within = c.run_at-run.ensures.within in
     let below : at + (count - 1) < length blocks = omega (arith, within, few) in
     let last : slice_index blocks (at + (count - 1)) ≡ run.first + (count - 1) =
     c.run_at-run.ensures.side_by_side (count - 1) (omega (arith, few, some)) in
-    let inside = all_at (InSpace (g.D.Disk.state c.args.disk.now).size) blocks (at + (count - 1)) c.requires.inside below in
+    let inside = all_at (InSpace (g.D.Disk.state c.args.disk.now).size) blocks (at + (count - 1)) c.requires.inside
+    below in
     omega (arith, last, inside.below, c.loop-done.invariant.same.size, some)
 
 pub returns-in_err-get_run-clause-damaged : goal.returns-in_err-get_run-clause-damaged

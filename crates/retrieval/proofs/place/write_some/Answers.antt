@@ -14,7 +14,8 @@ returns-in_err-write-clause-modified g c h =
     let at_first : slice_index blocks c.args.i ≡ c.run_at-run.result.first =
     one_first blocks c.args.i c.run_at-run.result.first (c.run_at-run.ensures.side_by_side 0 (omega arith)) in
     one_modifies blocks c.args.i (c.args.at + blocks_of (length c.args.words.now)) c.run_at-run.result.first
-    (g.D.Disk.state c.args.disk.now) (g.D.Disk.state c.write.new.self) c.requires.left at_first (c.write.ensures.writes h)
+    (g.D.Disk.state c.args.disk.now) (g.D.Disk.state c.write.new.self) c.requires.left at_first
+    (c.write.ensures.writes h)
 
 pub returns-then-filled-eq0-clause-written : goal.returns-then-filled-eq0-clause-written
 returns-then-filled-eq0-clause-written g c h =
@@ -31,7 +32,8 @@ returns-then-filled-eq0-clause-modified g c h =
     let at_first : slice_index blocks c.args.i ≡ c.run_at-run.result.first =
     one_first blocks c.args.i c.run_at-run.result.first (c.run_at-run.ensures.side_by_side 0 (omega arith)) in
     one_modifies blocks c.args.i (c.args.at + blocks_of (length c.args.words.now)) c.run_at-run.result.first
-    (g.D.Disk.state c.args.disk.now) (g.D.Disk.state c.write.new.self) c.requires.left at_first (c.write.ensures.writes h)
+    (g.D.Disk.state c.args.disk.now) (g.D.Disk.state c.write.new.self) c.requires.left at_first
+    (c.write.ensures.writes h)
 
 pub write_run-requires : goal.write_run-requires
 write_run-requires g c =
