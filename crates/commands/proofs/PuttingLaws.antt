@@ -4,8 +4,8 @@ use Rattle.std.proofs.Common.{sym, ◌∙◌, ap, subst, take, drop, length, get
 use Rattle.std.proofs.lemmas.Bool.Decides.{nat_tests}
 use Rattle.std.proofs.lemmas.List.{drop_more, drop_all, take_all, length-drop}
 use Rattle.words36.specs.declared.moment.Moment.{Moment}
-use Rattle.meaning.specs.Costs.{blocks_of}
-use Rattle.meaning.specs.Errands.{creates, fills, fills_parts, fills_all, announces, part_address}
+use Rattle.meaning.specs.Errands.{creates, fills, fills_parts, fills_all, announces, part_address, part_words}
+use Rattle.meaning.specs.Errands.{parts_of}
 use Rattle.meaning.specs.Plans.{Plan, each, fails, deposits, calls}
 use Rattle.meaning.specs.declared.call.Call.TheVariants.{Close}
 use Rattle.meaning.specs.declared.call.Event.{Event}
@@ -13,6 +13,7 @@ use Rattle.meaning.specs.declared.call.Event.TheVariants.{Deposit}
 use Rattle.meaning.specs.declared.call.Reply.{Reply}
 use Rattle.meaning.specs.declared.command.Spec.{Spec}
 use Rattle.meaning.specs.declared.encoding.Encoding.{Encoding}
+use Rattle.meaning.specs.declared.encoding.Encoding.TheVariants.{Characters, Words}
 use Rattle.commands.specs.Asking.{Led, followed}
 use Rattle.commands.specs.Machines.{Machine, AlwaysStands}
 use Rattle.commands.proofs.LedLaws.{led_on, led_still}
@@ -77,55 +78,74 @@ module _ {S : Type 0} (machine : S → Machine) (first : ℕ) (words : List ℕ)
 
 -- Parts.
 
-some_blocks : (n : ℕ) → 0 < n → (n + 127) / 128 ≡ suc ((n - 128 + 127) / 128)
-some_blocks n h = omega arith
+some_parts : (encoding : Encoding) (n : ℕ) → 0 < n
+    → parts_of encoding n ≡ suc (parts_of encoding (n - part_words encoding))
+some_parts Characters n h = omega arith
+some_parts Words n h = omega arith
 
-no_blocks : (n : ℕ) → n ≡ 0 → (n + 127) / 128 ≡ 0
-no_blocks n e = omega arith
+no_parts : (encoding : Encoding) (n : ℕ) → n ≡ 0 → parts_of encoding n ≡ 0
+no_parts Characters n e = omega arith
+no_parts Words n e = omega arith
+
+some_words : (encoding : Encoding) → 0 < part_words encoding
+some_words Characters = omega arith
+some_words Words = omega arith
+
+pub few_words : (encoding : Encoding) → part_words encoding ≤ 2048
+few_words Characters = omega arith
+few_words Words = omega arith
 
 part_filled : (moment : Moment) (encoding : Encoding) (more : ℕ) (words : List ℕ) (next : Plan)
     → fills_parts moment encoding (suc more) words next
-    ≡ each moment (fills moment encoding (take 128 words)) (fills_parts moment encoding more (drop 128 words) next)
+    ≡ each moment (fills moment encoding (take (part_words encoding) words))
+    (fills_parts moment encoding more (drop (part_words encoding) words) next)
 unfolding fills_parts
 part_filled moment encoding more words next = refl
 
 -- the first part, and those behind it
 pub first_part : (moment : Moment) (encoding : Encoding) (words part rest : List ℕ) (next : Plan) → 0 < length words
-    → part ≡ take 128 words → rest ≡ drop 128 words
+    → part ≡ take (part_words encoding) words → rest ≡ drop (part_words encoding) words
     → fills_all moment encoding words next ≡ each moment (fills moment encoding part)
     (fills_all moment encoding rest next)
 first_part moment encoding words part rest next h is_part is_rest =
-    let long : length (drop 128 words) ≡ length words - 128 = length-drop 128 words in
-    let count : blocks_of (length words) ≡ suc (blocks_of (length (drop 128 words))) = some_blocks (length words) h
-    ∙ ap (λ (n : ℕ). suc ((n + 127) / 128)) (sym long) in
+    let behind = drop (part_words encoding) words in
+    let count : parts_of encoding (length words) ≡ suc (parts_of encoding (length behind)) =
+    some_parts encoding (length words) h
+    ∙ ap (λ (n : ℕ). suc (parts_of encoding n)) (sym (length-drop (part_words encoding) words)) in
     ap (λ (n : ℕ). fills_parts moment encoding n words next) count
-    ∙ part_filled moment encoding (blocks_of (length (drop 128 words))) words next
+    ∙ part_filled moment encoding (parts_of encoding (length behind)) words next
     ∙ (λ i. each moment (fills moment encoding (sym is_part i)) (fills_all moment encoding (sym is_rest i) next))
 
 pub no_part : (moment : Moment) (encoding : Encoding) (words : List ℕ) (next : Plan) → length words ≡ 0
     → fills_all moment encoding words next ≡ next
 unfolding fills_parts
 no_part moment encoding words next none = ap (λ (n : ℕ). fills_parts moment encoding n words next)
-    (no_blocks (length words) none)
+    (no_parts encoding (length words) none)
 
--- what is cut off at 128 or at the end
-pub take_part : (words : List ℕ) (n : ℕ) → n ≡ min (length words) 128 → take n words ≡ take 128 words
-take_part words n e = by (nat_le (length words) 128) refl
+-- what is cut off where a part or all ends
+pub take_part : (encoding : Encoding) (words : List ℕ) (n most : ℕ) → most ≡ part_words encoding
+    → n ≡ min (length words) most → take n words ≡ take (part_words encoding) words
+take_part encoding words n most is e =
+    by (nat_le (length words) most) refl ∙ ap (λ (k : ℕ). take k words) is
   where
-    by : (b : Bool) → nat_le (length words) 128 ≡ b → take n words ≡ take 128 words
-    by true t = take_all n words (grind (arith, nat_tests)) ∙ sym (take_all 128 words (grind (arith, nat_tests)))
-    by false t = let at : n ≡ 128 = grind (arith, nat_tests) in ap (λ (k : ℕ). take k words) at
+    by : (b : Bool) → nat_le (length words) most ≡ b → take n words ≡ take most words
+    by true t = take_all n words (grind (arith, nat_tests)) ∙ sym (take_all most words (grind (arith, nat_tests)))
+    by false t = let at : n ≡ most = grind (arith, nat_tests) in ap (λ (k : ℕ). take k words) at
 
-pub drop_part : (words : List ℕ) (n : ℕ) → n ≡ min (length words) 128 → drop n words ≡ drop 128 words
-drop_part words n e = by (nat_le (length words) 128) refl
+pub drop_part : (encoding : Encoding) (words : List ℕ) (n most : ℕ) → most ≡ part_words encoding
+    → n ≡ min (length words) most → drop n words ≡ drop (part_words encoding) words
+drop_part encoding words n most is e =
+    by (nat_le (length words) most) refl ∙ ap (λ (k : ℕ). drop k words) is
   where
-    by : (b : Bool) → nat_le (length words) 128 ≡ b → drop n words ≡ drop 128 words
-    by true t = drop_all n words (grind (arith, nat_tests)) ∙ sym (drop_all 128 words (grind (arith, nat_tests)))
-    by false t = let at : n ≡ 128 = grind (arith, nat_tests) in ap (λ (k : ℕ). drop k words) at
+    by : (b : Bool) → nat_le (length words) most ≡ b → drop n words ≡ drop most words
+    by true t = drop_all n words (grind (arith, nat_tests)) ∙ sym (drop_all most words (grind (arith, nat_tests)))
+    by false t = let at : n ≡ most = grind (arith, nat_tests) in ap (λ (k : ℕ). drop k words) at
 
-pub rest_shorter : (words after : List ℕ) → 0 < length words → after ≡ drop 128 words → length after < length words
-rest_shorter words after h e =
-    let long : length after ≡ length words - 128 = ap length e ∙ length-drop 128 words in omega arith
+pub rest_shorter : (encoding : Encoding) (words after : List ℕ) → 0 < length words
+    → after ≡ drop (part_words encoding) words → length after < length words
+rest_shorter encoding words after h e =
+    let long : length after ≡ length words - part_words encoding = ap length e ∙ length-drop (part_words encoding) words
+    in omega (arith, some_words encoding)
 
 module _ {S : Type 0} (machine : S → Machine) (moment : Moment) (encoding : Encoding) (words : List ℕ) where
   abbrev pub Filled : S → S → List ℕ → Type 0
@@ -135,8 +155,8 @@ module _ {S : Type 0} (machine : S → Machine) (moment : Moment) (encoding : En
   pub filled_none : AlwaysStands machine → (a : S) → Filled a a words
   filled_none stands a next = led_still machine stands a (fills_all moment encoding words next)
 
-  module _ (a b c : S) (rest part after : List ℕ) (h : 0 < length rest) (is_part : part ≡ take 128 rest)
-      (is_after : after ≡ drop 128 rest) (p : Filled a b rest) where
+  module _ (a b c : S) (rest part after : List ℕ) (h : 0 < length rest)
+      (is_part : part ≡ take (part_words encoding) rest) (is_after : after ≡ drop (part_words encoding) rest) (p : Filled a b rest) where
     part_then : (next end : Plan)
         → Led machine b c (each moment (fills moment encoding part) (fills_all moment encoding after next)) end
         → Led machine a c (fills_all moment encoding words next) end

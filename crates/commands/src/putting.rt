@@ -2,14 +2,14 @@ ghost use Rattle.std.specs.Prelude.{◌≡◌, ◌≤◌, ◌+◌, ◌^◌, ◌+
 ghost use Rattle.words36.specs.declared.moment.Moment as moments;
 ghost use Rattle.meaning.specs.Plans.{Plan, each, deposits, calls};
 ghost use Rattle.meaning.specs.Errands.{announces, creates, enters, fills, fills_all as filled_all, keeps};
-ghost use Rattle.meaning.specs.Errands.{part_address as address_of};
+ghost use Rattle.meaning.specs.Errands.{part_address as address_of, part_words as words_of};
 ghost use Rattle.meaning.specs.declared.call.Call.TheVariants.{Close};
 ghost use Rattle.commands.specs.Asking.{Concludes, Led, followed};
 
 use crate::answer::{CORE_WORDS, SESSION_JOB, Tally};
 use crate::asking::ask_all;
 use crate::concluding::conclude;
-use crate::requests::{BLOCK_AREA, closes, lists, puts, writes};
+use crate::requests::{BLOCK_AREA, RUN_WORDS, closes, lists, puts, writes};
 use crate::ring_requests::{BUFFER_DATA, announces_text, creates_text};
 use crate::service::FileService;
 use meaning::{Encoding, Event, Reply, Spec};
@@ -74,7 +74,7 @@ fn announce<S: FileService>(
     encoding: Encoding,
     count: u32,
 ) -> Result<(), Reply>
-    requires { count ≤ 128 }
+    requires { count ≤ words_of encoding }
     ensures { (next : Plan) → Led S.machine service.old service.new
         (each moment (announces moment encoding count) next) (followed moment result (λ unit. next)) }
 {
@@ -98,7 +98,17 @@ fn part_address(encoding: Encoding) -> u32
     }
 }
 
-/// Puts words, a block of them at most.
+/// How many words are put at once: those of a buffer, or of a run of blocks that a command list names.
+fn part_words(encoding: Encoding) -> usize
+    ensures { result ≡ words_of encoding }
+{
+    match encoding {
+        Encoding::Characters => BLOCK_WORDS,
+        Encoding::Words => RUN_WORDS as usize,
+    }
+}
+
+/// Puts words, as many as are put at once.
 fn fill_part<S: FileService>(
     alloc: Global,
     service: &mut S,
@@ -106,7 +116,7 @@ fn fill_part<S: FileService>(
     encoding: Encoding,
     part: &[Word],
 ) -> Result<(), Reply>
-    requires { length part.now ≤ 128 }
+    requires { length part.now ≤ words_of encoding }
     ensures { (next : Plan) → Led S.machine service.old service.new
         (each moment (fills moment encoding part.now) next) (followed moment result (λ unit. next)) }
 {
@@ -114,7 +124,7 @@ fn fill_part<S: FileService>(
     announce(alloc, service, moment, encoding, part.len() as u32)
 }
 
-/// Puts words, block by block.
+/// Puts words, part by part.
 fn fill_all<S: FileService>(
     alloc: Global,
     service: &mut S,
@@ -127,7 +137,7 @@ fn fill_all<S: FileService>(
 {
     let mut rest = words;
     while !rest.is_empty() {
-        let (part, after) = rest.split_at(rest.len().min(BLOCK_WORDS));
+        let (part, after) = rest.split_at(rest.len().min(part_words(encoding)));
         fill_part(alloc, service, moment, encoding, part)?;
         rest = after;
     }

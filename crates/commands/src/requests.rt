@@ -7,7 +7,7 @@ ghost use Rattle.meaning.specs.declared.call.Event.TheVariants.{Deposit};
 
 use crate::answer::SESSION_JOB;
 use meaning::{Call, Event, Spec};
-use words36::{FileName, Half, Moment, Ppn, Word};
+use words36::{BLOCK_WORDS, FileName, Half, Moment, Ppn, Word};
 
 // Where a session has what it hands over, in its core.
 
@@ -28,6 +28,12 @@ const LIST_WORDS: u32 = 0o50;
 
 /// The words of a block, or of several.
 pub const BLOCK_AREA: u32 = 0o200;
+
+/// How many blocks an IN or an OUT moves at most.
+pub const RUN_BLOCKS: u32 = 16;
+
+/// How many words these are.
+pub const RUN_WORDS: u32 = RUN_BLOCKS * BLOCK_WORDS as u32;
 
 /// DSK in SIXBIT.
 pub const DISK: u64 = 0o446353000000;

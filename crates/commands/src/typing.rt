@@ -14,18 +14,12 @@ ghost use Rattle.commands.specs.Sessions.{Spoke};
 use crate::answer::{Tally, is_broken, refuse};
 use crate::asking::{ask_all, examine, reset};
 use crate::reading::{blocks_said, find_end, last_count};
-use crate::requests::{BLOCK_AREA, SIZE_WORD, finds, goes_to, lists, takes};
+use crate::requests::{BLOCK_AREA, RUN_BLOCKS, RUN_WORDS, SIZE_WORD, finds, goes_to, lists, takes};
 use crate::service::FileService;
 use crate::text;
 use meaning::{Encoding, Reply, Spec};
 use std::alloc::{AllocError, Global};
 use words36::{BLOCK_WORDS, Block, Moment, Ppn, Word, block_to_bytes, unpack_ascii};
-
-/// How many blocks an IN of a file that is read moves, as long as so many whole ones are left.
-const RUN_BLOCKS: u32 = 16;
-
-/// How many words these are.
-const RUN_WORDS: u32 = RUN_BLOCKS * BLOCK_WORDS as u32;
 
 /// What was read so far, as it is printed.
 #[derive(Drop)]

@@ -13,15 +13,18 @@ loop-rest-preserved g c =
     let some : 0 < length c.loop-rest.rest.now = grind arith in
     filled_more g.S.FileService.machine c.args.moment c.args.encoding c.args.words.now _ _ _ c.loop-rest.rest.now _ _
     some
-    (c.split_at.ensures.front ∙ take_part c.loop-rest.rest.now c.min.result c.min.ensures)
-    (c.split_at.ensures.back ∙ drop_part c.loop-rest.rest.now c.min.result c.min.ensures)
+    (c.split_at.ensures.front ∙ take_part c.args.encoding c.loop-rest.rest.now c.min.result c.part_words.result
+    c.part_words.ensures c.min.ensures)
+    (c.split_at.ensures.back ∙ drop_part c.args.encoding c.loop-rest.rest.now c.min.result c.part_words.result
+    c.part_words.ensures c.min.ensures)
     c.loop-rest.invariant c.in_ok-fill_part.ensures
 
 pub loop-rest-smaller : goal.loop-rest-smaller
 loop-rest-smaller g c =
     let some : 0 < length c.loop-rest.rest.now = grind arith in
-    rest_shorter c.loop-rest.rest.now _ some
-    (c.split_at.ensures.back ∙ drop_part c.loop-rest.rest.now c.min.result c.min.ensures)
+    rest_shorter c.args.encoding c.loop-rest.rest.now _ some
+    (c.split_at.ensures.back ∙ drop_part c.args.encoding c.loop-rest.rest.now c.min.result c.part_words.result
+    c.part_words.ensures c.min.ensures)
 
 pub returns-in_err-fill_part : goal.returns-in_err-fill_part
 returns-in_err-fill_part g c =
@@ -29,8 +32,10 @@ returns-in_err-fill_part g c =
     let p = err_from_is_err_and c.from_residual.result c.from_residual.ensures.1 in
     rw (p.1, p.2)
     (filled_broken g.S.FileService.machine c.args.moment c.args.encoding c.args.words.now _ _ _ c.loop-rest.rest.now _ _
-    some (c.split_at.ensures.front ∙ take_part c.loop-rest.rest.now c.min.result c.min.ensures)
-    (c.split_at.ensures.back ∙ drop_part c.loop-rest.rest.now c.min.result c.min.ensures)
+    some (c.split_at.ensures.front ∙ take_part c.args.encoding c.loop-rest.rest.now c.min.result c.part_words.result
+    c.part_words.ensures c.min.ensures)
+    (c.split_at.ensures.back ∙ drop_part c.args.encoding c.loop-rest.rest.now c.min.result c.part_words.result
+    c.part_words.ensures c.min.ensures)
     c.loop-rest.invariant c.in_err-fill_part.field-0.0 c.in_err-fill_part.ensures)
 
 pub returns : goal.returns

@@ -1,6 +1,7 @@
 use Rattle.std.proofs.Common.{length, sym, subst, ◌∙◌, refl}
 use Rattle.meaning.specs.Outputs.{is_before_end}
 use Rattle.meaning.proofs.MapLaws.{some_same}
+use Rattle.volume.proofs.Publications.{unchanged_leaves}
 use Rattle.monitor.specs.Publishing.{MayPublish}
 use Rattle.monitor.specs.Sides.{kind_of}
 use Rattle.monitor.proofs.Outs.{finds_place, lacks_room}
@@ -20,6 +21,15 @@ returns-in-Err-clause-whatever g c words found =
     subst (λ ws. MayPublish (state c.args.volume.now.disk) (state c.publish.new.self.disk) c.args.volume.now.core
     c.publish.new.self.core c.args.output ws) (some_same (sym c.in-Ok.ensures.words ∙ found))
     (record { crash = c.publish.ensures.crash; others = c.publish.ensures.others; held = c.publish.ensures.held })
+
+-- nothing is touched where the last words find no place
+pub returns-then-is_kept-clause-whatever : goal.returns-then-is_kept-clause-whatever
+returns-then-is_kept-clause-whatever g c words found = record {
+  crash = λ h f rests p at body long has. unchanged_leaves (g.D.Disk.state c.args.volume.now.disk) f _ rests
+      (λ d left. g.met.D.Disk.only_now c.args.volume.now.disk d h left);
+  others = λ k other. refl;
+  held = λ k v at readers. (v.is_current, at);
+}
 
 pub returns-in-Ok-publish-clause-answered : goal.returns-in-Ok-publish-clause-answered
 returns-in-Ok-publish-clause-answered g c =
