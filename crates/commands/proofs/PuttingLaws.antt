@@ -91,10 +91,6 @@ some_words : (encoding : Encoding) → 0 < part_words encoding
 some_words Characters = omega arith
 some_words Words = omega arith
 
-pub few_words : (encoding : Encoding) → part_words encoding ≤ 2048
-few_words Characters = omega arith
-few_words Words = omega arith
-
 part_filled : (moment : Moment) (encoding : Encoding) (more : ℕ) (words : List ℕ) (next : Plan)
     → fills_parts moment encoding (suc more) words next
     ≡ each moment (fills moment encoding (take (part_words encoding) words))
@@ -156,7 +152,8 @@ module _ {S : Type 0} (machine : S → Machine) (moment : Moment) (encoding : En
   filled_none stands a next = led_still machine stands a (fills_all moment encoding words next)
 
   module _ (a b c : S) (rest part after : List ℕ) (h : 0 < length rest)
-      (is_part : part ≡ take (part_words encoding) rest) (is_after : after ≡ drop (part_words encoding) rest) (p : Filled a b rest) where
+      (is_part : part ≡ take (part_words encoding) rest) (is_after : after ≡ drop (part_words encoding) rest)
+      (p : Filled a b rest) where
     part_then : (next end : Plan)
         → Led machine b c (each moment (fills moment encoding part) (fills_all moment encoding after next)) end
         → Led machine a c (fills_all moment encoding words next) end

@@ -1,5 +1,5 @@
 use Rattle.std.proofs.lemmas.Result.{err_from_is_err_and}
-use Rattle.commands.proofs.PuttingLaws.{few_words, part_deposited, part_announced}
+use Rattle.commands.proofs.PuttingLaws.{part_deposited, part_announced}
 use Rattle.commands.proofs.putting.fill_part.Goals as goal
 
 pub returns-in_err-deposit_all : goal.returns-in_err-deposit_all

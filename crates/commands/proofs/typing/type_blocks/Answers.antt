@@ -46,6 +46,7 @@ returns g c =
     c.ask_all.new.service _ _ _ _
     (asked_done g.S.FileService.machine c.args.moment c.lists.ensures c.in_ok-ask_all.ensures)
     c.in_ok-type_runs.ensures)
-    (read_listed g.S.FileService.machine c.args.moment (c.args.count % blocks_at_once) 128 _ c.ask_all-2.new.service _ _ _ _
+    (read_listed g.S.FileService.machine c.args.moment (c.args.count % blocks_at_once) 128 _
+    c.ask_all-2.new.service _ _ _ _
     (asked_done g.S.FileService.machine c.args.moment c.lists-2.ensures c.in_ok-ask_all-2.ensures)
     c.type_runs-2.ensures)
