@@ -13,8 +13,8 @@ use std::alloc::Global;
 use std::num::NonZeroUsize;
 use words36::Block;
 
-/// A disk some of whose blocks are kept in memory: those that were read or written last, as many as it has
-/// room for. Writes go through to the disk under it at once.
+/// A disk some of whose blocks are kept in memory: those that were read or written last, each by itself, as many as it
+/// has room for. Writes go through to the disk under it at once.
 ///
 /// A block for which no memory is found is not kept, and nobody is told: it is read again when it is wanted.
 #[derive(Drop)]

@@ -9,6 +9,8 @@
 //! 4. A write first forgets the block, then writes, and keeps the new words once they are written: a write
 //!    that failed leaves nothing kept of its block. (`write`)
 //! 5. A sync that failed may have changed what open blocks hold, so nothing is kept from then on. (`sync`)
+//! 6. A run of several blocks goes past what is kept: a read leaves it as it was, and a write leaves nothing kept of
+//!    its blocks, and all else. (`passes_by`, `forgets`)
 #![tactic(auto)]
 
 mod cache;

@@ -102,7 +102,8 @@ pub trait Disk {
         ensures failed { IsErrOf result Device → (state self.new).failures ≡ one_more (state self.old).failures }
         ensures served { OnOk result ((state self.new).failures ≡ (state self.old).failures) };
 
-    /// Writes neighbouring blocks, from one on. They are open from then on, whatever the answer, until a sync succeeds.
+    /// Writes neighbouring blocks, from one on. Whatever it answers, a crash may leave anything in them from then on,
+    /// until a sync succeeds.
     ///
     /// # Errors
     ///
