@@ -9,7 +9,7 @@ use Rattle.meaning.specs.Runs.{Service, Answers}
 use Rattle.meaning.specs.declared.call.Event.{Event}
 use Rattle.meaning.specs.declared.call.Event.TheVariants.{Deposit, Examine}
 use Rattle.meaning.specs.declared.call.Reply.{Reply}
-use Rattle.meaning.specs.declared.call.Reply.TheVariants.{Done, Value}
+use Rattle.meaning.specs.declared.call.Reply.TheVariants.{Done, Value, Device}
 use Rattle.volume.specs.Live.{VolumeCore}
 use Rattle.monitor.specs.Deposits.{DepositsBy}
 use Rattle.monitor.specs.Serving.{pack_of, Serves}
@@ -35,15 +35,17 @@ module _ {D : Type 0} (state : D → DiskState) (only_now : (disk : D) (contents
 
   -- an event that leaves the disk alone, of which it is known what it is answered
   answered : (jobs jobs' : List (Option Job)) (event : Event) (reply : Reply)
+      → (reply ≡ Device → ⊥)
       → ((old : Service) → Serves (state disk) map failed jobs old → (new : Service)
       × Serves (state disk) map failed jobs' new × Answers (pack_of (state disk)) old event reply new)
       → IsAnswered (of (with_jobs jobs)) (of (with_jobs jobs')) event reply
-  answered jobs jobs' event reply by = record {
+  answered jobs jobs' event reply served by = record {
     pack = refl;
     was_honest = λ honest. honest;
     crash = λ honest s serves. untouched_event state only_now disk disk refl map jobs event reply honest s serves.1;
     broken = λ honest serves. still_start (state disk);
     answers = λ honest. by;
+    counted = (λ device. absurd (served device), λ other. refl);
   }
 
   pub words_shown : (jobs : List (Option Job)) (first : ℕ) (words : List ℕ)
@@ -52,7 +54,7 @@ module _ {D : Type 0} (state : D → DiskState) (only_now : (disk : D) (contents
       × Answers (pack_of (state disk)) old (Examine 1 (first + i)) (Value (slice_index words i)) new)
       → AreShown (of (with_jobs jobs)) first words
   words_shown jobs first words by i less =
-      answered jobs jobs (Examine 1 (first + i)) (Value (slice_index words i)) (by i less)
+      answered jobs jobs (Examine 1 (first + i)) (Value (slice_index words i)) (λ device. cc) (by i less)
 
   pub all_shown : {W : Type 0} (view : W → List ℕ) (jobs : List (Option Job)) (first count : ℕ) (result : Option W)
       → IfSome result (λ w. length (view w) ≡ count)
@@ -80,6 +82,6 @@ module _ {D : Type 0} (state : D → DiskState) (only_now : (disk : D) (contents
         acts = Asks (Deposit 1 first word) Done ∷ more.acts;
         goes = goes_on of (with_jobs jobs) (with_jobs by.0) (with_jobs last) (Asks (Deposit 1 first word) Done ∷ [])
             more.acts (goes_answered of stands (with_jobs jobs) (with_jobs by.0) (Deposit 1 first word) Done
-            (answered jobs by.0 (Deposit 1 first word) Done by.1)) more.goes;
+            (answered jobs by.0 (Deposit 1 first word) Done (λ device. cc) by.1)) more.goes;
         leads = λ moment rest next. (refl, more.leads moment rest next);
       }

@@ -8,7 +8,7 @@ use Rattle.meaning.specs.Transcripts.{Went}
 use Rattle.meaning.specs.declared.entry.Entry.{Entry}
 use Rattle.meaning.specs.declared.call.Reply.{Reply}
 use Rattle.meaning.specs.declared.call.Event.{Event}
-use Rattle.commands.specs.Machines.{Machine, IsAnswered, IsListed, AlwaysStands, ActsBy, GoesBy}
+use Rattle.commands.specs.Machines.{Machine, IsAnswered, IsListed, AlwaysStands, ActsBy, GoesBy, CountsFailures}
 
 went-append : (pack : Pack) (first : Service) (acts more : List Act) (mid last : Service) → Went pack first acts mid
     → Went pack mid more last → Went pack first (acts ++ more) last
@@ -28,6 +28,14 @@ went_broken pack (Asks event reply ∷ acts) last (Broken, answers, rest) = went
 went_broken pack (Asks event reply ∷ acts) last (Serving s, answers, rest) = absurd answers
 went_broken pack (Looks owner answer ∷ acts) last (mid, lists, rest) = went_broken pack acts last
     (subst (λ (s : Service). Went pack s acts last) lists.1 rest)
+
+-- The failures of acts are those of the first ones, and of the ones after these.
+counts_on : (acts more : List Act) (first mid last : ℕ) → CountsFailures acts first mid → CountsFailures more mid last
+    → CountsFailures (acts ++ more) first last
+counts_on [] more first mid last p q = subst (λ n. CountsFailures more n last) p q
+counts_on (Asks event reply ∷ acts) more first mid last p q =
+    (p.0, p.1, counts_on acts more p.0 mid last p.2 q)
+counts_on (Looks owner answer ∷ acts) more first mid last p q = counts_on acts more first mid last p q
 
 module _ {S : Type 0} (machine : S → Machine) where
   -- what the service went through, without its moments
@@ -85,6 +93,8 @@ module _ {S : Type 0} (machine : S → Machine) where
           acts_on (machine a).pack a b c first one.0 next.0 acts more one.2
               (subst (λ (k : Pack). ActsBy machine k b one.0 more c next.0) p.pack next.2),
         );
+    counted = counts_on acts more (machine a).disk.failures (machine b).disk.failures (machine c).disk.failures
+        p.counted q.counted;
   }
 
   module _ (stands : AlwaysStands machine) where
@@ -98,6 +108,7 @@ module _ {S : Type 0} (machine : S → Machine) where
       pack = refl;
       was_honest = λ h. h;
       went = λ h first serves. (first, serves, acts_none a first h serves);
+      counted = refl;
     }
 
     -- Nothing more was done behind an act.
@@ -130,6 +141,7 @@ module _ {S : Type 0} (machine : S → Machine) where
       went = λ h first serves.
           let one = p.answers h first serves in
           (one.0, one.1, answered_acts a b event reply p h first one.0 serves one.1 one.2);
+      counted = ((machine b).disk.failures, p.counted, refl);
     }
 
     module _ (a b : S) (owner : ℕ) (answer : Result (List Entry) Reply)
@@ -148,4 +160,5 @@ module _ {S : Type 0} (machine : S → Machine) where
       went = λ h first serves.
           let one = p.lists h first serves in
           (one.0, one.1, listed_acts a b owner answer p h first one.0 serves one.1 one.2);
+      counted = p.served;
     }

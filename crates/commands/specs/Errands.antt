@@ -8,7 +8,7 @@ use Rattle.meaning.specs.Jobs.{State}
 use Rattle.meaning.specs.Maps.{keys}
 use Rattle.meaning.specs.Plans.{Act, Plan, Say, Leads, Conducts}
 use Rattle.meaning.specs.Room.{room}
-use Rattle.meaning.specs.Runs.{Serving}
+use Rattle.meaning.specs.Runs.{Serving, Broken}
 use Rattle.meaning.specs.Texts.{Spoken}
 use Rattle.meaning.specs.declared.call.Reply.{Reply}
 use Rattle.meaning.specs.declared.call.Reply.TheVariants.{NoMemory as NoMemoryReply, Failed}
@@ -77,11 +77,12 @@ pub record Delivery {S : Type 0} (source left sink full : Option (List ℕ)) (ma
   pub goes : GoesBy machine old new acts
   pub delivers : Delivers encoding (IsAtEnd left) plan read acts written result
 
--- Which directories are to be listed: one, or all that there are.
+-- Which directories are to be listed: one, or all that there are. There is no answer if they find no memory, or from a
+-- service that has failed.
 abbrev pub AreAsked : Machine → Option ℕ → Result (List ℕ) Reply → Type 0
 AreAsked machine (Some owner) owners = owners ≡ Ok (owner ∷ [])
 AreAsked machine None (Ok owners) = machine.honest → (s : State) → machine.serves (Serving s) → owners ≡ keys s.files
-AreAsked machine None (Err reply) = (reply ≡ NoMemoryReply) ⊎ (reply ≡ Failed)
+AreAsked machine None (Err reply) = (reply ≡ NoMemoryReply) ⊎ ((reply ≡ Failed) × machine.serves Broken)
 
 -- The lists of directories were asked for, and written.
 pub record Survey {S : Type 0} (sink full : Option (List ℕ)) (machine : S → Machine) (old new : S) (moment : Moment)

@@ -1,7 +1,7 @@
 -- What is known of a service of files, whatever it is made of: the disk that it serves, whether it has kept its
 -- promises so far, and which services of the definitions it may stand for.
 use Rattle.std.specs.Prelude.{◌≡◌, ◌⊎◌, ◌+◌, ◌<◌, ℕ, false, IsTrue, List, [], ◌∷◌, None, Result, length, slice_index}
-use Rattle.blockdisk.specs.Disk.{DiskState, Still, LeavesOnly}
+use Rattle.blockdisk.specs.Disk.{DiskState, Still, LeavesOnly, one_more}
 use Rattle.meaning.specs.Crashes.{may_change, StandsForEither}
 use Rattle.meaning.specs.Jobs.{State}
 use Rattle.meaning.specs.Room.{Pack}
@@ -11,7 +11,7 @@ use Rattle.meaning.specs.Step.{step}
 use Rattle.meaning.specs.Transcripts.{Went}
 use Rattle.meaning.specs.declared.entry.Entry.{Entry}
 use Rattle.meaning.specs.declared.call.Reply.{Reply}
-use Rattle.meaning.specs.declared.call.Reply.TheVariants.{Value}
+use Rattle.meaning.specs.declared.call.Reply.TheVariants.{Value, Device}
 use Rattle.meaning.specs.declared.call.Event.TheVariants.{Examine}
 use Rattle.monitor.specs.Moments.{StandsNow}
 use Rattle.meaning.specs.declared.call.Event.{Event}
@@ -21,6 +21,11 @@ pub record Machine : Type 1 where
   pub honest : Type 0
   pub disk : DiskState
   pub serves : Service → Type 0
+
+-- On every disk: the failure count rose by one if this is the reply to an event that the disk failed, and stayed if not.
+abbrev pub CountsFailure : Reply → ℕ → ℕ → Type 0
+CountsFailure reply before after =
+    (reply ≡ Device → after ≡ one_more before) × ((reply ≡ Device → ⊥) → after ≡ before)
 
 -- It answered an event: at any moment of it a crash left the files from before, or those after it where its answer is
 -- one that may change files.
@@ -32,6 +37,7 @@ pub record IsAnswered (old new : Machine) (event : Event) (reply : Reply) : Type
   pub broken : new.honest → old.serves Broken → Still old.disk new.disk
   pub answers : new.honest → (first : Service) → old.serves first
       → (last : Service) × new.serves last × Answers old.pack first event reply last
+  pub counted : CountsFailure reply old.disk.failures new.disk.failures
 
 -- Each of these words, which stand in job 1's core from an address on, is what an event is told that asks for it; and
 -- asking changes nothing.
@@ -44,6 +50,7 @@ pub record IsListed (old new : Machine) (job owner : ℕ) (answer : Result (List
   pub pack : new.pack ≡ old.pack
   pub was_honest : new.honest → old.honest
   pub still : Still old.disk new.disk
+  pub served : new.disk.failures ≡ old.disk.failures
   pub lists : new.honest → (first : Service) → old.serves first → (last : Service) × new.serves last
       × Lists first job owner answer last
 
@@ -84,9 +91,17 @@ IsAlongActs pack (Serving s) (Asks event reply ∷ acts) found =
 IsAlongActs pack (Serving s) (Looks owner answer ∷ acts) found =
     (found ≡ s) ⊎ ((mid : Service) × Lists (Serving s) 1 owner answer mid × IsAlongActs pack mid acts found)
 
+-- On every disk: the failure count rose by one for each act that the disk failed, and for nothing else.
+abbrev pub CountsFailures : List Act → ℕ → ℕ → Type 0
+CountsFailures [] before after = after ≡ before
+CountsFailures (Asks event reply ∷ acts) before after =
+    (mid : ℕ) × CountsFailure reply before mid × CountsFailures acts mid after
+CountsFailures (Looks owner answer ∷ acts) before after = CountsFailures acts before after
+
 -- It went by these acts of job 1, moment by moment.
 pub record GoesBy {S : Type 0} (machine : S → Machine) (old new : S) (acts : List Act) : Type 0 where
   pub pack : (machine new).pack ≡ (machine old).pack
   pub was_honest : (machine new).honest → (machine old).honest
   pub went : (machine new).honest → (first : Service) → (machine old).serves first
       → (last : Service) × (machine new).serves last × ActsBy machine (machine old).pack old first acts new last
+  pub counted : CountsFailures acts (machine old).disk.failures (machine new).disk.failures

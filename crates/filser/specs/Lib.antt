@@ -1,8 +1,13 @@
+pub mod Hosts
 pub mod Requests
 pub mod Statuses
 pub mod Refusals
+pub mod Lines
 pub mod Endings
 pub mod HostFaults
+pub mod Streams
 pub mod ServedDisks
 pub mod Tasks
+pub mod Denials
+pub mod Images
 pub mod Runs

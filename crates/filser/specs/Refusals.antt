@@ -1,5 +1,5 @@
 -- What is printed where a run ends before a line is served, and its status.
-use Rattle.std.specs.Prelude.{◌≡◌, ◌⊎◌, ℕ, List, ◌++◌, codes}
+use Rattle.std.specs.Prelude.{ℕ, List, ◌++◌, codes}
 use Rattle.std.specs.Fmt.{decimal}
 use Rattle.volume.specs.declared.error.VolumeError.{VolumeError}
 use Rattle.volume.specs.declared.error.VolumeError.TheVariants.{NotVolume, BadHome, BadLog, BadDirectory, BadRetrieval}
@@ -43,6 +43,6 @@ abbrev pub refusal_code : Refusal → ℕ
 refusal_code Exists = 3
 refusal_code (Start error) = start_code error
 
--- what a file is refused for before a block of it is looked at
-abbrev pub IsImageRefusal : Refusal → Type 0
-IsImageRefusal refusal = (refusal ≡ Start NotVolume) ⊎ (refusal ≡ Start Device)
+-- what is printed of a conversion that was done
+abbrev pub converted_text : ℕ → List ℕ
+converted_text blocks = codes "Converted " ++ decimal blocks ++ codes " blocks"

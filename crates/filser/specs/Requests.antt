@@ -110,3 +110,10 @@ InRange Fresh = Unit
 InRange (Init image blocks form) = (64 ≤ blocks) × (blocks ≤ 131072)
 InRange (Work image form task) = Unit
 InRange (Convert image new form) = Unit
+
+-- the path of the image that is named: of two, of the one that is there
+abbrev pub image_named : Request → Option Text
+image_named Fresh = None
+image_named (Init image blocks form) = Some image.now
+image_named (Work image form task) = Some image.now
+image_named (Convert image new form) = Some image.now

@@ -1,85 +1,87 @@
--- What a run makes of the reader and of the writer, whatever the disk does: the reader had `source` and has `left`, the
--- writer held `sink` and holds `full`.
-use Rattle.std.specs.Prelude.{◌≡◌, ◌⊎◌, ◌++◌, ◌∷◌, ℕ, List, [], Option, Result, codes}
-use Rattle.std.specs.Fmt.{decimal}
-use Rattle.std.specs.Io.KnownBytes.{Appends}
+-- What a run comes to: the reader had `source` and has `left`, the writer held `sink` and holds `full`, and `image` and
+-- `new` are what is left of the images that it worked on.
+use Rattle.std.specs.Prelude.{◌≡◌, ◌⊎◌, ℕ, List, Option, Some, None as Nothing}
 use Rattle.clap.specs.Words.{Kinds, IsAmong, kind_of, Row, Text}
-use Rattle.words36.specs.declared.moment.Moment.{Moment}
-use Rattle.blockdisk.specs.Disk.{DiskState}
-use Rattle.meaning.specs.Lines.{feed}
-use Rattle.monitor.specs.States.{MonitorState}
-use Rattle.commands.specs.declared.answer.Tally.{Tally}
-use Rattle.commands.specs.declared.error.SessionError.{SessionError}
-use Rattle.filser.specs.Endings.{EndsUnasked}
-use Rattle.filser.specs.Refusals.{refusal_code}
-use Rattle.filser.specs.Requests.{Asks}
-use Rattle.filser.specs.ServedDisks.{IsEnding, IsSaid}
-use Rattle.filser.specs.Statuses.{status_code}
-use Rattle.filser.specs.Tasks.{Attends, IsFirstMoment}
+use Rattle.imagefile.specs.Unseen.{Unseen}
+use Rattle.filser.specs.Denials.{IsExplained, of_host}
+use Rattle.filser.specs.Endings.{AsksForHelp, EndsUnasked}
+use Rattle.filser.specs.Hosts.{HostFacts}
+use Rattle.filser.specs.Images.{Views, IsOnBoth, IsOnFresh, IsOnImage, IsOnNew}
+use Rattle.filser.specs.Requests.{Asks, image_named}
+use Rattle.filser.specs.Streams.{AreNeeded, IsStreamAt}
 use Rattle.filser.specs.declared.asked.Request.{Request}
 use Rattle.filser.specs.declared.asked.Request.TheVariants.{Fresh, Init, Work, Convert}
+use Rattle.filser.specs.declared.disks.Disks.{Disks}
+use Rattle.filser.specs.declared.disks.Disks.TheVariants.{None}
 use Rattle.filser.specs.declared.error.RequestError.{RequestError}
 use Rattle.filser.specs.declared.error.RequestError.TheVariants.{Usage, BadArgument, NoMemory}
-use Rattle.filser.specs.declared.refusal.Refusal.{Refusal}
+use Rattle.filser.specs.declared.fault.HostFault.{HostFault}
 use Rattle.filser.specs.declared.status.Status.{Status}
 use Rattle.filser.specs.declared.status.Status.TheVariants.{Done, Fault}
-use Rattle.filser.specs.declared.task.Task.{Task}
-use Rattle.filser.specs.declared.task.Task.TheVariants.{Run}
+use Rattle.filser.specs.declared.streams.MissingStreams.{MissingStreams}
 
--- A task was attended to by a service on a disk of some kind, and the status is that of what was counted, or of what
--- broke it off.
-pub record IsAttended {D : Type 0} (state : D → DiskState) (task : Task) (source left sink full : Option (List ℕ))
-    (status : Status) : Type 0 where
-  pub first : MonitorState D
-  pub last : MonitorState D
-  pub result : Result Tally SessionError
-  pub attends : Attends state task source left sink full first last result
-  pub ends : IsEnding status result
+-- What was asked for was done, or not for a reason that stands: `u` is supposed of the file that is there, `v` of the
+-- one that is made.
+abbrev pub IsRequestRun : {H M F D I : Type 0} → HostFacts H → Views M F D I → Unseen → Unseen → Request
+    → Option (List ℕ) → Option (List ℕ) → Option (List ℕ) → Option (List ℕ) → Disks M F D I → Disks M F D I → Status
+    → Type 0
+IsRequestRun facts views u v Fresh source left sink full image new status =
+    IsOnFresh views source left sink full image status × (new ≡ None)
+IsRequestRun facts views u v (Init path blocks form) source left sink full image new status =
+    (left ≡ source) × (image ≡ None) × IsOnNew facts views path.now form blocks v sink full new status
+IsRequestRun facts views u v (Work path form task) source left sink full image new status =
+    IsOnImage facts views path.now form u task source left sink full image status × (new ≡ None)
+IsRequestRun facts views u v (Convert path other form) source left sink full image new status =
+    (left ≡ source) × IsOnBoth facts views path.now other.now form u v sink full image new status
 
--- a refusal was printed, or kept from a stream that leads to the image; or there was nothing to print to
-abbrev pub IsExcused : Option (List ℕ) → Option (List ℕ) → Status → Type 0
-IsExcused sink full status =
-    ((refusal : Refusal)
-    × (IsSaid sink full status refusal ⊎ ((full ≡ sink) × (status_code status ≡ refusal_code refusal))))
-    ⊎ ((status ≡ Fault) × (full ≡ sink))
+-- No standard stream leads to the image that is named.
+abbrev pub IsApart : {H : Type 0} → HostFacts H → Option (List ℕ) → Type 0
+IsApart facts Nothing = Unit {0}
+IsApart facts (Some path) = IsStreamAt facts path Nothing
 
--- Nothing was served, and nothing read.
-abbrev pub IsTurnedAway : Option (List ℕ) → Option (List ℕ) → Option (List ℕ) → Option (List ℕ) → Status → Type 0
-IsTurnedAway source left sink full status = (left ≡ source) × IsExcused sink full status
+-- One does, which is told to the others.
+abbrev pub LeadsToStream : {H : Type 0} → HostFacts H → Option (List ℕ) → Option (List ℕ) → Option (List ℕ) → Status
+    → Type 0
+LeadsToStream facts Nothing sink full status = ⊥
+LeadsToStream facts (Some path) sink full status = (stream : HostFault) × IsStreamAt facts path (Some stream)
+    × IsExplained sink full status (of_host stream)
 
--- so many blocks were converted, as is printed, unless the writer failed
-abbrev pub IsTold : ℕ → Option (List ℕ) → Option (List ℕ) → Status → Type 0
-IsTold blocks sink full status = (status ≡ Fault)
-    ⊎ ((status ≡ Done) × Appends sink full (codes "Converted " ++ decimal blocks ++ codes " blocks" ++ feed ∷ []))
+-- Nothing was asked of an image, and nothing read: it would have printed into the image, or there is nothing to read
+-- from or to print to.
+abbrev pub IsTurnedAway : {H M F D I : Type 0} → HostFacts H → Views M F D I → MissingStreams → Request
+    → Option (List ℕ) → Option (List ℕ) → Option (List ℕ) → Option (List ℕ) → Disks M F D I → Disks M F D I → Status
+    → Type 0
+IsTurnedAway facts views missing request source left sink full image new status =
+    (left ≡ source) × (image ≡ None) × (new ≡ None)
+    × (LeadsToStream facts (image_named request) sink full status
+    ⊎ (AreNeeded missing × (full ≡ sink) × (status ≡ Fault)))
 
--- What was asked for was done: the lines of the reader were served at date 0 and minute 0, over a fresh volume in
--- memory; an image was made, of which nothing is printed; a task was attended to on the image that is named; or it was
--- converted.
-abbrev pub IsRequestRun : {D E : Type 0} → (D → DiskState) → (E → DiskState) → Request → Option (List ℕ)
-    → Option (List ℕ)
-    → Option (List ℕ) → Option (List ℕ) → Status → Type 0
-IsRequestRun memory image Fresh source left sink full status =
-    (at : Moment) × IsFirstMoment at × IsAttended memory (Run at) source left sink full status
-IsRequestRun memory image (Init path blocks form) source left sink full status =
-    (left ≡ source) × (full ≡ sink) × (status ≡ Done)
-IsRequestRun memory image (Work path form task) source left sink full status =
-    IsAttended image task source left sink full status
-IsRequestRun memory image (Convert path new form) source left sink full status =
-    (left ≡ source) × ((blocks : ℕ) × IsTold blocks sink full status)
+-- It was turned away, or what it asks for was done with streams that are there and lead elsewhere.
+abbrev pub IsHandled : {H M F D I : Type 0} → HostFacts H → Views M F D I → MissingStreams → Unseen → Unseen → Request
+    → Option (List ℕ) → Option (List ℕ) → Option (List ℕ) → Option (List ℕ) → Disks M F D I → Disks M F D I → Status
+    → Type 0
+IsHandled facts views missing u v request source left sink full image new status =
+    (IsApart facts (image_named request) × (AreNeeded missing → ⊥)
+    × IsRequestRun facts views u v request source left sink full image new status)
+    ⊎ IsTurnedAway facts views missing request source left sink full image new status
 
--- what is printed where the words ask for nothing that is done: what `clap` has to say of them, or nothing
+-- what is printed if the words ask for nothing that is done: the text that was asked of `clap`, or nothing
 abbrev pub PrintsOnly : Kinds → RequestError → Option (List ℕ) → Option (List ℕ) → Type 0
-PrintsOnly kinds (Usage e) sink full = IsAmong (kind_of e) kinds
+PrintsOnly kinds (Usage e) sink full = IsAmong (kind_of e) kinds × ((AsksForHelp (kind_of e) → ⊥) → full ≡ sink)
 PrintsOnly kinds BadArgument sink full = full ≡ sink
 PrintsOnly kinds NoMemory sink full = full ≡ sink
 
-abbrev pub IsUnasked : Kinds → Option (List ℕ) → Option (List ℕ) → Option (List ℕ) → Option (List ℕ) → Status → Type 0
-IsUnasked kinds source left sink full status =
-    (error : RequestError) × (left ≡ source) × EndsUnasked error status × PrintsOnly kinds error sink full
+-- The words ask for nothing that is done.
+abbrev pub IsUnasked : {M F D I : Type 0} → Kinds → Option (Text × List Row) → Option (List ℕ) → Option (List ℕ)
+    → Option (List ℕ) → Option (List ℕ) → Disks M F D I → Disks M F D I → Status → Type 0
+IsUnasked kinds found source left sink full image new status =
+    (error : RequestError) × (left ≡ source) × (image ≡ None) × (new ≡ None) × EndsUnasked error status
+    × PrintsOnly kinds error sink full × (error ≡ BadArgument → (request : Request) → Asks found request → ⊥)
 
--- What the words ask for was done, or nothing was served; or the words ask for nothing that is done.
-pub record WasRun {D E : Type 0} (memory : D → DiskState) (image : E → DiskState) (kinds : Kinds)
-    (found : Option (Text × List Row)) (source left sink full : Option (List ℕ)) (status : Status) : Type 0 where
+-- A whole run, by the words of its command line.
+pub record WasRun {H M F D I : Type 0} (facts : HostFacts H) (views : Views M F D I) (missing : MissingStreams)
+    (u v : Unseen) (kinds : Kinds) (found : Option (Text × List Row)) (source left sink full : Option (List ℕ))
+    (image new : Disks M F D I) (status : Status) : Type 0 where
   pub is : ((request : Request) × Asks found request
-      × (IsRequestRun memory image request source left sink full status ⊎ IsTurnedAway source left sink full status))
-      ⊎ IsUnasked kinds source left sink full status
+      × IsHandled facts views missing u v request source left sink full image new status)
+      ⊎ IsUnasked kinds found source left sink full image new status

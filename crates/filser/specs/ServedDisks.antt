@@ -1,25 +1,23 @@
--- What a run of the program makes of the disk of an image that stands for some files.
-use Rattle.std.specs.Prelude.{◌≡◌, ◌⊎◌, ◌*◌, ◌++◌, ◌∷◌, ℕ, List, [], Option, Result, Ok, Err, max, if◌then◌else◌}
-use Rattle.std.specs.Io.KnownBytes.{Appends}
-use Rattle.blockdisk.specs.Disk.{DiskState, LeavesOnly}
+-- What a run makes of the disk of an image. `begun` is the disk before anything was asked of it.
+use Rattle.std.specs.Prelude.{◌≡◌, ◌⊎◌, ℕ, List, Option, Result, Ok, Err, None, false, max, if◌then◌else◌}
+use Rattle.blockdisk.specs.Disk.{DiskState, LeavesOnly, NoneOpen, Still, one_more}
+use Rattle.changeset.specs.Crashes.{IsRecovered}
 use Rattle.meaning.specs.Files.{File, Files}
-use Rattle.meaning.specs.Lines.{feed}
+use Rattle.meaning.specs.Stands.{Stands}
+use Rattle.volume.specs.FaultsFound.{NamesInSpace, Refuses}
 use Rattle.volume.specs.Rest.{StandsLikeBefore}
 use Rattle.volume.specs.declared.error.VolumeError.{VolumeError}
 use Rattle.volume.specs.declared.error.VolumeError.TheVariants.{Device, NoMemory}
 use Rattle.monitor.specs.Runs.{ServesFiles}
+use Rattle.monitor.specs.Sides.{no_jobs}
 use Rattle.monitor.specs.States.{MonitorState}
-use Rattle.imagefile.specs.Image.{block_length, image_contents}
-use Rattle.imagefile.specs.declared.form.Form.{Form}
-use Rattle.imagefile.specs.Unseen.{Unseen, size_of, first_bytes}
 use Rattle.commands.specs.Machines.{Machine}
 use Rattle.commands.specs.Monitors.{machine_of}
 use Rattle.commands.specs.declared.answer.Tally.{Tally}
 use Rattle.commands.specs.declared.error.SessionError.{SessionError}
-use Rattle.filser.specs.Refusals.{refusal_text, refusal_code}
+use Rattle.filser.specs.Lines.{IsLine}
+use Rattle.filser.specs.Refusals.{start_text, start_code}
 use Rattle.filser.specs.Statuses.{status_code}
-use Rattle.filser.specs.declared.refusal.Refusal.{Refusal}
-use Rattle.filser.specs.declared.refusal.Refusal.TheVariants.{Start}
 use Rattle.filser.specs.declared.status.Status.{Status}
 use Rattle.filser.specs.declared.status.Status.TheVariants.{Fault}
 
@@ -32,34 +30,56 @@ abbrev pub IsEnding : Status → Result Tally SessionError → Type 0
 IsEnding status (Ok tally) = status_code status ≡ max (if tally.refused then 1 else 0) (if tally.broke then 4 else 0)
 IsEnding status (Err error) = status ≡ Fault
 
--- the refusal is printed, and the status is its own, unless the writer failed
-abbrev pub IsSaid : Option (List ℕ) → Option (List ℕ) → Status → Refusal → Type 0
-IsSaid sink full status refusal = (status ≡ Fault)
-    ⊎ ((status_code status ≡ refusal_code refusal) × Appends sink full (refusal_text refusal ++ feed ∷ []))
+-- A start took the disk: it stood for these files, which are served now. Nothing but the recovery was written, and at
+-- each moment a crash left what stands for the same files.
+pub record IsStarted {D : Type 0} (state : D → DiskState) (begun : DiskState) (m : MonitorState D) : Type 0 where
+  pub files : Files File
+  pub stood : Stands begun.size begun.contents files
+  pub serves : ServesFiles (state m.disk) m.map m.failed m.jobs files
+  pub crash : LeavesOnly begun (state m.disk) (StandsLikeBefore begun)
+  pub recovered : IsRecovered begun.size begun.contents (state m.disk).contents
+  pub settled : NoneOpen (state m.disk)
 
--- A service was started from these files with nobody logged in, and went from its first value to its last as
--- `IsTranscript` says; the disk of the last is what is handed back.
-pub record IsServed {D : Type 0} (state : D → DiskState) (disk end : D) (status : Status) (files : Files File)
+-- A service was started with nobody logged in, and went from its first value to its last as `IsTranscript` says; the
+-- disk of the last is what is handed back.
+pub record IsServed {D : Type 0} (state : D → DiskState) (begun : DiskState) (end : D) (status : Status)
     (IsTranscript : MonitorState D → MonitorState D → Result Tally SessionError → Type 0) : Type 0 where
   pub first : MonitorState D
   pub last : MonitorState D
   pub result : Result Tally SessionError
-  pub begun : ServesFiles (state first.disk) first.map first.failed first.jobs files
-  -- until then a crash left the same files
-  pub started : LeavesOnly (state disk) (state first.disk) (StandsLikeBefore (state disk))
+  pub serving : first.failed ≡ false
+  pub nobody : first.jobs ≡ no_jobs
+  pub size : (state first.disk).size ≡ begun.size
+  pub failures : (state first.disk).failures ≡ begun.failures
+  pub was_honest : (state end).honest → begun.honest
+  pub started : (state end).honest → IsStarted state begun first
   pub transcript : IsTranscript first last result
   pub ends : IsEnding status result
   pub ended : end ≡ last.disk
 
--- None was started, for want of memory or for a fault of the device, as is said, and a crash left the same files.
-pub record IsUnserved {D : Type 0} (state : D → DiskState) (disk end : D) (status : Status)
-    (sink full : Option (List ℕ)) : Type 0 where
-  pub error : VolumeError
-  pub why : (error ≡ NoMemory) ⊎ (error ≡ Device)
-  pub said : IsSaid sink full status (Start error)
-  pub left : LeavesOnly (state disk) (state end) (StandsLikeBefore (state disk))
+-- A start refused the disk for a fault that stands there, or for want of memory or a fault of the device, which alone
+-- are left where the disk stood for files. It is as it was, or recovered at most, and at each moment a crash left what
+-- stands for the same files.
+pub record IsTurnedDown (begun end : DiskState) (error : VolumeError) : Type 0 where
+  pub refuses : Refuses begun.size end.contents error
+  pub faultless : (files : Files File) → Stands begun.size begun.contents files
+      → (error ≡ NoMemory) ⊎ (error ≡ Device)
+  pub kept : (error ≡ Device → ⊥) → Still begun end ⊎ IsRecovered begun.size begun.contents end.contents
+  pub crash : LeavesOnly begun end (StandsLikeBefore begun)
 
--- While it has been honest, the disk holds what the file of its image began with.
-pub record HoldsFile (form : Form) (u : Unseen) (d : DiskState) : Type 0 where
-  pub size : d.honest → size_of u ≡ block_length form * d.size
-  pub contents : d.honest → (n : ℕ) → d.contents n ≡ image_contents form (first_bytes u) n
+-- The same, with what holds of every disk: a refusal for the device has a fault of it as its cause.
+pub record IsRefusedBy (begun end : DiskState) (error : VolumeError) : Type 0 where
+  pub size : end.size ≡ begun.size
+  pub named : NamesInSpace begun.size error
+  pub failed : error ≡ Device → end.failures ≡ one_more begun.failures
+  pub sound : (error ≡ Device → ⊥) → end.failures ≡ begun.failures
+  pub was_honest : end.honest → begun.honest
+  pub why : end.honest → IsTurnedDown begun end error
+
+-- No service was started, as is printed, and nothing was read.
+pub record IsUnserved (begun end : DiskState) (source left sink full : Option (List ℕ)) (status : Status)
+    : Type 0 where
+  pub error : VolumeError
+  pub refused : IsRefusedBy begun end error
+  pub said : IsLine sink full status (start_code error) (start_text error)
+  pub unread : left ≡ source

@@ -1,0 +1,79 @@
+-- Why an image isn't served or made, and what is printed then.
+use Rattle.std.specs.Prelude.{◌≡◌, ◌≢◌, ◌⊎◌, ℕ, ℤ, List, Bool, true, false, Option, Some, None, Result, Ok, Err}
+use Rattle.std.specs.Prelude.{option_map, pos, ◌≤ℤ◌}
+use Rattle.std.specs.IoError.{error_kind}
+use Rattle.std.specs.declared.fs.TryLockError.TheVariants.{WouldBlock}
+use Rattle.std.specs.declared.io.Error.{Error}
+use Rattle.std.specs.declared.io.ErrorKind.TheVariants.{AlreadyExists}
+use Rattle.imagefile.specs.File.{FileState}
+use Rattle.imagefile.specs.Image.{IsImageSize}
+use Rattle.imagefile.specs.Unseen.{Unseen, size_of}
+use Rattle.imagefile.specs.declared.form.Form.{Form}
+use Rattle.volume.specs.declared.error.VolumeError.TheVariants.{Device, NotVolume}
+use Rattle.filser.specs.HostFaults.{forbids_output}
+use Rattle.filser.specs.Hosts.{HostFacts}
+use Rattle.filser.specs.Lines.{IsLine}
+use Rattle.filser.specs.Refusals.{refusal_text, refusal_code}
+use Rattle.filser.specs.Statuses.{status_code}
+use Rattle.filser.specs.Streams.{IsStreamOf}
+use Rattle.filser.specs.declared.fault.HostFault.{HostFault}
+use Rattle.filser.specs.declared.fault.HostFault.TheVariants.{System, InUse}
+use Rattle.filser.specs.declared.fault.ImageFault.{ImageFault}
+use Rattle.filser.specs.declared.refusal.Refusal.{Refusal}
+use Rattle.filser.specs.declared.refusal.Refusal.TheVariants.{Exists, Start}
+use Rattle.filser.specs.declared.status.Status.{Status}
+
+-- The host didn't give what was asked of it.
+abbrev pub of_host : HostFault → ImageFault
+of_host host = record { refusal = Start Device; host = Some host }
+
+-- An open file can't be used: it has the number of a standard stream, or another process has it.
+abbrev pub IsUnfit : {F : Type 0} → HostFacts F → F → ImageFault → Type 0
+IsUnfit facts file fault =
+    ((stream : HostFault) × (facts.number file ≤ℤ pos 2) × IsStreamOf (facts.number file) stream
+    × (fault ≡ of_host stream))
+    ⊎ (facts.locked file (Err WouldBlock) × (fault ≡ of_host InUse))
+
+-- The file at a path wasn't opened, or can't be used.
+abbrev pub IsUnopened : {F : Type 0} → HostFacts F → List ℕ → ImageFault → Type 0
+IsUnopened {F} facts path fault =
+    ((error : Error) × facts.opened path (Err error) × (fault ≡ of_host (System error)))
+    ⊎ ((file : F) × facts.opened path (Ok file) × IsUnfit facts file fault)
+
+-- No file was made at a path: something is there, or the host couldn't make one.
+abbrev pub IsUnmade : {F : Type 0} → HostFacts F → List ℕ → ImageFault → Type 0
+IsUnmade facts path fault = (error : Error) × facts.created path (Err error) × (fault.host ≡ Some (System error))
+    × (((error_kind error ≡ AlreadyExists) × (fault.refusal ≡ Exists))
+    ⊎ ((error_kind error ≢ AlreadyExists) × (fault.refusal ≡ Start Device)))
+
+-- One was made, and can't be used, or wasn't filled.
+abbrev pub IsUnfilled : {F : Type 0} → HostFacts F → List ℕ → ImageFault → Type 0
+IsUnfilled {F} facts path fault = (file : F) × facts.created path (Ok file)
+    × (IsUnfit facts file fault
+    ⊎ ((error : Error) × facts.filled file (Err error) × (fault ≡ of_host (System error))))
+
+-- A device failed, and people are told why, if the host has said so.
+abbrev pub IsDeviceFault : ImageFault → Type 0
+IsDeviceFault fault = (fault.refusal ≡ Start Device) × ((error : Option Error) × (fault.host ≡ option_map System error))
+
+-- A file is no image in this form, as its length shows; or its length couldn't be had.
+abbrev pub IsNoImage : Form → Unseen → FileState → ImageFault → Type 0
+IsNoImage form u file fault =
+    ((fault ≡ record { refusal = Start NotVolume; host = None }) × (file.honest → IsImageSize form (size_of u) → ⊥))
+    ⊎ (IsDeviceFault fault × (file.failures ≡ 1))
+
+-- What is printed.
+
+-- nothing, with the status of the refusal; or its line
+abbrev pub IsShown : Bool → Option (List ℕ) → Option (List ℕ) → Status → Refusal → Type 0
+IsShown true sink full status refusal = (full ≡ sink) × (status_code status ≡ refusal_code refusal)
+IsShown false sink full status refusal = IsLine sink full status (refusal_code refusal) (refusal_text refusal)
+
+-- whether nothing may be printed
+abbrev pub is_mute : Option HostFault → Bool
+is_mute None = false
+is_mute (Some host) = forbids_output host
+
+-- The line of the refusal is printed, unless it would land in the image or there is no memory.
+abbrev pub IsExplained : Option (List ℕ) → Option (List ℕ) → Status → ImageFault → Type 0
+IsExplained sink full status fault = IsShown (is_mute fault.host) sink full status fault.refusal

@@ -1,0 +1,49 @@
+-- What the host answered to what it was asked about files. A body that is proved for every host can show one of these
+-- facts only by the call that gives it.
+use Rattle.std.specs.Prelude.{◌⊎◌, ℕ, ℤ, List, Option, Result, Ok, Err, pos, ◌<ℤ◌}
+use Rattle.std.specs.declared.io.Error.{Error}
+use Rattle.std.specs.declared.fs.TryLockError.{TryLockError}
+use Rattle.std.specs.declared.fs.TryLockError.TheVariants.{Error as LockFailed}
+use Rattle.imagefile.specs.Unseen.{Unseen}
+use Rattle.filser.specs.declared.identity.FileId.{FileId}
+
+-- over the open files of a host
+pub record HostFacts (F : Type 0) : Type 1 where
+  -- the file at a path was to be opened, to be read and written
+  pub opened : List ℕ → Result F Error → Type 0
+  -- a file was to be made at a path where there was none
+  pub created : List ℕ → Result F Error → Type 0
+  -- a file was to be filled with zeros
+  pub filled : F → Result (Unit {0}) Error → Type 0
+  -- a file was to be kept for this process
+  pub locked : F → Result (Unit {0}) TryLockError → Type 0
+  -- a path leads to this file, or to none
+  pub found : List ℕ → Option FileId → Type 0
+  -- the number by which the system knows an open file
+  pub number : F → ℤ
+  -- this is supposed of an open file that the calls on it don't show
+  pub supposed : F → Unseen → Type 0
+
+-- A lock was asked for: it was given, or the file system has none. No other process had it.
+abbrev pub IsKept : {F : Type 0} → HostFacts F → F → Type 0
+IsKept facts file = facts.locked file (Ok tt) ⊎ ((error : Error) × facts.locked file (Err (LockFailed error)))
+
+-- An open file that has the number of no standard stream, and that no other process had.
+pub record IsOwn {F : Type 0} (facts : HostFacts F) (file : F) : Type 0 where
+  pub apart : pos 2 <ℤ facts.number file
+  pub kept : IsKept facts file
+
+-- The file at this path was opened for this process alone, and this is supposed of it.
+pub record IsOpened {F : Type 0} (facts : HostFacts F) (path : List ℕ) (u : Unseen) : Type 0 where
+  pub file : F
+  pub opened : facts.opened path (Ok file)
+  pub own : IsOwn facts file
+  pub supposed : facts.supposed file u
+
+-- A file was made at this path, where there was none, and filled with zeros; and this is supposed of it.
+pub record IsMade {F : Type 0} (facts : HostFacts F) (path : List ℕ) (u : Unseen) : Type 0 where
+  pub file : F
+  pub created : facts.created path (Ok file)
+  pub own : IsOwn facts file
+  pub filled : facts.filled file (Ok tt)
+  pub supposed : facts.supposed file u

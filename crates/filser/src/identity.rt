@@ -1,0 +1,8 @@
+/// Which file a path leads to, by the numbers that the system has for it.
+#[derive(Clone, Copy, Debug, PartialEq, Eq)]
+pub struct FileId {
+    /// The number of the device that the file is on.
+    pub device: u64,
+    /// The number of the file on that device.
+    pub inode: u64,
+}
