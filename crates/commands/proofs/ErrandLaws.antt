@@ -1,6 +1,7 @@
 -- What is left of a service and of a writer where a job logs in for one thing.
 use Rattle.std.proofs.Common.{◌≡◌, ◌⊎◌, ℕ, ◌||◌, Bool, true, false, List, [], Option, None, Some, Result, Ok, Err, refl}
 use Rattle.std.proofs.Common.{sym, ◌∙◌, ap, subst, inl, inr, IfOk, ℤ}
+use Rattle.std.specs.Prelude.{IsErrOf}
 use Rattle.std.specs.Io.KnownBytes.{Appends, Consumes, IsAtEnd}
 use Rattle.std.proofs.KnownBytes.{Appends-nil}
 use Rattle.words36.specs.declared.moment.Moment.{Moment}
@@ -12,6 +13,7 @@ use Rattle.meaning.specs.Runs.{Serving}
 use Rattle.meaning.specs.Texts.{Spoken, complains, refuses, refusal, is_broken, line}
 use Rattle.meaning.specs.declared.style.Style.{Style}
 use Rattle.meaning.specs.declared.call.Reply.{Reply}
+use Rattle.meaning.specs.declared.call.Reply.TheVariants.{NoMemory as NoMemoryReply, Failed}
 use Rattle.meaning.specs.declared.encoding.Encoding.{Encoding}
 use Rattle.commands.specs.Asking.{Led, Concludes}
 use Rattle.commands.specs.Errands.{fresh, Carries, Errand, IsUnread, Delivery, Checked}
@@ -174,6 +176,14 @@ memory_unread = tt
 pub none_there : (place : Option ℕ) → ((owner : ℕ) → place ≡ Some owner → ⊥) → place ≡ None
 none_there None other = refl
 none_there (Some owner) other = absurd (other owner refl)
+
+-- a service that has not failed finds no memory for them
+pub not_asked : {V : Type 0} (reply : Reply) (failed : Bool) → (reply ≡ NoMemoryReply) ⊎ (reply ≡ Failed)
+    → (IsErrOf {T = V} {E = Reply} (Err reply) Failed → failed ≡ true)
+    → (reply ≡ NoMemoryReply) ⊎ ((reply ≡ Failed) × (failed ≡ true))
+not_asked reply failed (inl none) fails = inl none
+not_asked {V = V} reply failed (inr is) fails =
+    inr (is, fails (subst (λ r. IsErrOf {T = V} {E = Reply} (Err r) Failed) (sym is) refl))
 
 pub surveyed : {S : Type 0} (machine : S → Machine) (moment : Moment) (style : Style) (sink full : Option (List ℕ))
     (a b : S)

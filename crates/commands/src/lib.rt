@@ -77,5 +77,6 @@ pub use monitor::{Monitor, StartError};
 pub use monitored::{check, get, list, put, script, session};
 pub use names::{file_named, owner_named};
 pub use restart::start_after_acts;
+pub use stream::write_text;
 pub use text::refusal;
 pub use volume::Volume;

@@ -4,6 +4,7 @@ use Rattle.std.proofs.Common.{◌∙◌, ap, subst}
 use Rattle.std.specs.Prelude.{IsErrOf}
 use Rattle.clap.specs.Words.{Kinds, IsAmong, kind_of}
 use Rattle.clap.specs.declared.error.Error.{Error}
+use Rattle.filser.specs.Endings.{AsksForHelp}
 use Rattle.filser.specs.Runs.{PrintsOnly}
 use Rattle.filser.specs.Statuses.{status_code}
 use Rattle.filser.specs.declared.asked.Request.{Request}
@@ -39,7 +40,13 @@ code_asked status code (inr e) differs two = let wrong : 4 ≡ 2 = sym e ∙ two
 
 pub prints_only : (kinds : Kinds) (error : RequestError) (sink full : Option (List ℕ))
     → ((e : Error) → IsErrOf {T = Request} {E = RequestError} (Err error) (Usage e) → IsAmong (kind_of e) kinds)
-    → ((error ≡ BadArgument) ⊎ (error ≡ NoMemory) → full ≡ sink) → PrintsOnly kinds error sink full
-prints_only kinds (Usage e) sink full usage none = usage e refl
-prints_only kinds BadArgument sink full usage none = none (inl refl)
-prints_only kinds NoMemory sink full usage none = none (inr refl)
+    → ((error ≡ BadArgument) ⊎ (error ≡ NoMemory) → full ≡ sink)
+    → ((e : Error) → error ≡ Usage e → (AsksForHelp (kind_of e) → ⊥) → full ≡ sink)
+    → PrintsOnly kinds error sink full
+prints_only kinds (Usage e) sink full usage none mistake = (usage e refl, mistake e refl)
+prints_only kinds BadArgument sink full usage none mistake = none (inl refl)
+prints_only kinds NoMemory sink full usage none mistake = none (inr refl)
+
+pub bad_error : (error : RequestError) → error ≡ BadArgument
+    → IsErrOf {T = Request} {E = RequestError} (Err error) BadArgument
+bad_error error is = subst (λ e. IsErrOf {T = Request} {E = RequestError} (Err e) BadArgument) (sym is) refl

@@ -1,6 +1,7 @@
-mod Began
+mod Since
+mod Printing
+mod Imaging
 mod Attending
 mod Matching
 mod Unasked
-mod Concluding
 mod ExitCodes

@@ -1,7 +1,7 @@
 -- Which standard stream stays untouched.
 use Rattle.std.specs.Prelude.{Bool, true, false}
 use Rattle.filser.specs.declared.fault.HostFault.{HostFault}
-use Rattle.filser.specs.declared.fault.HostFault.TheVariants.{System, InUse, Input, Output, Errors, Memory}
+use Rattle.filser.specs.declared.fault.HostFault.TheVariants.{System, InUse, Input, Output, Errors, Memory, WrongLength}
 
 -- nothing may be printed
 abbrev pub forbids_output : HostFault → Bool
@@ -11,6 +11,7 @@ forbids_output Input = false
 forbids_output Output = true
 forbids_output Errors = true
 forbids_output Memory = true
+forbids_output WrongLength = false
 
 -- nothing may be told
 abbrev pub forbids_errors : HostFault → Bool
@@ -20,3 +21,4 @@ forbids_errors Input = false
 forbids_errors Output = false
 forbids_errors Errors = true
 forbids_errors Memory = false
+forbids_errors WrongLength = false

@@ -1,11 +1,10 @@
 -- What became of the images that a run worked on: of one that is there, and of a new one.
 use Rattle.std.specs.Prelude.{◌≡◌, ◌≢◌, ◌⊎◌, ◌*◌, ℕ, List, Option, Some, None as Nothing, option_map}
 use Rattle.std.specs.declared.io.Error.{Error}
-use Rattle.blockdisk.specs.Disk.{DiskState, LeavesOnly, NoneOpen}
+use Rattle.blockdisk.specs.Disk.{DiskState, LeavesOnly, NoneOpen, Still, one_more}
 use Rattle.changeset.specs.Crashes.{IsRecovered}
 use Rattle.changeset.specs.Rest.{AtRest}
 use Rattle.imagefile.specs.Began.{BeganAs, begun_image}
-use Rattle.imagefile.specs.File.{FileState}
 use Rattle.imagefile.specs.Image.{block_length, other_form}
 use Rattle.imagefile.specs.Unseen.{Unseen, size_of}
 use Rattle.imagefile.specs.declared.form.Form.{Form}
@@ -13,19 +12,24 @@ use Rattle.meaning.specs.Files.{File as StoredFile, Files}
 use Rattle.meaning.specs.Maps.{empty}
 use Rattle.meaning.specs.Regions.{IsVolumeSize}
 use Rattle.meaning.specs.Stands.{Stands}
+use Rattle.volume.specs.Copying.{HomesComeLast}
 use Rattle.volume.specs.Rest.{RestsAt, StandsLikeBefore}
+use Rattle.volume.specs.declared.error.CopyError.{CopyError}
+use Rattle.volume.specs.declared.error.CopyError.TheVariants.{Source, Target}
 use Rattle.volume.specs.declared.error.VolumeError.{VolumeError}
 use Rattle.volume.specs.declared.error.VolumeError.TheVariants.{NotVolume, Device}
 use Rattle.filser.specs.Denials.{IsDeviceFault, IsExplained, IsNoImage, IsUnfilled, IsUnmade, IsUnopened, of_host}
 use Rattle.filser.specs.Hosts.{HostFacts, IsMade, IsOpened}
 use Rattle.filser.specs.Lines.{IsLine}
+use Rattle.filser.specs.Refusals.{converted_text}
 use Rattle.filser.specs.ServedDisks.{IsRefusedBy, IsServed, IsUnserved}
 use Rattle.filser.specs.Tasks.{Attends, IsFirstMoment}
-use Rattle.filser.specs.Refusals.{converted_text}
+use Rattle.filser.specs.Views.{Views}
 use Rattle.filser.specs.declared.disks.Disks.{Disks}
 use Rattle.filser.specs.declared.disks.Disks.TheVariants.{None, Memory, NoImage, Unserved, Served, Made}
 use Rattle.filser.specs.declared.fault.HostFault.TheVariants.{System, Memory as NoMemory, WrongLength}
 use Rattle.filser.specs.declared.fault.ImageFault.{ImageFault}
+use Rattle.filser.specs.declared.host.RemovalRight.{RemovalRight}
 use Rattle.filser.specs.declared.identity.FileId.{FileId}
 use Rattle.filser.specs.declared.refusal.Refusal.TheVariants.{Exists, Start}
 use Rattle.filser.specs.declared.status.Status.{Status}
@@ -33,14 +37,6 @@ use Rattle.filser.specs.declared.status.Status.TheVariants.{Done, Fault}
 use Rattle.filser.specs.declared.task.Task.{Task}
 use Rattle.filser.specs.declared.task.Task.TheVariants.{Run}
 use Rattle.words36.specs.declared.moment.Moment.{Moment}
-
--- how disks and files of these kinds are seen
-pub record Views (M F D I : Type 0) : Type 1 where
-  pub memory : M → DiskState
-  pub file : F → FileState
-  pub disk : D → DiskState
-  pub form : D → Form
-  pub image : I → DiskState
 
 -- A task was done by a service on a disk, or the disk was refused.
 abbrev pub IsTaskRun : {D : Type 0} → (D → DiskState) → DiskState → Task → Option (List ℕ) → Option (List ℕ)
@@ -67,30 +63,33 @@ IsDenied facts views path form u fault (Unserved disk) =
 IsDenied facts views path form u fault (Served image) = ⊥
 IsDenied facts views path form u fault (Made disk right) = ⊥
 
--- what became of it: where it was served, whatever was asked of the disk was asked of the file that was opened
+-- no disk was made of it
+abbrev pub HasNoDisk : {M F D I : Type 0} → Disks M F D I → Type 0
+HasNoDisk None = Unit {0}
+HasNoDisk (Memory memory) = ⊥
+HasNoDisk (NoImage file) = Unit {0}
+HasNoDisk (Unserved disk) = ⊥
+HasNoDisk (Served image) = ⊥
+HasNoDisk (Made disk right) = ⊥
+
+-- What became of it: it was served, by asking its disk alone since the file was opened; or not, for a reason that stands.
 abbrev pub IsOnImage : {H M F D I : Type 0} → HostFacts H → Views M F D I → List ℕ → Form → Unseen → Task
     → Option (List ℕ) → Option (List ℕ) → Option (List ℕ) → Option (List ℕ) → Disks M F D I → Status → Type 0
-IsOnImage facts views path form u task source left sink full (Served image) status =
-    IsOpened facts path u × IsWhole form u (views.image image)
-    × IsTaskRun views.image (begun_image form (views.image image).size u) task source left sink full image status
-IsOnImage facts views path form u task source left sink full None status = (left ≡ source)
-    × ((fault : ImageFault) × IsDenied facts views path form u fault None × IsExplained sink full status fault)
-IsOnImage facts views path form u task source left sink full (Memory memory) status = ⊥
-IsOnImage facts views path form u task source left sink full (NoImage file) status = (left ≡ source)
-    × ((fault : ImageFault) × IsDenied facts views path form u fault (NoImage file)
-    × IsExplained sink full status fault)
-IsOnImage facts views path form u task source left sink full (Unserved disk) status = (left ≡ source)
-    × ((fault : ImageFault) × IsDenied facts views path form u fault (Unserved disk)
-    × IsExplained sink full status fault)
-IsOnImage facts views path form u task source left sink full (Made disk right) status = ⊥
+IsOnImage {I = I} facts views path form u task source left sink full disks status =
+    ((image : I) × (disks ≡ Served image) × IsOpened facts path u × IsWhole form u (views.image image)
+    × IsTaskRun views.image (begun_image form (views.image image).size u) task source left sink full image status)
+    ⊎ ((left ≡ source) × ((fault : ImageFault) × IsDenied facts views path form u fault disks
+    × IsExplained sink full status fault))
 
 -- A new image of this form and of so many blocks at a path.
 
--- The disk of a file that was made can't be used: a device failed, or it has another number of blocks, or one that no volume has
-abbrev pub IsNoNewDisk : DiskState → ℕ → ImageFault → Type 0
-IsNoNewDisk d blocks fault = (IsDeviceFault fault × (d.failures ≡ 1))
-    ⊎ ((d.size ≢ blocks) × (fault ≡ of_host WrongLength))
-    ⊎ ((IsVolumeSize d.size → ⊥) × (fault ≡ record { refusal = Start NotVolume; host = Nothing }))
+-- The disk of a file that was made, which has this many blocks and faults, can't be used for one of `blocks` blocks: a
+-- device failed, or it has another number of blocks, or one that no volume has.
+abbrev pub IsNoNewDisk : ℕ → ℕ → ℕ → ImageFault → Type 0
+IsNoNewDisk size failures blocks fault = (IsDeviceFault fault × (failures ≡ 1))
+    ⊎ ((size ≢ blocks) × (fault ≡ of_host WrongLength))
+    ⊎ ((IsVolumeSize size → ⊥) × (fault.refusal ≡ Start NotVolume)
+    × ((told : Option Error) × (fault.host ≡ option_map System told)))
 
 -- why there is none
 abbrev pub IsNotMade : {H M F D I : Type 0} → HostFacts H → Views M F D I → List ℕ → Form → ℕ → Unseen → ImageFault
@@ -100,15 +99,14 @@ IsNotMade facts views path form blocks u fault (Memory memory) = ⊥
 IsNotMade facts views path form blocks u fault (NoImage file) =
     IsMade facts path u × IsNoImage form u (views.file file) fault
 IsNotMade facts views path form blocks u fault (Unserved disk) =
-    IsMade facts path u × IsNoNewDisk (views.disk disk) blocks fault
+    IsMade facts path u × IsNoNewDisk (views.disk disk).size (views.disk disk).failures blocks fault
 IsNotMade facts views path form blocks u fault (Served image) = ⊥
 IsNotMade facts views path form blocks u fault (Made disk right) = ⊥
 
--- the file was made where there was none, and its disk has that form and number of blocks
+-- the file was made where there was none, and is as long as that many blocks are in that form
 pub record IsNewDisk {H M F D I : Type 0} (facts : HostFacts H) (views : Views M F D I) (path : List ℕ) (form : Form)
     (blocks : ℕ) (u : Unseen) (disk : D) : Type 0 where
   pub made : IsMade facts path u
-  pub form : views.form disk ≡ form
   pub size : (views.disk disk).size ≡ blocks
   pub whole : IsWhole form u (views.disk disk)
 
@@ -117,21 +115,15 @@ pub record IsEmptyVolume (d : DiskState) : Type 0 where
   pub rests : d.honest → AtRest d (λ c. Stands d.size c empty)
   pub settled : d.honest → NoneOpen d
 
--- what became of one that was asked for
+-- What became of one that was asked for: it is there, and nothing was printed; or there is none, for a reason that
+-- stands.
 abbrev pub IsOnNew : {H M F D I : Type 0} → HostFacts H → Views M F D I → List ℕ → Form → ℕ → Unseen
     → Option (List ℕ) → Option (List ℕ) → Disks M F D I → Status → Type 0
-IsOnNew facts views path form blocks u sink full (Made disk right) status =
-    IsNewDisk facts views path form blocks u disk × IsEmptyVolume (views.disk disk) × (full ≡ sink) × (status ≡ Done)
-IsOnNew facts views path form blocks u sink full None status =
-    (fault : ImageFault) × IsNotMade facts views path form blocks u fault None × IsExplained sink full status fault
-IsOnNew facts views path form blocks u sink full (Memory memory) status = ⊥
-IsOnNew facts views path form blocks u sink full (NoImage file) status =
-    (fault : ImageFault) × IsNotMade facts views path form blocks u fault (NoImage file)
-    × IsExplained sink full status fault
-IsOnNew facts views path form blocks u sink full (Unserved disk) status =
-    (fault : ImageFault) × IsNotMade facts views path form blocks u fault (Unserved disk)
-    × IsExplained sink full status fault
-IsOnNew facts views path form blocks u sink full (Served image) status = ⊥
+IsOnNew {D = D} facts views path form blocks u sink full disks status =
+    ((disk : D) × (right : RemovalRight) × (disks ≡ Made disk right) × IsNewDisk facts views path form blocks u disk
+    × IsEmptyVolume (views.disk disk) × (full ≡ sink) × (status ≡ Done))
+    ⊎ ((fault : ImageFault) × IsNotMade facts views path form blocks u fault disks
+    × IsExplained sink full status fault)
 
 -- A fresh volume in memory.
 
@@ -146,9 +138,9 @@ pub record IsFresh (d : DiskState) : Type 0 where
 -- what became of it; its disk is honest whatever was done
 abbrev pub IsOnFresh : {M F D I : Type 0} → Views M F D I → Option (List ℕ) → Option (List ℕ) → Option (List ℕ)
     → Option (List ℕ) → Disks M F D I → Status → Type 0
-IsOnFresh views source left sink full (Memory memory) status = (views.memory memory).honest
-    × (((begun : DiskState) × IsFresh begun × (at : Moment) × IsFirstMoment at
-    × IsTaskRun views.memory begun (Run at) source left sink full memory status)
+IsOnFresh {M} views source left sink full (Memory memory) status = (views.memory memory).honest
+    × (((begun : M) × IsFresh (views.memory begun) × (at : Moment) × IsFirstMoment at
+    × IsTaskRun views.memory (views.memory begun) (Run at) source left sink full memory status)
     ⊎ ((views.memory memory).failures ≡ 1) × (left ≡ source)
     × IsExplained sink full status (record { refusal = Start Device; host = Nothing }))
 IsOnFresh views source left sink full None status = (left ≡ source) × (full ≡ sink) × (status ≡ Fault)
@@ -176,50 +168,75 @@ abbrev pub IsFaultOf : DiskState → DiskState → ImageFault → Type 0
 IsFaultOf begun end fault = (error : VolumeError) × (fault.refusal ≡ Start error)
     × ((told : Option Error) × (fault.host ≡ option_map System told)) × IsRefusedBy begun end error
 
--- why there is no copy, though the image that is there could be read: it couldn't be read again
-abbrev pub IsCopyRefused : DiskState → DiskState → ImageFault → Type 0
-IsCopyRefused begun end fault = (mid : DiskState) × (mid.honest → IsTaken begun mid) × IsFaultOf mid end fault
+-- why it couldn't be copied: a fault of its own, or of the device of the copy
+abbrev pub IsCopyFault : CopyError → ImageFault → Type 0
+IsCopyFault (Source error) fault = (fault.refusal ≡ Start error)
+    × ((told : Option Error) × (fault.host ≡ option_map System told))
+IsCopyFault Target fault = IsDeviceFault fault
 
--- the copy stands for the same files, whatever a crash leaves of it, and nothing but the recovery was written to the
--- image that is there
-pub record IsCopied (begun from to : DiskState) : Type 0 where
+-- The copy stands for the same files, whatever a crash leaves of it, and nothing but the recovery was written to the
+-- image that is there. A copy that had been cut short would have the home copies that `new` had, or all else as the copy
+-- has it.
+pub record IsCopied (mid from new to : DiskState) : Type 0 where
   pub files : Files StoredFile
-  pub stood : Stands begun.size begun.contents files
+  pub stood : Stands mid.size mid.contents files
   pub source : RestsAt from files
-  pub recovered : IsRecovered begun.size begun.contents from.contents
+  pub kept : Still mid from ⊎ IsRecovered mid.size mid.contents from.contents
   pub copy : RestsAt to files
   pub settled : NoneOpen to
+  pub last : LeavesOnly new to (HomesComeLast mid.size from.contents new)
 
--- what became of the new one
+-- What became of a copy that was begun, from `mid`, which is `from` now, to `target`, which is `to` now.
+abbrev pub IsCopyRun : {M F D I : Type 0} → Views M F D I → DiskState → DiskState → DiskState → D → Option (List ℕ)
+    → Option (List ℕ) → Disks M F D I → Status → Type 0
+IsCopyRun views mid from target to sink full copy status =
+    ((right : RemovalRight) × (copy ≡ Made to right)
+    × (from.honest → (views.disk to).honest → IsCopied mid from target (views.disk to))
+    × IsLine sink full status 0 (converted_text mid.size))
+    ⊎ ((copy ≡ Unserved to) × ((fault : ImageFault)
+    × (IsFaultOf mid from fault ⊎ (IsDeviceFault fault × ((views.disk to).failures ≡ one_more target.failures)))
+    × IsExplained sink full status fault))
+
+-- What became of the new one, where `mid` is the disk of the other one when it was to be made: it is there; or the other
+-- one couldn't be read again; or there is none, for a reason that stands.
 abbrev pub IsOnCopy : {H M F D I : Type 0} → HostFacts H → Views M F D I → List ℕ → Form → Unseen → DiskState
     → DiskState → Option (List ℕ) → Option (List ℕ) → Disks M F D I → Status → Type 0
-IsOnCopy facts views new form v begun from sink full None status = (fault : ImageFault)
-    × (IsFaultOf begun from fault ⊎ IsNotMade facts views new form begun.size v fault None)
-    × IsExplained sink full status fault
-IsOnCopy facts views new form v begun from sink full (Memory memory) status = ⊥
-IsOnCopy facts views new form v begun from sink full (NoImage file) status = (fault : ImageFault)
-    × IsNotMade facts views new form begun.size v fault (NoImage file) × IsExplained sink full status fault
-IsOnCopy facts views new form v begun from sink full (Unserved to) status = (fault : ImageFault)
-    × (IsCopyRefused begun from fault ⊎ IsNotMade facts views new form begun.size v fault (Unserved to))
-    × IsExplained sink full status fault
-IsOnCopy facts views new form v begun from sink full (Served image) status = ⊥
-IsOnCopy facts views new form v begun from sink full (Made to right) status =
-    IsNewDisk facts views new form begun.size v to
-    × (from.honest → (views.disk to).honest → IsCopied begun from (views.disk to))
-    × IsLine sink full status 0 (converted_text begun.size)
+IsOnCopy {D = D} facts views new form v mid from sink full copy status =
+    ((to : D) × (right : RemovalRight) × (copy ≡ Made to right) × IsNewDisk facts views new form mid.size v to
+    × (from.honest → (views.disk to).honest → IsCopied mid from (begun_image form mid.size v) (views.disk to))
+    × IsLine sink full status 0 (converted_text mid.size))
+    ⊎ ((to : D) × (copy ≡ Unserved to) × IsMade facts new v × ((fault : ImageFault) × IsFaultOf mid from fault
+    × IsExplained sink full status fault))
+    ⊎ ((fault : ImageFault) × IsNotMade facts views new form mid.size v fault copy
+    × IsExplained sink full status fault)
 
--- what became of both
+-- The disk of the image that is there was recovered and read, which took it to `mid`; and then a copy was to be made.
+pub record IsConverted {H M F D I : Type 0} (facts : HostFacts H) (views : Views M F D I) (new : List ℕ) (form : Form)
+    (v : Unseen) (begun from : DiskState) (sink full : Option (List ℕ)) (copy : Disks M F D I) (status : Status)
+    : Type 0 where
+  pub mid : D
+  pub size : (views.disk mid).size ≡ begun.size
+  pub was_honest : from.honest → (views.disk mid).honest
+  pub was_taken : (views.disk mid).honest → begun.honest
+  pub taken : (views.disk mid).honest → IsTaken begun (views.disk mid)
+  pub done : IsOnCopy facts views new form v (views.disk mid) from sink full copy status
+
+-- What became of that disk and of the new one: a start refused it, or a copy was to be made.
+abbrev pub IsOnSource : {H M F D I : Type 0} → HostFacts H → Views M F D I → List ℕ → Form → Unseen → DiskState
+    → DiskState → Option (List ℕ) → Option (List ℕ) → Disks M F D I → Status → Type 0
+IsOnSource facts views new form v begun from sink full copy status =
+    ((copy ≡ None) × ((fault : ImageFault) × IsFaultOf begun from fault × IsExplained sink full status fault))
+    ⊎ IsConverted facts views new form v begun from sink full copy status
+
+-- What became of both: the one that is there was opened; or it wasn't, or the name of the new one is taken.
 abbrev pub IsOnBoth : {H M F D I : Type 0} → HostFacts H → Views M F D I → List ℕ → List ℕ → Form → Unseen → Unseen
     → Option (List ℕ) → Option (List ℕ) → Disks M F D I → Disks M F D I → Status → Type 0
-IsOnBoth facts views path new form u v sink full None copy status = (copy ≡ None) × ((fault : ImageFault)
-    × (((file : FileId) × facts.found new (Some file) × (fault ≡ record { refusal = Exists; host = Nothing }))
-    ⊎ IsDenied facts views path form u fault None) × IsExplained sink full status fault)
-IsOnBoth facts views path new form u v sink full (Memory memory) copy status = ⊥
-IsOnBoth facts views path new form u v sink full (NoImage file) copy status = (copy ≡ None) × ((fault : ImageFault)
-    × IsDenied facts views path form u fault (NoImage file) × IsExplained sink full status fault)
-IsOnBoth facts views path new form u v sink full (Unserved disk) copy status = IsOpened facts path u
-    × IsWhole form u (views.disk disk) × IsLeftAlone (begun_image form (views.disk disk).size u) (views.disk disk)
-    × IsOnCopy facts views new (other_form form) v (begun_image form (views.disk disk).size u) (views.disk disk)
-    sink full copy status
-IsOnBoth facts views path new form u v sink full (Served image) copy status = ⊥
-IsOnBoth facts views path new form u v sink full (Made disk right) copy status = ⊥
+IsOnBoth {D = D} facts views path new form u v sink full image copy status =
+    ((from : D) × (image ≡ Unserved from) × IsOpened facts path u × IsWhole form u (views.disk from)
+    × IsLeftAlone (begun_image form (views.disk from).size u) (views.disk from)
+    × IsOnSource facts views new (other_form form) v (begun_image form (views.disk from).size u) (views.disk from)
+    sink full copy status)
+    ⊎ ((copy ≡ None) × ((fault : ImageFault)
+    × (((image ≡ None) × ((file : FileId) × facts.found new (Some file))
+    × (fault ≡ record { refusal = Exists; host = Nothing }))
+    ⊎ (HasNoDisk image × IsDenied facts views path form u fault image)) × IsExplained sink full status fault))

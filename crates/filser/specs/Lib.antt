@@ -8,6 +8,7 @@ pub mod HostFaults
 pub mod Streams
 pub mod ServedDisks
 pub mod Tasks
+pub mod Views
 pub mod Denials
 pub mod Images
 pub mod Runs

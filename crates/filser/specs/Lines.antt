@@ -14,11 +14,15 @@ abbrev pub message_text : Message → List ℕ
 message_text (Plain text) = text.now
 message_text (Numbered before number after) = before.now ++ decimal number ++ after.now
 
+-- a beginning of a text was written, and not all of it
+abbrev pub IsBegun : Option (List ℕ) → Option (List ℕ) → List ℕ → Type 0
+IsBegun sink full text = (written : List ℕ) × (unwritten : List ℕ) × Appends sink full written
+    × (text ≡ written ++ unwritten) × (0 < length unwritten)
+
 -- A text was written, or a beginning of it by a writer that failed.
 abbrev pub Puts : {T E : Type 0} → Result T E → Option (List ℕ) → Option (List ℕ) → List ℕ → Type 0
 Puts (Ok value) sink full text = Appends sink full text
-Puts (Err error) sink full text = (written : List ℕ) × (unwritten : List ℕ) × Appends sink full written
-    × (text ≡ written ++ unwritten) × (0 < length unwritten)
+Puts (Err error) sink full text = IsBegun sink full text
 
 -- A line was printed, with its end, and the run ends with this code; or the writer failed: then it holds a beginning of
 -- the line, and the run ends with a fault.

@@ -6,9 +6,10 @@ use Rattle.imagefile.specs.Unseen.{Unseen}
 use Rattle.filser.specs.Denials.{IsExplained, of_host}
 use Rattle.filser.specs.Endings.{AsksForHelp, EndsUnasked}
 use Rattle.filser.specs.Hosts.{HostFacts}
-use Rattle.filser.specs.Images.{Views, IsOnBoth, IsOnFresh, IsOnImage, IsOnNew}
+use Rattle.filser.specs.Images.{IsOnBoth, IsOnFresh, IsOnImage, IsOnNew}
 use Rattle.filser.specs.Requests.{Asks, image_named}
 use Rattle.filser.specs.Streams.{AreNeeded, IsStreamAt}
+use Rattle.filser.specs.Views.{Views}
 use Rattle.filser.specs.declared.asked.Request.{Request}
 use Rattle.filser.specs.declared.asked.Request.TheVariants.{Fresh, Init, Work, Convert}
 use Rattle.filser.specs.declared.disks.Disks.{Disks}

@@ -1,3 +1,6 @@
+ghost use Rattle.std.specs.Prelude.{◌≡◌, option_map};
+ghost use Rattle.filser.specs.Requests.{image_named};
+
 use crate::Task;
 use imagefile::Form;
 
@@ -16,7 +19,9 @@ pub enum Request<'a> {
 
 impl<'a> Request<'a> {
     /// The path of the image that it names, where it names one: of two, of the one that is there.
-    pub fn image(&self) -> Option<&'a str> {
+    pub fn image(&self) -> Option<&'a str>
+        ensures { option_map (λ path. path.now) result ≡ image_named self.now }
+    {
         match self {
             Request::Fresh => None,
             Request::Init(path, _, _) | Request::Work(path, _, _) | Request::Convert(path, _, _) =>

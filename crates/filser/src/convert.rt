@@ -1,169 +1,294 @@
-ghost use Rattle.std.specs.Prelude.{◌≡◌, ◌≢◌, ◌⊎◌, ℕ, OnOk};
-ghost use Rattle.blockdisk.specs.Disk.{NoneOpen};
-ghost use Rattle.meaning.specs.Files.{File as StoredFile, Files};
-ghost use Rattle.meaning.specs.Stands.{Stands};
-ghost use Rattle.volume.specs.Rest.{RestsAt};
-ghost use Rattle.filser.specs.Runs.{IsExcused, IsTold};
-ghost use Rattle.filser.specs.declared.refusal.Refusal.TheVariants.{Exists};
+ghost use Rattle.std.specs.Prelude.{◌≡◌, ◌≢◌, OnOk, IfOk, IfErr, IsErrOf};
+ghost use Rattle.blockdisk.specs.Disk.{SameDisk, one_more};
+ghost use Rattle.imagefile.specs.Began.{BeganAs};
+ghost use Rattle.imagefile.specs.Image.{other_form};
+ghost use Rattle.imagefile.specs.Supposition.{unseen_in};
+ghost use Rattle.volume.specs.declared.error.CopyError.TheVariants.{Source, Target};
+ghost use Rattle.volume.specs.declared.error.VolumeError.{VolumeError as Errors};
+ghost use Rattle.filser.specs.Denials.{IsExplained};
+ghost use Rattle.filser.specs.Images.{IsCopied, IsCopyFault, IsCopyRun, IsLeftAlone, IsNewDisk, IsNotMade, IsOnBoth};
+ghost use Rattle.filser.specs.Images.{IsOnCopy, IsOnSource, IsTaken};
+ghost use Rattle.filser.specs.Lines.{IsLine};
+ghost use Rattle.filser.specs.Refusals.{converted_text};
+ghost use Rattle.filser.specs.ServedDisks.{IsRefusedBy};
+ghost use Rattle.filser.specs.declared.disks.Disks.TheVariants as disks;
+ghost use Rattle.filser.specs.declared.fault.ImageFault.{ImageFault as Faults};
 ghost use Rattle.filser.specs.declared.status.Status.TheVariants.{BadArguments};
 
 use crate::fault::report;
-use crate::image::{disk_in, failure_of, new_file, open_file, zeros_in};
+use crate::image::{Denied, failure_of, new_file, open_disk, zeros_in};
+use crate::message::print_line;
+use crate::outcome::Outcome;
 use crate::program::refuse_image;
 use crate::progress::Watched;
-use crate::{ImageFault, Refusal, Status, Telling};
+use crate::{
+    Beginnings, Disks, Host, ImageFault, Message, Refusal, RemovalRight, RunDisks, Seen, Status,
+    Telling,
+};
 use blockdisk::Disk;
 use commands::Volume;
 use imagefile::{Form, HostFile, ImageDisk, Supposition};
 use std::alloc::Global;
-use std::fs::{self, File};
 use std::io::Write;
-use std::rt::Files;
 use volume::{CopyError, VolumeError};
 
-/// Writes what is on an image, which has this form, to a new one of the other form, and prints how many blocks they
-/// have. Nothing else is written to the one that is there than its recovery. A new one that can't be finished is left,
-/// and people are told that it is incomplete; where `telling` says so, they are told before how far it is.
-pub(crate) fn convert_image<F: Files<File = File>, W: Write, E: Write>(
-    files: &F,
+/// What is to be converted.
+#[derive(Clone, Copy)]
+pub(crate) struct Conversion<'a> {
+    /// The path of the image that is there.
+    pub(crate) path: &'a str,
+    /// Its form.
+    pub(crate) form: Form,
+    /// The path of the new one, which has the other form.
+    pub(crate) new: &'a str,
+    /// Whether people are told how far it is.
+    pub(crate) telling: Telling,
+}
+
+/// Writes what is on an image to a new one of the other form, and prints how many blocks they have. Nothing else is
+/// written to the one that is there than its recovery. A new one that can't be finished is left, and people are told that
+/// it is incomplete; where `telling` says so, they are told before how far it is.
+pub(crate) fn convert_image<H: Host, W: Write, E: Write>(
+    host: &H,
     alloc: Global,
-    path: &str,
-    new: &str,
-    form: Form,
-    telling: Telling,
+    conversion: &Conversion<'_>,
+    supposed: Beginnings,
     writer: &mut W,
     errors: &mut E,
-) -> Status
-    ensures serving { result ≢ BadArguments }
-    ensures told { ((blocks : ℕ) × IsTold blocks (W.contents writer.old) (W.contents writer.new) result)
-        ⊎ IsExcused (W.contents writer.old) (W.contents writer.new) result }
+) -> Outcome
+    ensures serving { result.status ≢ BadArguments }
+    ensures ran { IsOnBoth (H.facts host.now) (⟦<RunDisks as Seen>⟧.views) conversion.now.path.now
+        conversion.now.new.now conversion.now.form (unseen_in supposed.image) (unseen_in supposed.new)
+        (W.contents writer.old) (W.contents writer.new) result.image result.new result.status }
 {
-    if fs::metadata(files, new).is_ok() {
+    if host.identity(conversion.new).is_some() {
         let fault = ImageFault {
             refusal: Refusal::Exists,
             host: None,
         };
-        return refuse_image(fault, new, writer, errors);
+        return unconverted(fault, conversion.new, Disks::None, writer, errors);
     }
-    match source_of(files, alloc, path, form, errors) {
-        Ok(source) => write_new(
-            files,
-            alloc,
-            source,
-            path,
-            new,
-            form.other(),
-            telling,
-            writer,
-            errors,
-        ),
-        Err(fault) => refuse_image(fault, path, writer, errors),
+    match open_disk(host, conversion.path, conversion.form, supposed.image, errors) {
+        Ok(disk) => convert_disk(host, alloc, disk, conversion, supposed.new, writer, errors),
+        Err((fault, disks)) => unconverted(fault, conversion.path, disks, writer, errors),
     }
 }
 
-/// The disk of the image that is there, which was recovered and read as a start does it: for one that is refused no new
-/// file is made.
+/// Says why an image isn't converted, before a new one is made.
+fn unconverted<W: Write, E: Write>(
+    fault: ImageFault,
+    path: &str,
+    image: RunDisks,
+    writer: &mut W,
+    errors: &mut E,
+) -> Outcome
+    ensures serving { result.status ≢ BadArguments }
+    ensures image { result.image ≡ image }
+    ensures new { result.new ≡ disks.None }
+    ensures explained { IsExplained (W.contents writer.old) (W.contents writer.new) result.status fault }
+{
+    Outcome {
+        status: refuse_image(fault, path, writer, errors),
+        image,
+        new: Disks::None,
+    }
+}
+
+/// The disk of an image, which was recovered and read as a start does it: for one that is refused no new file is made.
 ///
 /// # Errors
 ///
-/// As of an image that is served.
-fn source_of<F: Files<File = File>, E: Write>(
-    files: &F,
-    alloc: Global,
-    path: &str,
-    form: Form,
-    errors: &mut E,
-) -> Result<ImageDisk<HostFile>, ImageFault> {
-    let file = open_file(files, path, errors)?;
-    let disk = disk_in(file, form, Supposition::any())?;
+/// As of an image that is served, with the disk.
+fn taken<D: Disk>(alloc: Global, disk: D) -> Result<D, (VolumeError, D)>
+    ensures taken { IfOk result (λ taken. (D.state taken).honest → IsTaken (D.state disk) (D.state taken)) }
+    ensures alone { IfOk result (λ taken. IsLeftAlone (D.state disk) (D.state taken)) }
+    ensures same { IfOk result (λ taken. SameDisk (D.state disk) (D.state taken)) }
+    ensures counted { IfOk result (λ taken. (D.state taken).failures ≡ (D.state disk).failures) }
+    ensures refused { IfErr result (λ refused. IsRefusedBy (D.state disk) (D.state refused.1) refused.0) }
+    ensures alone_refused { IfErr result (λ refused. IsLeftAlone (D.state disk) (D.state refused.1)) }
+{
     match Volume::open(alloc, disk) {
         Ok(volume) => Ok(volume.into_disk()),
-        Err((error, disk)) => Err(ImageFault {
-            refusal: Refusal::Start(error),
-            host: failure_of(&disk.finish()),
-        }),
+        Err(refused) => Err(refused),
     }
 }
 
-/// Writes what is on a disk to a new image of this form.
-fn write_new<F: Files<File = File>, W: Write, E: Write>(
-    files: &F,
+/// Writes what is on the disk of an image to a new one.
+fn convert_disk<H: Host, W: Write, E: Write>(
+    host: &H,
     alloc: Global,
-    source: ImageDisk<HostFile>,
-    path: &str,
-    new: &str,
-    form: Form,
-    telling: Telling,
+    disk: ImageDisk<HostFile>,
+    conversion: &Conversion<'_>,
+    supposed: Supposition,
     writer: &mut W,
     errors: &mut E,
-) -> Status
-    ensures serving { result ≢ BadArguments }
-    ensures told { ((blocks : ℕ) × IsTold blocks (W.contents writer.old) (W.contents writer.new) result)
-        ⊎ IsExcused (W.contents writer.old) (W.contents writer.new) result }
+) -> Outcome
+    ensures serving { result.status ≢ BadArguments }
+    ensures ran { (from : _) × (result.image ≡ disks.Unserved from)
+        × SameDisk (⟦<ImageDisk<HostFile> as Disk>⟧.state disk) (⟦<ImageDisk<HostFile> as Disk>⟧.state from)
+        × IsLeftAlone (⟦<ImageDisk<HostFile> as Disk>⟧.state disk) (⟦<ImageDisk<HostFile> as Disk>⟧.state from)
+        × IsOnSource (H.facts host.now) (⟦<RunDisks as Seen>⟧.views) conversion.now.new.now
+        (other_form conversion.now.form) (unseen_in supposed) (⟦<ImageDisk<HostFile> as Disk>⟧.state disk)
+        (⟦<ImageDisk<HostFile> as Disk>⟧.state from) (W.contents writer.old) (W.contents writer.new) result.new
+        result.status }
 {
-    let file = match new_file(files, new) {
-        Ok(file) => file,
-        Err(fault) => return refuse_image(fault, new, writer, errors),
-    };
-    let blocks = source.blocks();
-    match zeros_in(file, new, form, blocks, errors) {
-        Ok(target) => match copied(alloc, source, target, telling, errors) {
-            Ok(()) => tell_converted(blocks, writer),
-            Err(Side::Source(fault)) => {
-                tell_incomplete(new, errors);
-                refuse_image(fault, path, writer, errors)
-            }
-            Err(Side::Target(fault)) => {
-                tell_incomplete(new, errors);
-                refuse_image(fault, new, writer, errors)
-            }
-        },
-        Err(fault) => {
-            tell_incomplete(new, errors);
-            refuse_image(fault, new, writer, errors)
+    match taken(alloc, disk) {
+        Ok(source) => write_new(host, alloc, source, conversion, supposed, writer, errors),
+        Err((error, disk)) => {
+            let fault = ImageFault {
+                refusal: Refusal::Start(error),
+                host: failure_of(disk.file()),
+            };
+            unconverted(fault, conversion.path, Disks::Unserved(disk), writer, errors)
         }
     }
 }
 
-/// Why a disk wasn't copied, and which of the two has the fault.
-enum Side {
-    /// The one that was to be copied.
-    Source(ImageFault),
-    /// The copy.
-    Target(ImageFault),
-}
-
-/// Copies a disk to another, and lets both go.
+/// The disk of a new image, as many blocks of zeros, and the right to remove its file. One that was made and can't be
+/// filled is left, and people are told so.
 ///
 /// # Errors
 ///
-/// The refusal of the one that is there, or a fault of either.
-fn copied<E: Write>(
-    alloc: Global,
-    source: ImageDisk<HostFile>,
-    target: ImageDisk<HostFile>,
-    telling: Telling,
+/// As of `new_file` and `zeros_in`.
+fn new_target<H: Host, E: Write>(
+    host: &H,
+    new: &str,
+    form: Form,
+    blocks: u32,
+    supposed: Supposition,
     errors: &mut E,
-) -> Result<(), Side> {
-    let mut source = source;
-    let (copied, target) = copy(alloc, &mut source, target, telling, errors);
-    match copied {
-        Ok(()) => Ok(()),
-        Err(CopyError::Source(error)) => Err(Side::Source(ImageFault {
-            refusal: Refusal::Start(error),
-            host: failure_of(&source.finish()),
-        })),
-        Err(CopyError::Target) => Err(Side::Target(ImageFault {
-            refusal: Refusal::Start(VolumeError::Device),
-            host: failure_of(&target.finish()),
-        })),
+) -> Result<(ImageDisk<HostFile>, RemovalRight), Denied>
+    ensures made { IfOk result (λ made. IsNewDisk (H.facts host.now) (⟦<RunDisks as Seen>⟧.views) new.now form blocks
+        (unseen_in supposed) made.0) }
+    ensures began { IfOk result
+        (λ made. BeganAs form (unseen_in supposed) (⟦<ImageDisk<HostFile> as Disk>⟧.state made.0)) }
+    ensures counted { IfOk result (λ made. (⟦<ImageDisk<HostFile> as Disk>⟧.state made.0).failures ≡ 0) }
+    ensures denied { IfErr result (λ denied. IsNotMade (H.facts host.now) (⟦<RunDisks as Seen>⟧.views) new.now form
+        blocks (unseen_in supposed) denied.0 denied.1) }
+{
+    let (file, right) = match new_file(host, new) {
+        Ok(made) => made,
+        Err(fault) => return Err((fault, Disks::None)),
+    };
+    match zeros_in(host, file, new, form, blocks, supposed, errors) {
+        Ok(disk) => Ok((disk, right)),
+        Err(denied) => {
+            tell_incomplete(new, errors);
+            Err(denied)
+        }
     }
 }
 
-/// Copies a disk to another, which the host has made of as many blocks, and tells people how far it is. The other one
-/// is handed back.
+/// Writes what is on a disk to a new image of the other form.
+fn write_new<H: Host, W: Write, E: Write>(
+    host: &H,
+    alloc: Global,
+    source: ImageDisk<HostFile>,
+    conversion: &Conversion<'_>,
+    supposed: Supposition,
+    writer: &mut W,
+    errors: &mut E,
+) -> Outcome
+    ensures serving { result.status ≢ BadArguments }
+    ensures ran { (from : _) × (result.image ≡ disks.Unserved from)
+        × SameDisk (⟦<ImageDisk<HostFile> as Disk>⟧.state source) (⟦<ImageDisk<HostFile> as Disk>⟧.state from)
+        × ((was : _)
+        → SameDisk (⟦<ImageDisk<HostFile> as Disk>⟧.state was) (⟦<ImageDisk<HostFile> as Disk>⟧.state source)
+        → IsLeftAlone (⟦<ImageDisk<HostFile> as Disk>⟧.state was) (⟦<ImageDisk<HostFile> as Disk>⟧.state source)
+        → IsLeftAlone (⟦<ImageDisk<HostFile> as Disk>⟧.state was) (⟦<ImageDisk<HostFile> as Disk>⟧.state from))
+        × IsOnCopy (H.facts host.now) (⟦<RunDisks as Seen>⟧.views) conversion.now.new.now
+        (other_form conversion.now.form) (unseen_in supposed) (⟦<ImageDisk<HostFile> as Disk>⟧.state source)
+        (⟦<ImageDisk<HostFile> as Disk>⟧.state from) (W.contents writer.old) (W.contents writer.new) result.new
+        result.status }
+{
+    let form = conversion.form.other();
+    match new_target(host, conversion.new, form, source.blocks(), supposed, errors) {
+        Ok((target, right)) => {
+            copy_to(alloc, source, target, right, conversion, writer, errors)
+        }
+        Err((fault, disks)) => Outcome {
+            status: refuse_image(fault, conversion.new, writer, errors),
+            image: Disks::Unserved(source),
+            new: disks,
+        },
+    }
+}
+
+/// Copies a disk to another of as many blocks, and says how that went.
+fn copy_to<W: Write, E: Write>(
+    alloc: Global,
+    source: ImageDisk<HostFile>,
+    target: ImageDisk<HostFile>,
+    right: RemovalRight,
+    conversion: &Conversion<'_>,
+    writer: &mut W,
+    errors: &mut E,
+) -> Outcome
+    requires { (⟦<ImageDisk<HostFile> as Disk>⟧.state source).size
+        ≡ (⟦<ImageDisk<HostFile> as Disk>⟧.state target).size }
+    ensures serving { result.status ≢ BadArguments }
+    ensures ran { (from : _) × (to : _) × (result.image ≡ disks.Unserved from)
+        × SameDisk (⟦<ImageDisk<HostFile> as Disk>⟧.state source) (⟦<ImageDisk<HostFile> as Disk>⟧.state from)
+        × IsLeftAlone (⟦<ImageDisk<HostFile> as Disk>⟧.state source) (⟦<ImageDisk<HostFile> as Disk>⟧.state from)
+        × SameDisk (⟦<ImageDisk<HostFile> as Disk>⟧.state target) (⟦<ImageDisk<HostFile> as Disk>⟧.state to)
+        × IsCopyRun (⟦<RunDisks as Seen>⟧.views) (⟦<ImageDisk<HostFile> as Disk>⟧.state source)
+        (⟦<ImageDisk<HostFile> as Disk>⟧.state from) (⟦<ImageDisk<HostFile> as Disk>⟧.state target) to
+        (W.contents writer.old) (W.contents writer.new) result.new result.status }
+{
+    let mut source = source;
+    let (copied, target) = copy(alloc, &mut source, target, conversion.telling, errors);
+    match copied {
+        Ok(()) => Outcome {
+            status: tell_converted(source.blocks(), writer),
+            image: Disks::Unserved(source),
+            new: Disks::Made(target, right),
+        },
+        Err(error) => uncopied(error, source, target, conversion, writer, errors),
+    }
+}
+
+/// Says why a copy wasn't made. What there is of it is left, and people are told so.
+fn uncopied<W: Write, E: Write>(
+    error: CopyError,
+    source: ImageDisk<HostFile>,
+    target: ImageDisk<HostFile>,
+    conversion: &Conversion<'_>,
+    writer: &mut W,
+    errors: &mut E,
+) -> Outcome
+    ensures serving { result.status ≢ BadArguments }
+    ensures image { result.image ≡ disks.Unserved source }
+    ensures new { result.new ≡ disks.Unserved target }
+    ensures explained { (fault : Faults) × IsCopyFault error fault
+        × IsExplained (W.contents writer.old) (W.contents writer.new) result.status fault }
+{
+    tell_incomplete(conversion.new, errors);
+    let (path, fault) = match error {
+        CopyError::Source(error) => (
+            conversion.path,
+            ImageFault {
+                refusal: Refusal::Start(error),
+                host: failure_of(source.file()),
+            },
+        ),
+        CopyError::Target => (
+            conversion.new,
+            ImageFault {
+                refusal: Refusal::Start(VolumeError::Device),
+                host: failure_of(target.file()),
+            },
+        ),
+    };
+    Outcome {
+        status: refuse_image(fault, path, writer, errors),
+        image: Disks::Unserved(source),
+        new: Disks::Unserved(target),
+    }
+}
+
+/// Copies a disk to another of as many blocks, and tells people how far it is. The other one is handed back.
 ///
-/// The answer is that of `Volume::copy_image`, or `Target` where the host has given another number of blocks.
+/// The answer is that of `Volume::copy_image`.
 fn copy<E: Write>(
     alloc: Global,
     source: &mut ImageDisk<HostFile>,
@@ -171,18 +296,26 @@ fn copy<E: Write>(
     telling: Telling,
     errors: &mut E,
 ) -> (Result<(), CopyError>, ImageDisk<HostFile>)
+    requires { (⟦<ImageDisk<HostFile> as Disk>⟧.state source.old).size
+        ≡ (⟦<ImageDisk<HostFile> as Disk>⟧.state target).size }
     // Where both files have kept to the model up to the end: the copy stands for what the image stood for.
-    ensures files { (⟦<ImageDisk<HostFile> as Disk>⟧.state source.new).honest
-        → (⟦<ImageDisk<HostFile> as Disk>⟧.state result.1).honest → (files : Files StoredFile)
-        → Stands (⟦<ImageDisk<HostFile> as Disk>⟧.state source.old).size
-        (⟦<ImageDisk<HostFile> as Disk>⟧.state source.old).contents files
-        → OnOk result.0 (RestsAt (⟦<ImageDisk<HostFile> as Disk>⟧.state result.1) files) }
-    ensures settled { (⟦<ImageDisk<HostFile> as Disk>⟧.state result.1).honest
-        → OnOk result.0 (NoneOpen (⟦<ImageDisk<HostFile> as Disk>⟧.state result.1)) }
+    ensures copied { (⟦<ImageDisk<HostFile> as Disk>⟧.state source.new).honest
+        → (⟦<ImageDisk<HostFile> as Disk>⟧.state result.1).honest
+        → OnOk result.0 (IsCopied (⟦<ImageDisk<HostFile> as Disk>⟧.state source.old)
+        (⟦<ImageDisk<HostFile> as Disk>⟧.state source.new) (⟦<ImageDisk<HostFile> as Disk>⟧.state target)
+        (⟦<ImageDisk<HostFile> as Disk>⟧.state result.1)) }
+    ensures alone { IsLeftAlone (⟦<ImageDisk<HostFile> as Disk>⟧.state source.old)
+        (⟦<ImageDisk<HostFile> as Disk>⟧.state source.new) }
+    ensures same_source { SameDisk (⟦<ImageDisk<HostFile> as Disk>⟧.state source.old)
+        (⟦<ImageDisk<HostFile> as Disk>⟧.state source.new) }
+    ensures same_target { SameDisk (⟦<ImageDisk<HostFile> as Disk>⟧.state target)
+        (⟦<ImageDisk<HostFile> as Disk>⟧.state result.1) }
+    ensures refused { (error : Errors) → IsErrOf result.0 (Source error)
+        → IsRefusedBy (⟦<ImageDisk<HostFile> as Disk>⟧.state source.old)
+        (⟦<ImageDisk<HostFile> as Disk>⟧.state source.new) error }
+    ensures failed { IsErrOf result.0 Target → (⟦<ImageDisk<HostFile> as Disk>⟧.state result.1).failures
+        ≡ one_more (⟦<ImageDisk<HostFile> as Disk>⟧.state target).failures }
 {
-    if source.blocks() != target.blocks() {
-        return (Err(CopyError::Target), target);
-    }
     let mut watched = Watched::new(target, telling, errors);
     let copied = Volume::copy_image(alloc, source, &mut watched);
     watched.end();
@@ -192,12 +325,10 @@ fn copy<E: Write>(
 /// Prints how many blocks were converted.
 fn tell_converted<W: Write>(blocks: u32, writer: &mut W) -> Status
     ensures serving { result ≢ BadArguments }
-    ensures told { IsTold blocks (W.contents writer.old) (W.contents writer.new) result }
+    ensures told { IsLine (W.contents writer.old) (W.contents writer.new) result 0 (converted_text blocks) }
 {
-    match writeln!(writer, "Converted {blocks} blocks") {
-        Ok(()) => Status::Done,
-        Err(_) => Status::Fault,
-    }
+    let message = Message::Numbered("Converted ", blocks, " blocks");
+    print_line(writer, &message, Status::Done)
 }
 
 /// Tells people that a new image was left as it was when the conversion ended.

@@ -1,7 +1,6 @@
-ghost use Rattle.std.specs.Prelude.{◌≡◌, Some};
+ghost use Rattle.std.specs.Prelude.{◌≡◌};
+ghost use Rattle.filser.specs.Denials.{of_host};
 ghost use Rattle.filser.specs.HostFaults.{forbids_errors, forbids_output};
-ghost use Rattle.filser.specs.declared.refusal.Refusal.TheVariants.{Start};
-ghost use Rattle.volume.specs.declared.error.VolumeError.TheVariants.{Device};
 
 use crate::Refusal;
 use std::fmt::Display;
@@ -30,6 +29,9 @@ pub enum HostFault {
     /// There is no memory to serve an image. People are told so, and nothing is printed.
     #[error("out of memory")]
     Memory,
+    /// A file that was made and filled has another length.
+    #[error("not as long as it was made")]
+    WrongLength,
 }
 
 impl HostFault {
@@ -39,7 +41,10 @@ impl HostFault {
     {
         match self {
             HostFault::Output | HostFault::Errors | HostFault::Memory => true,
-            HostFault::System(_) | HostFault::InUse | HostFault::Input => false,
+            HostFault::System(_)
+            | HostFault::InUse
+            | HostFault::Input
+            | HostFault::WrongLength => false,
         }
     }
 
@@ -53,7 +58,8 @@ impl HostFault {
             | HostFault::InUse
             | HostFault::Input
             | HostFault::Output
-            | HostFault::Memory => false,
+            | HostFault::Memory
+            | HostFault::WrongLength => false,
         }
     }
 }
@@ -70,8 +76,7 @@ pub struct ImageFault {
 
 impl From<HostFault> for ImageFault {
     fn from(fault: HostFault) -> Self
-        ensures refusal { result.refusal ≡ Start Device }
-        ensures host { result.host ≡ Some fault }
+        ensures { result ≡ of_host fault }
     {
         ImageFault {
             refusal: Refusal::Start(VolumeError::Device),

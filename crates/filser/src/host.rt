@@ -1,15 +1,14 @@
-ghost use Rattle.std.specs.Prelude.{◌≡◌, ℕ, List, Ok, IfOk, IfErr, pos, ◌<ℤ◌};
-ghost use Rattle.blockdisk.specs.Disk.{DiskState};
+ghost use Rattle.std.specs.Prelude.{◌≡◌, Ok, Err, IfOk, IfErr, pos, ◌<ℤ◌};
 ghost use Rattle.imagefile.specs.Began.{BeganAs};
 ghost use Rattle.imagefile.specs.Image.{IsImageSize};
 ghost use Rattle.imagefile.specs.Supposition.{unseen_in};
 ghost use Rattle.imagefile.specs.Unseen.{size_of};
-ghost use Rattle.imagefile.specs.declared.error.ImageError.TheVariants.{BadSize, Device};
+ghost use Rattle.imagefile.specs.declared.size.ImageError.TheVariants.{BadSize, Device};
 ghost use Rattle.filser.specs.Hosts.{HostFacts};
 
-use crate::{FileId, RemovalRight};
+use crate::FileId;
 use blockdisk::Disk;
-use imagefile::{Form, HostFile, ImageDisk, ImageError, Supposition};
+use imagefile::{Durable, Form, HostFile, ImageDisk, ImageError, Supposition};
 use std::fs::{self, File, OpenOptions, TryLockError};
 use std::io::{self, Write};
 use std::os::fd::{AsRawFd, RawFd};
@@ -83,7 +82,12 @@ pub trait Host {
         requires { pos 2 <ℤ (facts self.now).number file }
         ensures supposed { (facts self.now).supposed file (unseen_in supposed) }
         ensures began { IfOk result
-            (λ disk. BeganAs form (unseen_in supposed) (⟦<ImageDisk<HostFile> as Disk>⟧.state disk)) };
+            (λ disk. BeganAs form (unseen_in supposed) (⟦<ImageDisk<HostFile> as Disk>⟧.state disk)) }
+        ensures counted { IfOk result (λ disk. (⟦<ImageDisk<HostFile> as Disk>⟧.state disk).failures ≡ 0) }
+        ensures size { IfErr result (λ refused. refused.0 ≡ BadSize → (⟦<HostFile as Durable>⟧.state refused.1).honest
+            → IsImageSize form (size_of (unseen_in supposed)) → ⊥) }
+        ensures failed { IfErr result (λ refused. refused.0 ≡ Device
+            → (⟦<HostFile as Durable>⟧.state refused.1).failures ≡ 1) };
 
     /// Removes a file that was made at a path.
     ///
@@ -92,4 +96,100 @@ pub trait Host {
     /// The system's.
     fn remove(&self, path: &str, right: RemovalRight) -> io::Result<()>
         requires { (file : Self.File) × (facts self.now).created path.now (Ok file) };
+}
+
+/// The right to remove a file that was made. Whoever has made one has it once.
+#[derive(Drop)]
+pub struct RemovalRight {
+    _once: (),
+}
+
+/// The files of a system. Nothing is supposed of what it answers, so that each fact is only that it was asked; that the
+/// calls are those that the trait names is all that is trusted here, one line of each method.
+#[derive(Drop)]
+pub struct SystemHost<'a, F: Files<File = File>> {
+    files: &'a F,
+}
+
+impl<'a, F: Files<File = File>> SystemHost<'a, F> {
+    /// The host whose files these are.
+    pub fn new(files: &'a F) -> Self {
+        SystemHost { files }
+    }
+}
+
+/// Writes as many blocks of zeros.
+///
+/// # Errors
+///
+/// The system's.
+fn write_zeros(file: &File, form: Form, blocks: u32) -> io::Result<()> {
+    let zeros = [0; BLOCK_BYTES];
+    let block = &zeros[..form.block_bytes() as usize];
+    let mut writer = file;
+    for _ in 0..blocks {
+        writer.write_all(block)?;
+    }
+    file.sync_all()
+}
+
+impl<F: Files<File = File>> Host for SystemHost<'_, F> {
+    type File = File;
+
+    ghost use Rattle.std.specs.Fd.{file_raw_fd};
+
+    ghost facts = { λ host. record {
+      opened = λ path result. Unit {0};
+      created = λ path result. Unit {0};
+      filled = λ file result. Unit {0};
+      locked = λ file result. Unit {0};
+      found = λ path file. Unit {0};
+      number = λ file. file_raw_fd file;
+      supposed = λ file u. Unit {0};
+    } };
+
+    fn open(&self, path: &str) -> io::Result<File> {
+        OpenOptions::new()
+            .read(true)
+            .write(true)
+            .open(self.files, path)
+    }
+
+    fn create(&self, path: &str) -> Result<(File, RemovalRight), io::Error> {
+        let file = File::create_new(self.files, path)?;
+        Ok((file, RemovalRight { _once: () }))
+    }
+
+    fn fill(&self, _path: &str, file: &File, form: Form, blocks: u32) -> io::Result<()> {
+        write_zeros(file, form, blocks)
+    }
+
+    fn try_lock(&self, file: &File) -> Result<(), TryLockError> {
+        file.try_lock()
+    }
+
+    fn number(&self, file: &File) -> RawFd {
+        file.as_raw_fd()
+    }
+
+    fn identity(&self, path: &str) -> Option<FileId> {
+        let found = fs::metadata(self.files, path).ok()?;
+        Some(FileId {
+            device: found.dev(),
+            inode: found.ino(),
+        })
+    }
+
+    fn disk_of(
+        &self,
+        file: File,
+        form: Form,
+        supposed: Supposition,
+    ) -> Result<ImageDisk<HostFile>, (ImageError, HostFile)> {
+        ImageDisk::open_file(file, supposed, form)
+    }
+
+    fn remove(&self, path: &str, _right: RemovalRight) -> io::Result<()> {
+        fs::remove_file(self.files, path)
+    }
 }

@@ -1,60 +1,47 @@
-ghost use Rattle.std.specs.Prelude.{◌≡◌, ◌⊎◌, IfOk, IfErr};
-ghost use Rattle.blockdisk.specs.Disk.{NoneOpen};
-ghost use Rattle.changeset.specs.Rest.{AtRest};
-ghost use Rattle.meaning.specs.Maps.{empty};
-ghost use Rattle.meaning.specs.Stands.{Stands};
-ghost use Rattle.filser.specs.Refusals.{IsImageRefusal};
-ghost use Rattle.filser.specs.ServedDisks.{HoldsFile};
-ghost use Rattle.imagefile.specs.Streams.{IsNoStream};
+ghost use Rattle.std.specs.Prelude.{◌≡◌, Ok, Err, IfOk, IfErr, OnOk, option_map, pos, ◌<ℤ◌};
+ghost use Rattle.std.specs.declared.fs.TryLockError.TheVariants.{WouldBlock};
+ghost use Rattle.blockdisk.specs.Disk.{SameDisk};
+ghost use Rattle.imagefile.specs.Began.{BeganAs};
+ghost use Rattle.imagefile.specs.HostFile.{failure_of as reason_of};
 ghost use Rattle.imagefile.specs.Supposition.{unseen_in};
-ghost use Rattle.filser.specs.declared.refusal.Refusal.TheVariants.{Exists, Start};
-ghost use Rattle.volume.specs.declared.error.VolumeError.TheVariants.{Device};
+ghost use Rattle.imagefile.specs.Unseen.{Unseen};
+ghost use Rattle.imagefile.specs.declared.form.Form.{Form as Forms};
+ghost use Rattle.filser.specs.Denials.{IsNoImage, IsUnfilled, IsUnfit, IsUnmade, IsUnopened, of_host};
+ghost use Rattle.filser.specs.Hosts.{IsKept, IsOpened, IsOwn};
+ghost use Rattle.filser.specs.Images.{HasNoDisk, IsDenied, IsEmptyVolume, IsNewDisk, IsNoNewDisk, IsNotMade};
+ghost use Rattle.filser.specs.declared.disks.Disks.TheVariants as disks;
+ghost use Rattle.filser.specs.declared.fault.HostFault.TheVariants.{InUse, System, Memory as OutOfMemory};
 
 use crate::fault::report;
-use crate::streams::stream_of;
-use crate::{HostFault, ImageFault, Refusal};
+use crate::streams::{is_stream, stream_of};
+use crate::{Disks, Host, HostFault, Image, ImageFault, Refusal, RemovalRight, RunDisks, Seen};
 use blockcache::Cached;
 use blockdisk::{Disk, NoMemory};
 use commands::Volume;
-use imagefile::{Form, HostFile, ImageDisk, ImageError, Supposition, apart};
+use imagefile::{Durable, Form, HostFile, ImageDisk, ImageError, Supposition};
 use std::alloc::Global;
-use std::fs::{self, File, OpenOptions, TryLockError};
-use std::io::{self, ErrorKind, Write};
+use std::fs::TryLockError;
+use std::io::{ErrorKind, Write};
 use std::num::NonZeroUsize;
-use std::rt::Files;
 use volume::VolumeError;
-use words36::BLOCK_BYTES;
 
 /// How many blocks of an image are kept in memory while it is served.
 const KEPT_BLOCKS: usize = 256;
 
-/// An image of the host's, that is served in place.
-pub(crate) type Image = Cached<ImageDisk<HostFile>>;
+/// Why an image isn't served or made, and what is left of its disk.
+pub(crate) type Denied = (ImageFault, RunDisks);
 
 /// Why the first call failed that did on a file, for people.
-pub(crate) fn failure_of(file: &HostFile) -> Option<HostFault> {
+pub(crate) fn failure_of(file: &HostFile) -> Option<HostFault>
+    ensures { result ≡ option_map System (reason_of file.now) }
+{
     file.failure().map(HostFault::System)
 }
 
-/// Tells people why the file of an image failed, where it did.
-pub(crate) fn tell_failure<E: Write>(errors: &mut E, path: &str, image: Image) {
-    if let Some(fault) = failure_of(&image.into_inner().finish()) {
+/// Tells people why the file of an image failed, where it did. The image is only looked at.
+pub(crate) fn tell_failure<E: Write>(errors: &mut E, path: &str, image: &Image) {
+    if let Some(fault) = failure_of(image.inner().file()) {
         report(errors, path, &fault);
-    }
-}
-
-/// The file, unless it has the number of a standard stream: what is printed then would land in it.
-///
-/// # Errors
-///
-/// `Input`, `Output` or `Errors`, by the number.
-fn kept_apart(file: File) -> Result<File, ImageFault>
-    ensures apart { IfOk result (λ kept. (kept ≡ file) × IsNoStream kept) }
-    ensures refused { IfErr result (λ fault. IsImageRefusal fault.refusal) }
-{
-    match apart(file) {
-        Ok(file) => Ok(file),
-        Err(number) => Err(ImageFault::from(stream_of(number))),
     }
 }
 
@@ -64,10 +51,17 @@ fn kept_apart(file: File) -> Result<File, ImageFault>
 /// # Errors
 ///
 /// `InUse` where another process has it.
-fn claim<E: Write>(file: &File, path: &str, errors: &mut E) -> Result<(), ImageFault>
-    ensures { IfErr result (λ fault. IsImageRefusal fault.refusal) }
+fn claim<H: Host, E: Write>(
+    host: &H,
+    file: &H::File,
+    path: &str,
+    errors: &mut E,
+) -> Result<(), ImageFault>
+    ensures kept { OnOk result (IsKept (H.facts host.now) file.now) }
+    ensures refused { IfErr result (λ fault. (H.facts host.now).locked file.now (Err WouldBlock)
+        × (fault ≡ of_host InUse)) }
 {
-    match file.try_lock() {
+    match host.try_lock(file) {
         Ok(()) => Ok(()),
         Err(TryLockError::WouldBlock) => Err(ImageFault::from(HostFault::InUse)),
         Err(TryLockError::Error(error)) => {
@@ -81,56 +75,27 @@ fn claim<E: Write>(file: &File, path: &str, errors: &mut E) -> Result<(), ImageF
     }
 }
 
-/// The disk of this form in a file that began as is supposed.
+/// An open file for this process alone, unless it has the number of a standard stream: what is printed then would land
+/// in it.
 ///
 /// # Errors
 ///
-/// `NotVolume` where its length is not that of an image, `Device` where the device failed.
-pub(crate) fn disk_in(
-    file: File,
-    form: Form,
-    supposed: Supposition,
-) -> Result<ImageDisk<HostFile>, ImageFault>
-    requires { IsNoStream file }
-    ensures holds { IfOk result
-        (λ image. HoldsFile form (unseen_in supposed) (⟦<ImageDisk<HostFile> as Disk>⟧.state image)) }
-    ensures refused { IfErr result (λ fault. IsImageRefusal fault.refusal) }
+/// `Input`, `Output` or `Errors`, by the number; `InUse` where another process has the file.
+fn own<H: Host, E: Write>(
+    host: &H,
+    file: H::File,
+    path: &str,
+    errors: &mut E,
+) -> Result<H::File, ImageFault>
+    ensures own { IfOk result (λ kept. (kept ≡ file) × IsOwn (H.facts host.now) kept) }
+    ensures refused { IfErr result (IsUnfit (H.facts host.now) file) }
 {
-    match ImageDisk::of_form(HostFile::from_file(file, supposed), form) {
-        Ok(image) => Ok(image),
-        Err((ImageError::BadSize, _)) => Err(ImageFault {
-            refusal: Refusal::Start(VolumeError::NotVolume),
-            host: None,
-        }),
-        Err((ImageError::Device, file)) => Err(ImageFault {
-            refusal: Refusal::Start(VolumeError::Device),
-            host: failure_of(&file),
-        }),
+    let number = host.number(&file);
+    if is_stream(number) {
+        return Err(ImageFault::from(stream_of(number)));
     }
-}
-
-/// The image of this form in a file that began as is supposed, with room to keep blocks of it in memory.
-///
-/// # Errors
-///
-/// As of `disk_in`; `Memory` where that room isn't found.
-pub(crate) fn image_in(
-    alloc: Global,
-    file: File,
-    form: Form,
-    supposed: Supposition,
-) -> Result<Image, ImageFault>
-    requires { IsNoStream file }
-    ensures holds { IfOk result
-        (λ image. HoldsFile form (unseen_in supposed) (⟦<Cached<ImageDisk<HostFile>> as Disk>⟧.state image)) }
-    ensures refused { IfErr result (λ fault. IsImageRefusal fault.refusal) }
-{
-    let disk = disk_in(file, form, supposed)?;
-    let room = NonZeroUsize::new(KEPT_BLOCKS).unwrap();
-    match Cached::new(alloc, disk, room) {
-        Ok(image) => Ok(image),
-        Err((NoMemory, _disk)) => Err(ImageFault::from(HostFault::Memory)),
-    }
+    claim(host, &file, path, errors)?;
+    Ok(file)
 }
 
 /// The open file of an image, for this process alone and none of the standard streams.
@@ -138,34 +103,145 @@ pub(crate) fn image_in(
 /// # Errors
 ///
 /// `InUse` where another process has it, `System` where the file can't be opened, or the stream whose number it has.
-pub(crate) fn open_file<F: Files<File = File>, E: Write>(
-    files: &F,
+fn open_file<H: Host, E: Write>(
+    host: &H,
     path: &str,
     errors: &mut E,
-) -> Result<File, ImageFault>
-    ensures apart { IfOk result IsNoStream }
-    ensures refused { IfErr result (λ fault. IsImageRefusal fault.refusal) }
+) -> Result<H::File, ImageFault>
+    ensures opened { IfOk result (λ file. (H.facts host.now).opened path.now (Ok file)
+        × IsOwn (H.facts host.now) file) }
+    ensures refused { IfErr result (IsUnopened (H.facts host.now) path.now) }
 {
-    match OpenOptions::new().read(true).write(true).open(files, path) {
-        Ok(file) => {
-            let file = kept_apart(file)?;
-            claim(&file, path, errors)?;
-            Ok(file)
-        }
+    match host.open(path) {
+        Ok(file) => own(host, file, path, errors),
         Err(error) => Err(ImageFault::from(HostFault::System(error))),
     }
 }
 
-/// A new file.
+/// The disk of this form in a file that began as is supposed.
+///
+/// # Errors
+///
+/// The file: `NotVolume` where its length is not that of an image, `Device` where the device failed.
+fn disk_in<H: Host>(
+    host: &H,
+    file: H::File,
+    form: Form,
+    supposed: Supposition,
+) -> Result<ImageDisk<HostFile>, (ImageFault, HostFile)>
+    requires { pos 2 <ℤ (H.facts host.now).number file }
+    ensures supposed { (H.facts host.now).supposed file (unseen_in supposed) }
+    ensures began { IfOk result
+        (λ disk. BeganAs form (unseen_in supposed) (⟦<ImageDisk<HostFile> as Disk>⟧.state disk)) }
+    ensures counted { IfOk result (λ disk. (⟦<ImageDisk<HostFile> as Disk>⟧.state disk).failures ≡ 0) }
+    ensures refused { IfErr result (λ refused. IsNoImage form (unseen_in supposed)
+        (⟦<HostFile as Durable>⟧.state refused.1) refused.0) }
+{
+    match host.disk_of(file, form, supposed) {
+        Ok(disk) => Ok(disk),
+        Err((ImageError::BadSize, file)) => Err((
+            ImageFault {
+                refusal: Refusal::Start(VolumeError::NotVolume),
+                host: None,
+            },
+            file,
+        )),
+        Err((ImageError::Device, file)) => Err((
+            ImageFault {
+                refusal: Refusal::Start(VolumeError::Device),
+                host: failure_of(&file),
+            },
+            file,
+        )),
+    }
+}
+
+/// The disk of an image of this form at a path, whose file is this process's alone and began as is supposed.
+///
+/// # Errors
+///
+/// As of `open_file` and `disk_in`.
+pub(crate) fn open_disk<H: Host, E: Write>(
+    host: &H,
+    path: &str,
+    form: Form,
+    supposed: Supposition,
+    errors: &mut E,
+) -> Result<ImageDisk<HostFile>, Denied>
+    ensures opened { IfOk result (λ disk. IsOpened (H.facts host.now) path.now (unseen_in supposed)) }
+    ensures began { IfOk result
+        (λ disk. BeganAs form (unseen_in supposed) (⟦<ImageDisk<HostFile> as Disk>⟧.state disk)) }
+    ensures counted { IfOk result (λ disk. (⟦<ImageDisk<HostFile> as Disk>⟧.state disk).failures ≡ 0) }
+    ensures denied { IfErr result (λ denied. IsDenied (H.facts host.now) (⟦<RunDisks as Seen>⟧.views) path.now form
+        (unseen_in supposed) denied.0 denied.1) }
+    ensures undone { IfErr result (λ denied. HasNoDisk denied.1) }
+{
+    let file = match open_file(host, path, errors) {
+        Ok(file) => file,
+        Err(fault) => return Err((fault, Disks::None)),
+    };
+    match disk_in(host, file, form, supposed) {
+        Ok(disk) => Ok(disk),
+        Err((fault, file)) => Err((fault, Disks::NoImage(file))),
+    }
+}
+
+/// The same disk, with room to keep blocks of it in memory.
+///
+/// # Errors
+///
+/// `Memory` where that room isn't found: the disk is as it was.
+fn keep_blocks(alloc: Global, disk: ImageDisk<HostFile>) -> Result<Image, Denied>
+    ensures began { (form : Forms) (u : Unseen) → BeganAs form u (⟦<ImageDisk<HostFile> as Disk>⟧.state disk)
+        → IfOk result (λ image. BeganAs form u (⟦<Cached<ImageDisk<HostFile>> as Disk>⟧.state image)) }
+    ensures counted { IfOk result (λ image. (⟦<Cached<ImageDisk<HostFile>> as Disk>⟧.state image).failures
+        ≡ (⟦<ImageDisk<HostFile> as Disk>⟧.state disk).failures) }
+    ensures denied { IfErr result (λ denied. (denied.0 ≡ of_host OutOfMemory)
+        × (denied.1 ≡ disks.Unserved disk)) }
+{
+    let room = NonZeroUsize::new(KEPT_BLOCKS).unwrap();
+    match Cached::new(alloc, disk, room) {
+        Ok(image) => Ok(image),
+        Err((NoMemory, disk)) => Err((ImageFault::from(HostFault::Memory), Disks::Unserved(disk))),
+    }
+}
+
+/// The image of this form at a path, whose file is this process's alone and began as is supposed, with room to keep
+/// blocks of it in memory. Nothing of it was read or written yet.
+///
+/// # Errors
+///
+/// As of `open_disk`; `Memory` where that room isn't found.
+pub(crate) fn open_image<H: Host, E: Write>(
+    host: &H,
+    alloc: Global,
+    path: &str,
+    form: Form,
+    supposed: Supposition,
+    errors: &mut E,
+) -> Result<Image, Denied>
+    ensures opened { IfOk result (λ image. IsOpened (H.facts host.now) path.now (unseen_in supposed)) }
+    ensures began { IfOk result
+        (λ image. BeganAs form (unseen_in supposed) (⟦<Cached<ImageDisk<HostFile>> as Disk>⟧.state image)) }
+    ensures counted { IfOk result (λ image. (⟦<Cached<ImageDisk<HostFile>> as Disk>⟧.state image).failures ≡ 0) }
+    ensures denied { IfErr result (λ denied. IsDenied (H.facts host.now) (⟦<RunDisks as Seen>⟧.views) path.now form
+        (unseen_in supposed) denied.0 denied.1) }
+{
+    let disk = open_disk(host, path, form, supposed, errors)?;
+    keep_blocks(alloc, disk)
+}
+
+/// A new file, where there was none, and the right to remove it.
 ///
 /// # Errors
 ///
 /// `Exists` where something has that name, `Device` where it can't be made.
-pub(crate) fn new_file<F: Files<File = File>>(files: &F, path: &str) -> Result<File, ImageFault>
-    ensures { IfErr result (λ fault. (fault.refusal ≡ Exists) ⊎ (fault.refusal ≡ Start Device)) }
+pub(crate) fn new_file<H: Host>(host: &H, path: &str) -> Result<(H::File, RemovalRight), ImageFault>
+    ensures made { IfOk result (λ made. (H.facts host.now).created path.now (Ok made.0)) }
+    ensures refused { IfErr result (IsUnmade (H.facts host.now) path.now) }
 {
-    match File::create_new(files, path) {
-        Ok(file) => Ok(file),
+    match host.create(path) {
+        Ok(made) => Ok(made),
         Err(error) if error.kind() == ErrorKind::AlreadyExists => Err(ImageFault {
             refusal: Refusal::Exists,
             host: Some(HostFault::System(error)),
@@ -174,42 +250,84 @@ pub(crate) fn new_file<F: Files<File = File>>(files: &F, path: &str) -> Result<F
     }
 }
 
-/// Writes so many blocks of zeros in this form, so that a file system without room for an image refuses it when it is
-/// made, and not when somebody's file is written.
+/// Takes a file that was made at a path for this process alone, and fills it with as many blocks of zeros.
 ///
 /// # Errors
 ///
-/// The system's.
-fn write_zeros(file: &File, form: Form, blocks: u32) -> io::Result<()> {
-    let zeros = [0; BLOCK_BYTES];
-    let block = &zeros[..form.block_bytes() as usize];
-    let mut writer = file;
-    for _ in 0..blocks {
-        writer.write_all(block)?;
-    }
-    file.sync_all()
-}
-
-/// The disk of so many blocks of zeros in a new file.
-///
-/// # Errors
-///
-/// `Device` where the file can't be written, or another process has it.
-pub(crate) fn zeros_in<E: Write>(
-    file: File,
+/// The system's where it can't be filled, or another process has it.
+fn filled<H: Host, E: Write>(
+    host: &H,
+    file: H::File,
     path: &str,
     form: Form,
     blocks: u32,
     errors: &mut E,
-) -> Result<ImageDisk<HostFile>, ImageFault>
-    ensures { IfErr result (λ fault. IsImageRefusal fault.refusal) }
+) -> Result<H::File, ImageFault>
+    requires { (H.facts host.now).created path.now (Ok file) }
+    ensures filled { IfOk result (λ kept. (kept ≡ file) × IsOwn (H.facts host.now) kept
+        × (H.facts host.now).filled kept (Ok tt)) }
+    ensures refused { IfErr result (λ fault. IsUnfilled (H.facts host.now) path.now fault) }
 {
-    let file = kept_apart(file)?;
-    claim(&file, path, errors)?;
-    if let Err(error) = write_zeros(&file, form, blocks) {
-        return Err(ImageFault::from(HostFault::System(error)));
+    let file = own(host, file, path, errors)?;
+    match host.fill(path, &file, form, blocks) {
+        Ok(()) => Ok(file),
+        Err(error) => Err(ImageFault::from(HostFault::System(error))),
     }
-    disk_in(file, form, Supposition::any())
+}
+
+/// The disk, if it has as many blocks as were written.
+///
+/// # Errors
+///
+/// `WrongLength` where the host has given it another number.
+fn as_long(disk: ImageDisk<HostFile>, blocks: u32) -> Result<ImageDisk<HostFile>, Denied>
+    ensures same { IfOk result (λ long. (long ≡ disk)
+        × ((⟦<ImageDisk<HostFile> as Disk>⟧.state long).size ≡ blocks)) }
+    ensures denied { IfErr result (λ denied. (denied.1 ≡ disks.Unserved disk)
+        × IsNoNewDisk (⟦<ImageDisk<HostFile> as Disk>⟧.state disk).size
+        (⟦<ImageDisk<HostFile> as Disk>⟧.state disk).failures blocks denied.0) }
+{
+    if disk.blocks() == blocks {
+        Ok(disk)
+    } else {
+        Err((
+            ImageFault::from(HostFault::WrongLength),
+            Disks::Unserved(disk),
+        ))
+    }
+}
+
+/// The disk of as many blocks of zeros in a file that was made at a path.
+///
+/// # Errors
+///
+/// `Device` where the file can't be written, or another process has it.
+pub(crate) fn zeros_in<H: Host, E: Write>(
+    host: &H,
+    file: H::File,
+    path: &str,
+    form: Form,
+    blocks: u32,
+    supposed: Supposition,
+    errors: &mut E,
+) -> Result<ImageDisk<HostFile>, Denied>
+    requires { (H.facts host.now).created path.now (Ok file) }
+    ensures made { IfOk result (λ disk. IsNewDisk (H.facts host.now) (⟦<RunDisks as Seen>⟧.views) path.now form
+        blocks (unseen_in supposed) disk) }
+    ensures began { IfOk result
+        (λ disk. BeganAs form (unseen_in supposed) (⟦<ImageDisk<HostFile> as Disk>⟧.state disk)) }
+    ensures counted { IfOk result (λ disk. (⟦<ImageDisk<HostFile> as Disk>⟧.state disk).failures ≡ 0) }
+    ensures denied { IfErr result (λ denied. IsNotMade (H.facts host.now) (⟦<RunDisks as Seen>⟧.views) path.now form
+        blocks (unseen_in supposed) denied.0 denied.1) }
+{
+    let file = match filled(host, file, path, form, blocks, errors) {
+        Ok(file) => file,
+        Err(fault) => return Err((fault, Disks::None)),
+    };
+    match disk_in(host, file, form, supposed) {
+        Ok(disk) => as_long(disk, blocks),
+        Err((fault, file)) => Err((fault, Disks::NoImage(file))),
+    }
 }
 
 /// Makes an empty volume on the disk of a new image, and hands it back.
@@ -217,64 +335,83 @@ pub(crate) fn zeros_in<E: Write>(
 /// # Errors
 ///
 /// `NotVolume` where the disk has a number of blocks that is no volume's, `Device` where the device failed.
-fn volume_on(disk: ImageDisk<HostFile>) -> Result<ImageDisk<HostFile>, ImageFault>
-    // Where the file has kept to the model: whatever a crash leaves of it stands for no files.
-    ensures made { IfOk result (λ made. (⟦<ImageDisk<HostFile> as Disk>⟧.state made).honest
-        → AtRest (⟦<ImageDisk<HostFile> as Disk>⟧.state made)
-        (λ c. Stands (⟦<ImageDisk<HostFile> as Disk>⟧.state disk).size c empty)) }
-    ensures settled { IfOk result (λ made. (⟦<ImageDisk<HostFile> as Disk>⟧.state made).honest
-        → NoneOpen (⟦<ImageDisk<HostFile> as Disk>⟧.state made)) }
-    ensures refused { IfErr result (λ fault. IsImageRefusal fault.refusal) }
+fn volume_on(disk: ImageDisk<HostFile>, blocks: u32) -> Result<ImageDisk<HostFile>, Denied>
+    requires { (⟦<ImageDisk<HostFile> as Disk>⟧.state disk).failures ≡ 0 }
+    ensures empty { IfOk result (λ made. IsEmptyVolume (⟦<ImageDisk<HostFile> as Disk>⟧.state made)) }
+    ensures same { IfOk result (λ made. SameDisk (⟦<ImageDisk<HostFile> as Disk>⟧.state disk)
+        (⟦<ImageDisk<HostFile> as Disk>⟧.state made)) }
+    ensures denied { IfErr result (λ denied. (left : _) × (denied.1 ≡ disks.Unserved left)
+        × IsNoNewDisk (⟦<ImageDisk<HostFile> as Disk>⟧.state left).size
+        (⟦<ImageDisk<HostFile> as Disk>⟧.state left).failures blocks denied.0) }
 {
     let mut disk = disk;
     match Volume::init(&mut disk) {
         Ok(()) => Ok(disk),
-        Err(error) => Err(ImageFault {
-            refusal: Refusal::Start(error),
-            host: failure_of(&disk.finish()),
-        }),
+        Err(error) => Err((
+            ImageFault {
+                refusal: Refusal::Start(error),
+                host: failure_of(disk.file()),
+            },
+            Disks::Unserved(disk),
+        )),
     }
 }
 
-/// Makes a volume of so many blocks in a new file.
+/// Makes a volume of as many blocks in a file that was made at a path.
 ///
 /// # Errors
 ///
 /// `Device` where the file can't be written, or another process has it.
-fn fill<E: Write>(
-    file: File,
+fn volume_in<H: Host, E: Write>(
+    host: &H,
+    file: H::File,
     path: &str,
     form: Form,
     blocks: u32,
+    supposed: Supposition,
     errors: &mut E,
-) -> Result<(), ImageFault>
-    ensures { IfErr result (λ fault. IsImageRefusal fault.refusal) }
+) -> Result<ImageDisk<HostFile>, Denied>
+    requires { (H.facts host.now).created path.now (Ok file) }
+    ensures made { IfOk result (λ disk. IsNewDisk (H.facts host.now) (⟦<RunDisks as Seen>⟧.views) path.now form
+        blocks (unseen_in supposed) disk) }
+    ensures empty { IfOk result (λ disk. IsEmptyVolume (⟦<ImageDisk<HostFile> as Disk>⟧.state disk)) }
+    ensures denied { IfErr result (λ denied. IsNotMade (H.facts host.now) (⟦<RunDisks as Seen>⟧.views) path.now form
+        blocks (unseen_in supposed) denied.0 denied.1) }
 {
-    volume_on(zeros_in(file, path, form, blocks, errors)?)?;
-    Ok(())
+    let disk = zeros_in(host, file, path, form, blocks, supposed, errors)?;
+    volume_on(disk, blocks)
 }
 
-/// Makes an image of this form and of so many blocks with no directory on it. All of them are written.
+/// Makes an image of this form and of as many blocks with no directory on it. All of them are written. The right to
+/// remove its file is handed back with its disk.
 ///
 /// # Errors
 ///
 /// `Exists` where something has that name; it is left alone. `Device` where the file can't be made or written; it is
 /// removed then.
-pub fn make_image<F: Files<File = File>, E: Write>(
-    files: &F,
+pub(crate) fn make_image<H: Host, E: Write>(
+    host: &H,
     path: &str,
     form: Form,
     blocks: u32,
+    supposed: Supposition,
     errors: &mut E,
-) -> Result<(), ImageFault>
-    ensures { IfErr result (λ fault. (fault.refusal ≡ Exists) ⊎ IsImageRefusal fault.refusal) }
+) -> Result<(ImageDisk<HostFile>, RemovalRight), Denied>
+    ensures made { IfOk result (λ made. IsNewDisk (H.facts host.now) (⟦<RunDisks as Seen>⟧.views) path.now form
+        blocks (unseen_in supposed) made.0) }
+    ensures empty { IfOk result (λ made. IsEmptyVolume (⟦<ImageDisk<HostFile> as Disk>⟧.state made.0)) }
+    ensures denied { IfErr result (λ denied. IsNotMade (H.facts host.now) (⟦<RunDisks as Seen>⟧.views) path.now form
+        blocks (unseen_in supposed) denied.0 denied.1) }
 {
-    let file = new_file(files, path)?;
-    match fill(file, path, form, blocks, errors) {
-        Ok(()) => Ok(()),
-        Err(fault) => {
-            let _ = fs::remove_file(files, path);
-            Err(fault)
+    let (file, right) = match new_file(host, path) {
+        Ok(made) => made,
+        Err(fault) => return Err((fault, Disks::None)),
+    };
+    match volume_in(host, file, path, form, blocks, supposed, errors) {
+        Ok(disk) => Ok((disk, right)),
+        Err(denied) => {
+            let _ = host.remove(path, right);
+            Err(denied)
         }
     }
 }

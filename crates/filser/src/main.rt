@@ -20,27 +20,39 @@
 
 mod asked;
 mod convert;
+mod disks;
 mod error;
 mod fault;
+mod host;
+mod identity;
 mod image;
 mod lines;
+mod message;
+mod outcome;
 mod program;
 mod progress;
 mod reading;
 mod refusal;
+mod seen;
 mod serving;
 mod status;
 mod streams;
 mod task;
 
 pub use asked::Request;
+pub use disks::Disks;
 pub use error::RequestError;
 pub use fault::{HostFault, ImageFault};
-pub use image::make_image;
+pub use host::{Host, RemovalRight, SystemHost};
+pub use identity::FileId;
+use imagefile::Supposition;
+pub use message::Message;
+pub use outcome::{Beginnings, Run};
 pub use program::work;
 pub use progress::Telling;
 pub use reading::request;
 pub use refusal::Refusal;
+pub use seen::{Image, RunDisks, Seen};
 pub use status::Status;
 use std::env;
 use std::io::{self, ErrorKind, IsTerminal};
@@ -79,15 +91,20 @@ fn run(rt: &HostRuntime) -> io::Result<u8> {
     } else {
         Telling::Silent
     };
-    let code = work(
-        rt,
+    let supposed = Beginnings {
+        image: Supposition::any(),
+        new: Supposition::any(),
+    };
+    let run = work(
+        &SystemHost::new(rt),
         alloc,
         texts.as_slice(),
         &missing,
         telling,
+        supposed,
         &mut rt.reader(),
         &mut output,
         &mut errors,
     );
-    Ok(code)
+    Ok(run.code)
 }

@@ -1,68 +1,77 @@
-ghost use Rattle.std.specs.Prelude.{◌≡◌, ◌≢◌, ◌⊎◌, ◌≤◌, ℕ, List, [], map, true, Option, IfOk, IfErr, IfSome};
+ghost use Rattle.std.specs.Prelude.{◌≡◌, ◌≢◌, ◌⊎◌, ◌≤◌, ℕ, List, [], map, true, Option, Some, IfSome, MatchOption};
 ghost use Rattle.std.specs.Prelude.{MatchResult};
 ghost use Rattle.std.specs.Io.KnownBytes.{Keeps};
 ghost use Rattle.clap.specs.Words.{fault_of, kind_of, subcommand_of};
+ghost use Rattle.clap.specs.declared.error.Error.{Error as Errors};
 ghost use Rattle.arguments.specs.CommandLine.{command_line};
+ghost use Rattle.imagefile.specs.Supposition.{unseen_in};
+ghost use Rattle.filser.specs.Denials.{IsExplained};
 ghost use Rattle.filser.specs.Endings.{AreMistaken, AskToSee, EndsUnasked, AsksForHelp};
-ghost use Rattle.filser.specs.HostFaults.{forbids_errors, forbids_output};
-ghost use Rattle.filser.specs.Requests.{Asks, InRange};
-ghost use Rattle.filser.specs.Runs.{IsExcused, IsRequestRun, IsTurnedAway, WasRun};
+ghost use Rattle.filser.specs.HostFaults.{forbids_errors};
+ghost use Rattle.filser.specs.Images.{IsOnNew};
+ghost use Rattle.filser.specs.Requests.{Asks, InRange, image_named};
+ghost use Rattle.filser.specs.Runs.{IsApart, IsHandled, IsRequestRun, WasRun};
 ghost use Rattle.filser.specs.Statuses.{status_code};
-ghost use Rattle.filser.specs.declared.error.RequestError.TheVariants.{BadArgument, NoMemory};
-ghost use Rattle.filser.specs.declared.status.Status.{Status as Statuses};
+ghost use Rattle.filser.specs.Streams.{IsStreamAt};
+ghost use Rattle.filser.specs.declared.disks.Disks.TheVariants.{None};
 ghost use Rattle.filser.specs.declared.asked.Request.{Request as Asked};
+ghost use Rattle.filser.specs.declared.error.RequestError.TheVariants.{BadArgument, NoMemory, Usage};
+ghost use Rattle.filser.specs.declared.status.Status.{Status as Statuses};
 ghost use Rattle.filser.specs.declared.status.Status.TheVariants.{Done, BadArguments, Fault};
 
-use crate::convert::convert_image;
+use crate::convert::{Conversion, convert_image};
 use crate::fault::report;
-use crate::image::{Image, open_file, tell_failure};
+use crate::image::make_image;
 use crate::lines::LineReader;
-use crate::serving::{say, serve_file, serve_fresh};
+use crate::outcome::Outcome;
+use crate::serving::{say, serve_fresh, serve_image};
 use crate::streams::stream_at;
 use crate::{
-    ImageFault, MissingStreams, Request, RequestError, Status, Telling, make_image, request,
+    Beginnings, Disks, Host, HostFault, ImageFault, MissingStreams, Request, RequestError, Run, RunDisks, Seen,
+    Status, Telling, request,
 };
-use blockcache::Cached;
-use blockdisk::{Disk, MemDisk};
 use clap::Error;
-use imagefile::{HostFile, ImageDisk, Supposition};
+use imagefile::{Form, Supposition};
 use std::alloc::Global;
-use std::fs::File;
 use std::io::{self, Read, Write};
-use std::rt::Files;
 
 /// A whole run of the program: reads the words, the first of which is its name, does what they ask for over
-/// the files of the host, and answers the exit status, 0 to 4. Texts go to `writer`. To `errors` go those on wrong
-/// arguments, why the host didn't give what was asked of an image, and the line that the input broke off in; and, where
-/// `telling` says so, how far a conversion is.
+/// the files of the host, and answers the exit status, 0 to 4, with what is left of the images. Texts go to `writer`. To
+/// `errors` go those on wrong arguments, why the host didn't give what was asked of an image, and the line that the input
+/// broke off in; and, where `telling` says so, how far a conversion is.
 ///
 /// Where several faults stand, the first of these is met: the arguments, a new file that is there, a file
 /// that can't be opened or made or that another process has, its size, the start, the input.
-pub fn work<F: Files<File = File>, R: Read, W: Write, E: Write>(
-    files: &F,
+pub fn work<H: Host, R: Read, W: Write, E: Write>(
+    host: &H,
     alloc: Global,
     words: &[&str],
     missing: &MissingStreams,
     telling: Telling,
+    supposed: Beginnings,
     reader: &mut R,
     writer: &mut W,
     errors: &mut E,
-) -> u8
-    ensures few { result ≤ 4 }
-    ensures mistaken { AreMistaken (fault_of command_line (map (λ w. w.now) words.now)) → (result ≡ 2) ⊎ (result ≡ 4) }
-    ensures shown { AskToSee (fault_of command_line (map (λ w. w.now) words.now)) → (result ≡ 0) ⊎ (result ≡ 4) }
+) -> Run
+    ensures few { result.code ≤ 4 }
+    ensures mistaken { AreMistaken (fault_of command_line (map (λ w. w.now) words.now))
+        → (result.code ≡ 2) ⊎ (result.code ≡ 4) }
+    ensures shown { AskToSee (fault_of command_line (map (λ w. w.now) words.now))
+        → (result.code ≡ 0) ⊎ (result.code ≡ 4) }
     ensures asked { (r : Asked) → Asks (subcommand_of command_line (map (λ w. w.now) words.now)) r
-        → fault_of command_line (map (λ w. w.now) words.now) ≡ [] → result ≢ 2 }
-    // What was printed, and the status of that, unless the end of the text can't be written.
+        → fault_of command_line (map (λ w. w.now) words.now) ≡ [] → result.code ≢ 2 }
+    // What was done with the images, what was printed, and the status of that, unless the end of the text can't be
+    // written.
     ensures ran { (status : Statuses) × (left : Option (List ℕ)) × (full : Option (List ℕ))
-        × ((result ≡ status_code status) ⊎ (result ≡ 4)) × Keeps full (W.contents writer.new)
-        × WasRun (⟦<MemDisk as Disk>⟧.state) (⟦<Cached<ImageDisk<HostFile>> as Disk>⟧.state)
-        (fault_of command_line (map (λ w. w.now) words.now)) (subcommand_of command_line (map (λ w. w.now) words.now))
-        (R.remaining reader.old) left (W.contents writer.old) full status }
+        × ((result.code ≡ status_code status) ⊎ (result.code ≡ 4)) × Keeps full (W.contents writer.new)
+        × WasRun (H.facts host.now) (⟦<RunDisks as Seen>⟧.views) missing.now (unseen_in supposed.image)
+        (unseen_in supposed.new) (fault_of command_line (map (λ w. w.now) words.now))
+        (subcommand_of command_line (map (λ w. w.now) words.now)) (R.remaining reader.old) left
+        (W.contents writer.old) full result.image result.new status }
 {
     let mut lines = LineReader::new(reader);
-    let status = answer(
-        files, alloc, words, missing, telling, &mut lines, writer, errors,
+    let outcome = answer(
+        host, alloc, words, missing, telling, supposed, &mut lines, writer, errors,
     );
     if let Some((line, fault)) = lines.fault() {
         report(
@@ -71,7 +80,11 @@ pub fn work<F: Files<File = File>, R: Read, W: Write, E: Write>(
             &format_args!("line {line}: {fault}"),
         );
     }
-    exit_code(status, writer.flush())
+    Run {
+        code: exit_code(outcome.status, writer.flush()),
+        image: outcome.image,
+        new: outcome.new,
+    }
 }
 
 /// The exit status of a run, all of whose text could be written or not.
@@ -84,119 +97,178 @@ fn exit_code(status: Status, flushed: io::Result<()>) -> u8
     }
 }
 
+/// A run that worked on no image.
+fn without_disks(status: Status) -> Outcome
+    ensures { result ≡ record { status = status; image = None; new = None } }
+{
+    Outcome {
+        status,
+        image: Disks::None,
+        new: Disks::None,
+    }
+}
+
 /// Does what the words ask for, or says why they ask for nothing that is done.
-fn answer<F: Files<File = File>, R: Read, W: Write, E: Write>(
-    files: &F,
+fn answer<H: Host, R: Read, W: Write, E: Write>(
+    host: &H,
     alloc: Global,
     words: &[&str],
     missing: &MissingStreams,
     telling: Telling,
+    supposed: Beginnings,
     reader: &mut R,
     writer: &mut W,
     errors: &mut E,
-) -> Status
+) -> Outcome
     ensures mistaken { AreMistaken (fault_of command_line (map (λ w. w.now) words.now))
-        → (result ≡ BadArguments) ⊎ (result ≡ Fault) }
-    ensures shown { AskToSee (fault_of command_line (map (λ w. w.now) words.now)) → (result ≡ Done) ⊎ (result ≡ Fault) }
+        → (result.status ≡ BadArguments) ⊎ (result.status ≡ Fault) }
+    ensures shown { AskToSee (fault_of command_line (map (λ w. w.now) words.now))
+        → (result.status ≡ Done) ⊎ (result.status ≡ Fault) }
     ensures asked { (r : Asked) → Asks (subcommand_of command_line (map (λ w. w.now) words.now)) r
-        → fault_of command_line (map (λ w. w.now) words.now) ≡ [] → result ≢ BadArguments }
-    ensures ran { WasRun (⟦<MemDisk as Disk>⟧.state) (⟦<Cached<ImageDisk<HostFile>> as Disk>⟧.state)
-        (fault_of command_line (map (λ w. w.now) words.now)) (subcommand_of command_line (map (λ w. w.now) words.now))
-        (R.remaining reader.old) (R.remaining reader.new) (W.contents writer.old) (W.contents writer.new) result }
+        → fault_of command_line (map (λ w. w.now) words.now) ≡ [] → result.status ≢ BadArguments }
+    ensures ran { WasRun (H.facts host.now) (⟦<RunDisks as Seen>⟧.views) missing.now (unseen_in supposed.image)
+        (unseen_in supposed.new) (fault_of command_line (map (λ w. w.now) words.now))
+        (subcommand_of command_line (map (λ w. w.now) words.now)) (R.remaining reader.old) (R.remaining reader.new)
+        (W.contents writer.old) (W.contents writer.new) result.image result.new result.status }
 {
     match request(alloc, words) {
         Ok(asked) => start(
-            files, alloc, &asked, missing, telling, reader, writer, errors,
+            host, alloc, &asked, missing, telling, supposed, reader, writer, errors,
         ),
-        Err(error) => refuse(&error, writer, errors),
+        Err(error) => without_disks(refuse(&error, writer, errors)),
     }
 }
 
 /// Does what is asked for, unless that would print into the image, or there is nothing to read or to print to.
-fn start<F: Files<File = File>, R: Read, W: Write, E: Write>(
-    files: &F,
+fn start<H: Host, R: Read, W: Write, E: Write>(
+    host: &H,
     alloc: Global,
     asked: &Request<'_>,
     missing: &MissingStreams,
     telling: Telling,
+    supposed: Beginnings,
     reader: &mut R,
     writer: &mut W,
     errors: &mut E,
-) -> Status
+) -> Outcome
     requires { InRange asked.now }
-    ensures serving { result ≢ BadArguments }
-    ensures ran { IsRequestRun (⟦<MemDisk as Disk>⟧.state) (⟦<Cached<ImageDisk<HostFile>> as Disk>⟧.state) asked.now
-        (R.remaining reader.old) (R.remaining reader.new) (W.contents writer.old) (W.contents writer.new) result
-        ⊎ IsTurnedAway (R.remaining reader.old) (R.remaining reader.new) (W.contents writer.old) (W.contents writer.new)
-        result }
+    ensures serving { result.status ≢ BadArguments }
+    ensures ran { IsHandled (H.facts host.now) (⟦<RunDisks as Seen>⟧.views) missing.now (unseen_in supposed.image)
+        (unseen_in supposed.new) asked.now (R.remaining reader.old) (R.remaining reader.new) (W.contents writer.old)
+        (W.contents writer.new) result.image result.new result.status }
 {
-    if let Some(path) = asked.image() {
-        if let Some(stream) = stream_at(files, path) {
-            return refuse_image(ImageFault::from(stream), path, writer, errors);
-        }
+    if let Some((path, stream)) = stream_named(host, asked) {
+        let fault = ImageFault::from(stream);
+        return without_disks(refuse_image(fault, path, writer, errors));
     }
     if missing.are_needed() {
         report(errors, "standard input or output", &"it is closed");
-        return Status::Fault;
+        return without_disks(Status::Fault);
     }
-    perform(files, alloc, asked, telling, reader, writer, errors)
+    perform(host, alloc, asked, telling, supposed, reader, writer, errors)
+}
+
+/// The path of the image that is named, and the standard stream that leads to it, where one does.
+fn stream_named<'a, H: Host>(host: &H, asked: &Request<'a>) -> Option<(&'a str, HostFault)>
+    ensures { MatchOption result (IsApart (H.facts host.now) (image_named asked.now))
+        (λ found. (image_named asked.now ≡ Some found.0.now)
+        × IsStreamAt (H.facts host.now) found.0.now (Some found.1)) }
+{
+    let path = asked.image()?;
+    let stream = stream_at(host, path)?;
+    Some((path, stream))
 }
 
 /// Does what is asked for.
-fn perform<F: Files<File = File>, R: Read, W: Write, E: Write>(
-    files: &F,
+fn perform<H: Host, R: Read, W: Write, E: Write>(
+    host: &H,
     alloc: Global,
     asked: &Request<'_>,
     telling: Telling,
+    supposed: Beginnings,
     reader: &mut R,
     writer: &mut W,
     errors: &mut E,
-) -> Status
+) -> Outcome
     requires { InRange asked.now }
-    ensures serving { result ≢ BadArguments }
-    ensures ran { IsRequestRun (⟦<MemDisk as Disk>⟧.state) (⟦<Cached<ImageDisk<HostFile>> as Disk>⟧.state) asked.now
-        (R.remaining reader.old) (R.remaining reader.new) (W.contents writer.old) (W.contents writer.new) result
-        ⊎ IsTurnedAway (R.remaining reader.old) (R.remaining reader.new) (W.contents writer.old) (W.contents writer.new)
-        result }
+    ensures serving { result.status ≢ BadArguments }
+    ensures ran { IsRequestRun (H.facts host.now) (⟦<RunDisks as Seen>⟧.views) (unseen_in supposed.image)
+        (unseen_in supposed.new) asked.now (R.remaining reader.old) (R.remaining reader.new) (W.contents writer.old)
+        (W.contents writer.new) result.image result.new result.status }
 {
-    match asked {
-        Request::Fresh => serve_fresh(alloc, reader, writer),
-        Request::Init(path, blocks, form) => match make_image(files, path, *form, *blocks, errors) {
-            Ok(()) => Status::Done,
-            Err(fault) => refuse_image(fault, path, writer, errors),
-        },
-        Request::Work(path, form, task) => match open_file(files, path, errors) {
-            Ok(file) => {
-                let any = Supposition::any();
-                let served = serve_file(alloc, file, *form, any, *task, reader, writer);
-                conclude(served, path, writer, errors)
-            }
-            Err(fault) => refuse_image(fault, path, writer, errors),
-        },
+    match *asked {
+        Request::Fresh => on_image(serve_fresh(alloc, reader, writer)),
+        Request::Init(path, blocks, form) => on_new(init_image(
+            host,
+            path,
+            form,
+            blocks,
+            supposed.new,
+            writer,
+            errors,
+        )),
+        Request::Work(path, form, task) => on_image(serve_image(
+            host,
+            alloc,
+            path,
+            form,
+            supposed.image,
+            task,
+            reader,
+            writer,
+            errors,
+        )),
         Request::Convert(path, new, form) => {
-            convert_image(files, alloc, path, new, *form, telling, writer, errors)
+            let conversion = Conversion {
+                path,
+                form,
+                new,
+                telling,
+            };
+            convert_image(host, alloc, &conversion, supposed, writer, errors)
         }
     }
 }
 
-/// Tells people what the host has to do with it where the file of an image failed, or can't be served at all.
-fn conclude<W: Write, E: Write>(
-    served: Result<(Status, Image), ImageFault>,
+/// A run that made no image.
+fn on_image(served: (Status, RunDisks)) -> Outcome
+    ensures { result ≡ record { status = served.0; image = served.1; new = None } }
+{
+    Outcome {
+        status: served.0,
+        image: served.1,
+        new: Disks::None,
+    }
+}
+
+/// A run that worked on no image that is there.
+fn on_new(made: (Status, RunDisks)) -> Outcome
+    ensures { result ≡ record { status = made.0; image = None; new = made.1 } }
+{
+    Outcome {
+        status: made.0,
+        image: Disks::None,
+        new: made.1,
+    }
+}
+
+/// Makes an image, or says why there is none.
+fn init_image<H: Host, W: Write, E: Write>(
+    host: &H,
     path: &str,
+    form: Form,
+    blocks: u32,
+    supposed: Supposition,
     writer: &mut W,
     errors: &mut E,
-) -> Status
-    requires { IfOk served (λ done. done.0 ≢ BadArguments) }
-    ensures serving { result ≢ BadArguments }
-    ensures done { IfOk served (λ done. (result ≡ done.0) × (W.contents writer.new ≡ W.contents writer.old)) }
-    ensures excused { IfErr served (λ fault. IsExcused (W.contents writer.old) (W.contents writer.new) result) }
+) -> (Status, RunDisks)
+    ensures serving { result.0 ≢ BadArguments }
+    ensures ran { IsOnNew (H.facts host.now) (⟦<RunDisks as Seen>⟧.views) path.now form blocks (unseen_in supposed)
+        (W.contents writer.old) (W.contents writer.new) result.1 result.0 }
 {
-    match served {
-        Ok((status, image)) => {
-            tell_failure(errors, path, image);
-            status
-        }
-        Err(fault) => refuse_image(fault, path, writer, errors),
+    match make_image(host, path, form, blocks, supposed, errors) {
+        Ok((disk, right)) => (Status::Done, Disks::Made(disk, right)),
+        Err((fault, disks)) => (refuse_image(fault, path, writer, errors), disks),
     }
 }
 
@@ -209,11 +281,9 @@ pub(crate) fn refuse_image<W: Write, E: Write>(
     errors: &mut E,
 ) -> Status
     ensures serving { result ≢ BadArguments }
-    ensures unsaid { IfSome fault.host (λ host. forbids_output host ≡ true
-        → W.contents writer.new ≡ W.contents writer.old) }
+    ensures explained { IsExplained (W.contents writer.old) (W.contents writer.new) result fault }
     ensures untold { IfSome fault.host (λ host. forbids_errors host ≡ true
         → E.contents errors.new ≡ E.contents errors.old) }
-    ensures excused { IsExcused (W.contents writer.old) (W.contents writer.new) result }
 {
     let Some(host) = fault.host else {
         return say(writer, fault.refusal);
@@ -232,6 +302,8 @@ fn refuse<W: Write, E: Write>(error: &RequestError, writer: &mut W, errors: &mut
     ensures ends { EndsUnasked error.now result }
     ensures unprinted { (error.now ≡ BadArgument) ⊎ (error.now ≡ NoMemory)
         → W.contents writer.new ≡ W.contents writer.old }
+    ensures mistake { (usage : Errors) → error.now ≡ Usage usage → (AsksForHelp (kind_of usage) → ⊥)
+        → W.contents writer.new ≡ W.contents writer.old }
 {
     match error {
         RequestError::Usage(usage) => show(usage, writer, errors),
@@ -246,7 +318,8 @@ fn refuse<W: Write, E: Write>(error: &RequestError, writer: &mut W, errors: &mut
 /// Shows the text of `clap`: help and the version are what was asked for, and all else is a mistake.
 fn show<W: Write, E: Write>(usage: &Error, writer: &mut W, errors: &mut E) -> Status
     ensures shown { AsksForHelp (kind_of usage.now) → (result ≡ Done) ⊎ (result ≡ Fault) }
-    ensures mistake { (AsksForHelp (kind_of usage.now) → ⊥) → result ≡ BadArguments }
+    ensures mistake { (AsksForHelp (kind_of usage.now) → ⊥) → (result ≡ BadArguments)
+        × (W.contents writer.new ≡ W.contents writer.old) }
 {
     if usage.use_stderr() {
         let _ = write!(errors, "{usage}");

@@ -1,14 +1,13 @@
-ghost use Rattle.std.specs.Prelude.{◌≡◌, ◌⊎◌, Some};
-ghost use Rattle.filser.specs.Refusals.{refusal_text, refusal_code};
+ghost use Rattle.std.specs.Prelude.{◌≡◌, ◌⊎◌};
+ghost use Rattle.filser.specs.Lines.{message_text};
+ghost use Rattle.filser.specs.Refusals.{refusal_text, refusal_code, start_text};
 ghost use Rattle.filser.specs.Statuses.{status_code};
 ghost use Rattle.filser.specs.declared.status.Status.TheVariants.{BadImage, Fault};
 
-use crate::Status;
-use std::fmt;
+use crate::{Message, Status};
 use volume::VolumeError;
 
-/// Why a run ends before a line of its input is served. It is shown as the line that is printed then,
-/// without the line's end; numbers of blocks are decimal.
+/// Why a run ends before a line of its input is served.
 #[derive(Clone, Copy, Debug, PartialEq, Eq)]
 pub enum Refusal {
     /// The file of a new image is there already.
@@ -28,35 +27,32 @@ impl Refusal {
             _ => Status::BadImage,
         }
     }
+
+    /// The line that is printed then, without its end.
+    pub fn message(self) -> Message
+        ensures { message_text result ≡ refusal_text self }
+    {
+        match self {
+            Refusal::Exists => Message::Plain("?Image exists"),
+            Refusal::Start(error) => start_message(error),
+        }
+    }
 }
 
-impl fmt::Display for Refusal {
-    ghost output = { λ refusal. Some (refusal_text refusal) };
-
-    fn fmt<W: fmt::Write>(&self, f: &mut fmt::Formatter<W>) -> fmt::Result {
-        match *self {
-            Refusal::Exists => f.write_str("?Image exists"),
-            Refusal::Start(VolumeError::NotVolume) => f.write_str("?Not a volume"),
-            Refusal::Start(VolumeError::BadHome) => f.write_str("?Bad home blocks"),
-            Refusal::Start(VolumeError::BadLog) => f.write_str("?Bad log"),
-            Refusal::Start(VolumeError::BadDirectory(block)) => write!(
-                f,
-                "?Bad directory block {block}"
-            ),
-            Refusal::Start(VolumeError::BadRetrieval(block)) => write!(
-                f,
-                "?Bad retrieval block {block}"
-            ),
-            Refusal::Start(VolumeError::BlockTwice(block)) => write!(
-                f,
-                "?Block {block} reached twice"
-            ),
-            Refusal::Start(VolumeError::TableWrong(block)) => write!(f, "?Bad table block {block}"),
-            Refusal::Start(VolumeError::BadData(block)) => write!(f, "?Bad data block {block}"),
-            Refusal::Start(VolumeError::NoMemory) => f.write_str("?No memory"),
-            Refusal::Start(VolumeError::Device | VolumeError::Failed) => f.write_str(
-                "?Device fault",
-            ),
-        }
+/// The line that is printed for the refusal of a start.
+fn start_message(error: VolumeError) -> Message
+    ensures { message_text result ≡ start_text error }
+{
+    match error {
+        VolumeError::NotVolume => Message::Plain("?Not a volume"),
+        VolumeError::BadHome => Message::Plain("?Bad home blocks"),
+        VolumeError::BadLog => Message::Plain("?Bad log"),
+        VolumeError::BadDirectory(block) => Message::Numbered("?Bad directory block ", block, ""),
+        VolumeError::BadRetrieval(block) => Message::Numbered("?Bad retrieval block ", block, ""),
+        VolumeError::BlockTwice(block) => Message::Numbered("?Block ", block, " reached twice"),
+        VolumeError::TableWrong(block) => Message::Numbered("?Bad table block ", block, ""),
+        VolumeError::BadData(block) => Message::Numbered("?Bad data block ", block, ""),
+        VolumeError::NoMemory => Message::Plain("?No memory"),
+        VolumeError::Device | VolumeError::Failed => Message::Plain("?Device fault"),
     }
 }

@@ -1,11 +1,11 @@
-ghost use Rattle.std.specs.Prelude.{IfOk, IfSome, pos, ◌≤ℤ◌};
+ghost use Rattle.std.specs.Prelude.{◌↔◌, IfOk, IfSome, IsTrue, IsFalse, Some, pos, ◌≤ℤ◌};
 ghost use Rattle.std.specs.Fd.{file_raw_fd};
+ghost use Rattle.filser.specs.Streams.{AreNeeded, HasNumber, IsMissing, IsStreamAt, IsStreamOf, LeadApart, LeadToOne};
 
-use crate::HostFault;
-use std::fs::{self, File, Metadata};
+use crate::{FileId, Host, HostFault};
+use std::fs::File;
 use std::io;
 use std::os::fd::{AsRawFd, RawFd};
-use std::os::unix::fs::MetadataExt;
 use std::rt::Files;
 
 /// The number of the standard input.
@@ -49,12 +49,16 @@ impl MissingStreams {
     }
 
     /// Whether the input or the output is missing, without which there is no run.
-    pub fn are_needed(&self) -> bool {
+    pub fn are_needed(&self) -> bool
+        ensures { IsTrue result ↔ AreNeeded self.now }
+    {
         self.have(INPUT) || self.have(OUTPUT)
     }
 
     /// Whether the stream of this number is missing.
-    fn have(&self, number: RawFd) -> bool {
+    fn have(&self, number: RawFd) -> bool
+        ensures { IsTrue result ↔ IsMissing self.now number }
+    {
         is_numbered(&self.first, number)
             || is_numbered(&self.second, number)
             || is_numbered(&self.third, number)
@@ -73,15 +77,26 @@ fn holder<F: Files<File = File>>(files: &F) -> io::Result<Option<File>>
 }
 
 /// Whether there is a file, and it has this number.
-fn is_numbered(file: &Option<File>, number: RawFd) -> bool {
+fn is_numbered(file: &Option<File>, number: RawFd) -> bool
+    ensures { IsTrue result ↔ HasNumber file.now number }
+{
     match file {
         Some(file) => file.as_raw_fd() == number,
         None => false,
     }
 }
 
+/// Whether this is the number of a standard stream.
+pub(crate) fn is_stream(number: RawFd) -> bool
+    ensures { IsTrue result ↔ number ≤ℤ pos 2 }
+{
+    number <= ERRORS
+}
+
 /// The stream of this number, as a fault of an image that it leads to.
-pub(crate) fn stream_of(number: RawFd) -> HostFault {
+pub(crate) fn stream_of(number: RawFd) -> HostFault
+    ensures { IsStreamOf number result }
+{
     match number {
         INPUT => HostFault::Input,
         OUTPUT => HostFault::Output,
@@ -89,25 +104,29 @@ pub(crate) fn stream_of(number: RawFd) -> HostFault {
     }
 }
 
-/// Whether two names lead to one file.
-fn are_one(first: &Metadata, second: &Metadata) -> bool {
-    first.dev() == second.dev() && first.ino() == second.ino()
+/// Whether a path leads to this file, which is at another one.
+fn leads_to<H: Host>(host: &H, named: FileId, path: &str, other: &str) -> bool
+    requires { (H.facts host.now).found path.now (Some named) }
+    ensures one { IsTrue result → LeadToOne (H.facts host.now) path.now other.now }
+    ensures apart { IsFalse result → LeadApart (H.facts host.now) path.now other.now }
+{
+    host.identity(other) == Some(named)
 }
 
 /// The standard stream that leads to the file at a path, where one does, as far as the host has names for the streams:
 /// of several the one that forbids the most.
-pub(crate) fn stream_at<F: Files<File = File>>(files: &F, path: &str) -> Option<HostFault> {
-    let named = fs::metadata(files, path).ok()?;
-    for (number, stream) in [
-        (ERRORS, "/dev/fd/2"),
-        (OUTPUT, "/dev/fd/1"),
-        (INPUT, "/dev/fd/0"),
-    ] {
-        if let Ok(found) = fs::metadata(files, stream) {
-            if are_one(&found, &named) {
-                return Some(stream_of(number));
-            }
-        }
+pub(crate) fn stream_at<H: Host>(host: &H, path: &str) -> Option<HostFault>
+    ensures { IsStreamAt (H.facts host.now) path.now result }
+{
+    let named = host.identity(path)?;
+    if leads_to(host, named, path, "/dev/fd/2") {
+        return Some(HostFault::Errors);
+    }
+    if leads_to(host, named, path, "/dev/fd/1") {
+        return Some(HostFault::Output);
+    }
+    if leads_to(host, named, path, "/dev/fd/0") {
+        return Some(HostFault::Input);
     }
     None
 }

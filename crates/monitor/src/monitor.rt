@@ -9,6 +9,7 @@ ghost use Rattle.meaning.specs.Runs.{Service, Serving, IsStart};
 ghost use Rattle.meaning.specs.Stands.{Stands};
 ghost use Rattle.monitor.specs.Runs.{HasStarted};
 ghost use Rattle.monitor.specs.Serving.{pack_of, Serves};
+ghost use Rattle.monitor.specs.Sides.{no_jobs};
 ghost use Rattle.volume.specs.FaultsFound.{NamesInSpace, Refuses};
 ghost use Rattle.volume.specs.Rest.{StandsLike};
 ghost use Rattle.volume.specs.declared.error.VolumeError.TheVariants.{Device};
@@ -58,6 +59,8 @@ impl<D: Disk> Monitor<D> {
             × Stands (D.state disk).size (D.state disk).contents files
             × ((s : State) → IsStart files s → Serves (D.state m.disk) m.map m.failed m.jobs (Serving s))) }
         ensures settled { IfOk result (λ m. (D.state m.disk).honest → NoneOpen (D.state m.disk)) }
+        // On every disk it serves, and nobody is logged in.
+        ensures fresh { IfOk result (λ m. (m.failed ≡ false) × (m.jobs ≡ no_jobs)) }
         ensures crash { IfOk result (λ m. (D.state m.disk).honest → HasStarted (D.state disk) (D.state m.disk)) }
         ensures synced { IfOk result (λ m. (D.state m.disk).honest
             → SyncsFirst D.state disk m.disk ⊥ (StandsLike (D.state disk))) }

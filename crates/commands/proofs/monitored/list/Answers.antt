@@ -1,5 +1,5 @@
 use Rattle.std.proofs.Common.{[], ◌∷◌, Ok, Err, refl}
-use Rattle.commands.proofs.ErrandLaws.{surveyed, none_there}
+use Rattle.commands.proofs.ErrandLaws.{surveyed, none_there, not_asked}
 use Rattle.commands.proofs.monitored.list.Goals as goal
 
 pub returns-in-Some : goal.returns-in-Some
@@ -20,6 +20,6 @@ returns-in-Ok g c = rw (none_there c.args.place c.in_default.not-Some) (record {
 pub returns-in-Err : goal.returns-in-Err
 returns-in-Err g c = rw (none_there c.args.place c.in_default.not-Some) (record {
   owners = Err c.in-Err.reply;
-  asked = c.in-Err.ensures.only;
+  asked = not_asked c.in-Err.reply c.args.monitor.now.failed c.in-Err.ensures.only c.in-Err.ensures.failed.0;
   errand = c.write_refusal.ensures;
 })

@@ -1,7 +1,14 @@
+use Rattle.std.proofs.Common.{sym}
+use Rattle.filser.proofs.Imaging.{copied_all, copy_refused}
 use Rattle.filser.proofs.convert.copy.Goals as goal
 
-pub returns-clause-files : goal.returns-clause-files
-returns-clause-files g c = rw c.end.ensures c.copy_image-copied.ensures.files
+pub returns-clause-copied : goal.returns-clause-copied
+returns-clause-copied g c = rw (c.end.ensures, sym c.new-watched.ensures) (λ h k.
+    let p = c.copy_image-copied.ensures in
+    copied_all c.copy_image-copied.result _ _ _ _ (p.stood h k) (p.settled k) (p.last h k) (p.rests h) (p.kept h))
 
-pub returns-clause-settled : goal.returns-clause-settled
-returns-clause-settled g c = rw c.end.ensures c.copy_image-copied.ensures.settled
+pub returns-clause-refused : goal.returns-clause-refused
+returns-clause-refused g c error is =
+    let p = c.copy_image-copied.ensures in
+    copy_refused c.copy_image-copied.result _ _ p.same_source p.named p.failed_source p.served_source p.refused p.kept
+    p.crash error is

@@ -1,32 +1,33 @@
 use Rattle.std.proofs.Common.{inl, inr, map, refl}
 use Rattle.clap.specs.Words.{fault_of}
 use Rattle.arguments.specs.CommandLine.{command_line}
-use Rattle.filser.proofs.ExitCodes.{prints_only}
+use Rattle.filser.proofs.ExitCodes.{bad_error, prints_only}
 use Rattle.filser.proofs.Unasked.{ends_mistaken, ends_shown}
 use Rattle.filser.proofs.program.answer.Goals as goal
 
--- src/program.rt:47:1
 pub returns-in-Err-clause-mistaken : goal.returns-in-Err-clause-mistaken
-returns-in-Err-clause-mistaken g c =
-    ends_mistaken (fault_of command_line (map (λ w. w.now) c.args.words.now)) c.in-Err.error c.refuse.result
-    c.refuse.ensures.ends c.in-Err.ensures.usage
+returns-in-Err-clause-mistaken g c = rw c.without_disks.ensures
+    (ends_mistaken (fault_of command_line (map (λ w. w.now) c.args.words.now)) c.in-Err.error c.refuse.result
+    c.refuse.ensures.ends c.in-Err.ensures.usage)
 
--- src/program.rt:47:1
 pub returns-in-Err-clause-shown : goal.returns-in-Err-clause-shown
-returns-in-Err-clause-shown g c =
-    ends_shown (fault_of command_line (map (λ w. w.now) c.args.words.now)) c.in-Err.error c.refuse.result
-    c.refuse.ensures.ends c.in-Err.ensures.usage (λ bad. (c.in-Err.ensures.bad bad).0)
+returns-in-Err-clause-shown g c = rw c.without_disks.ensures
+    (ends_shown (fault_of command_line (map (λ w. w.now) c.args.words.now)) c.in-Err.error c.refuse.result
+    c.refuse.ensures.ends c.in-Err.ensures.usage (λ bad. (c.in-Err.ensures.bad bad).0))
 
 pub returns-in-Ok-clause-ran : goal.returns-in-Ok-clause-ran
 returns-in-Ok-clause-ran g c = record { is = inl (c.in-Ok.asked, c.in-Ok.ensures.asked, c.start.ensures.ran) }
 
 pub returns-in-Err-clause-ran : goal.returns-in-Err-clause-ran
-returns-in-Err-clause-ran g c = record {
+returns-in-Err-clause-ran g c = rw c.without_disks.ensures (record {
   is = inr (
     c.in-Err.error,
     refl,
+    refl,
+    refl,
     c.refuse.ensures.ends,
     prints_only (fault_of command_line (map (λ w. w.now) c.args.words.now)) c.in-Err.error _ _ c.in-Err.ensures.usage
-        c.refuse.ensures.unprinted,
+        c.refuse.ensures.unprinted c.refuse.ensures.mistake,
+    λ is r asks. (c.in-Err.ensures.bad (bad_error c.in-Err.error is)).1 r asks,
   );
-}
+})

@@ -1,8 +1,11 @@
-use Rattle.filser.proofs.Concluding.{concluded}
+use Rattle.std.proofs.Common.{refl}
 use Rattle.filser.proofs.program.perform.Goals as goal
 
-pub returns-in-Ok-open_file-clause-ran : goal.returns-in-Ok-open_file-clause-ran
-returns-in-Ok-open_file-clause-ran g c =
-    rw c.in-Work.is (concluded _ c.in-Work.task _ _ _ _ _ _ c.serve_file-served.result
-    c.serve_file-served.ensures.attended
-    c.serve_file-served.ensures.untouched c.conclude.ensures.done c.conclude.ensures.excused)
+pub returns-in-Init-clause-ran : goal.returns-in-Init-clause-ran
+returns-in-Init-clause-ran g c = rw (c.in-Init.is, c.on_new.ensures) (refl, refl, c.init_image.ensures.ran)
+
+pub returns-in-Work-clause-ran : goal.returns-in-Work-clause-ran
+returns-in-Work-clause-ran g c = rw (c.in-Work.is, c.on_image-in-Work.ensures) (c.serve_image.ensures.ran, refl)
+
+pub returns-in-Convert-clause-ran : goal.returns-in-Convert-clause-ran
+returns-in-Convert-clause-ran g c = rw c.in-Convert.is (refl, c.convert_image.ensures.ran)

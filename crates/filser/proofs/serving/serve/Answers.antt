@@ -1,34 +1,7 @@
-use Rattle.std.proofs.Common.{inl, inr, refl, subst}
-use Rattle.monitor.proofs.Along.{no_fault}
-use Rattle.filser.specs.declared.refusal.Refusal.TheVariants.{Start}
+use Rattle.std.proofs.Common.{inl, inr, refl, subst, sym}
 use Rattle.filser.proofs.Attending.{was_honest}
+use Rattle.filser.proofs.Imaging.{refused_by}
 use Rattle.filser.proofs.serving.serve.Goals as goal
-
-pub returns-in-Ok-clause-served : goal.returns-in-Ok-clause-served
-returns-in-Ok-clause-served g c h files stands =
-    let end = subst (λ disk. (g.D.Disk.state disk).honest) c.finish.ensures h in
-    let first = was_honest g.D.Disk.state c.args.task _ _ _ _ c.in-Ok.monitor _ c.attend-attended.result
-    c.attend-attended.ensures end in
-    inl (record {
-      first = c.in-Ok.monitor;
-      last = c.attend-attended.new.monitor;
-      result = c.attend-attended.result;
-      begun = λ s start. c.in-Ok.ensures.started files stands s start first;
-      started = c.in-Ok.ensures.crash first;
-      transcript = c.attend-attended.ensures;
-      ends = c.ending.ensures.ends;
-      ended = c.finish.ensures;
-    })
-
-pub returns-in-Err-clause-served : goal.returns-in-Err-clause-served
-returns-in-Err-clause-served g c h files stands =
-    inr (record {
-      error = c.in-Err.error;
-      why = no_fault (g.D.Disk.state c.args.disk) (g.D.Disk.state c.in-Err.disk) files stands c.in-Err.error
-          (c.in-Err.ensures.refused h) (c.in-Err.ensures.kept h);
-      said = c.say.ensures.said;
-      left = c.in-Err.ensures.crash_refused h;
-    })
 
 pub returns-in-Ok-clause-was_honest : goal.returns-in-Ok-clause-was_honest
 returns-in-Ok-clause-was_honest g c h =
@@ -36,14 +9,42 @@ returns-in-Ok-clause-was_honest g c h =
     (was_honest g.D.Disk.state c.args.task _ _ _ _ c.in-Ok.monitor _ c.attend-attended.result
     c.attend-attended.ensures (subst (λ disk. (g.D.Disk.state disk).honest) c.finish.ensures h))
 
-pub returns-in-Ok-clause-attended : goal.returns-in-Ok-clause-attended
-returns-in-Ok-clause-attended g c = inl (record {
-  first = c.in-Ok.monitor;
-  last = c.attend-attended.new.monitor;
-  result = c.attend-attended.result;
-  attends = c.attend-attended.ensures;
-  ends = c.ending.ensures.ends;
-})
+pub returns-in-Ok-clause-ran : goal.returns-in-Ok-clause-ran
+returns-in-Ok-clause-ran g c =
+    let first = λ (h : _).
+    was_honest g.D.Disk.state c.args.task _ _ _ _ c.in-Ok.monitor _ c.attend-attended.result c.attend-attended.ensures
+    (subst (λ disk. (g.D.Disk.state disk).honest) c.finish.ensures h) in
+    inl (record {
+      first = c.in-Ok.monitor;
+      last = c.attend-attended.new.monitor;
+      result = c.attend-attended.result;
+      serving = c.in-Ok.ensures.fresh.0;
+      nobody = c.in-Ok.ensures.fresh.1;
+      size = c.in-Ok.ensures.same.size;
+      failures = c.in-Ok.ensures.served;
+      was_honest = λ h. c.in-Ok.ensures.same.was_honest (first h);
+      started = λ h.
+          let stood = c.in-Ok.ensures.stood (first h) in
+          record {
+            files = stood.0;
+            stood = stood.1;
+            serves = stood.2;
+            crash = c.in-Ok.ensures.crash (first h);
+            recovered = c.in-Ok.ensures.recovered (first h);
+            settled = c.in-Ok.ensures.settled (first h);
+          };
+      transcript = c.attend-attended.ensures;
+      ends = c.ending.ensures.ends;
+      ended = c.finish.ensures;
+    })
 
-pub returns-in-Err-clause-attended : goal.returns-in-Err-clause-attended
-returns-in-Err-clause-attended g c = inr (refl, inl (Start c.in-Err.error, inl c.say.ensures.said))
+pub returns-in-Err-clause-ran : goal.returns-in-Err-clause-ran
+returns-in-Err-clause-ran g c =
+    let p = c.in-Err.ensures in
+    inr (record {
+      error = c.in-Err.error;
+      refused = refused_by _ _ c.in-Err.error p.same_refused p.named p.failed p.served_refused p.refused p.kept
+          p.crash_refused;
+      said = c.say.ensures.said;
+      unread = refl;
+    })

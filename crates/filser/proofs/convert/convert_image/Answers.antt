@@ -1,0 +1,21 @@
+use Rattle.std.proofs.Common.{◌∙◌, inl, inr, refl, sym}
+use Rattle.imagefile.specs.Supposition.{unseen_in}
+use Rattle.filser.proofs.Imaging.{converted, seen}
+use Rattle.filser.proofs.convert.convert_image.Goals as goal
+
+pub returns-then-is_some-clause-ran : goal.returns-then-is_some-clause-ran
+returns-then-is_some-clause-ran g c =
+    let there = seen (λ file. (g.H.Host.facts c.args.host.now).found c.args.conversion.now.new.now file)
+    c.identity.result (sym c.is_some.ensures ∙ c.if-is_some.true) c.identity.ensures in
+    inr (
+      c.unconverted.ensures.new,
+      (_, inl (c.unconverted.ensures.image, there, refl), c.unconverted.ensures.explained),
+    )
+
+pub returns-in-Ok-clause-ran : goal.returns-in-Ok-clause-ran
+returns-in-Ok-clause-ran g c =
+    let p = c.convert_disk.ensures.ran in
+    converted (g.H.Host.facts c.args.host.now) _ _ _ _ c.args.conversion.now.path.now
+    c.args.conversion.now.new.now c.args.conversion.now.form (unseen_in c.args.supposed.image)
+    (unseen_in c.args.supposed.new) c.in-Ok.disk p.0 c.convert_disk.result.image c.convert_disk.result.new p.1
+    c.in-Ok.ensures.opened c.in-Ok.ensures.began c.in-Ok.ensures.counted p.2 p.3 p.4

@@ -1,0 +1,9 @@
+-- How the disks and files of a run are seen.
+use Rattle.blockdisk.specs.Disk.{DiskState}
+use Rattle.imagefile.specs.File.{FileState}
+
+pub record Views (M F D I : Type 0) : Type 1 where
+  pub memory : M → DiskState
+  pub file : F → FileState
+  pub disk : D → DiskState
+  pub image : I → DiskState
