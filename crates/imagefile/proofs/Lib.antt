@@ -6,3 +6,4 @@ pub mod CallLaws
 pub mod ImageCalls
 pub mod BlockReads
 pub mod BlockWrites
+pub mod Began

@@ -2,13 +2,14 @@
 use Rattle.std.specs.Prelude.{ℕ, Option}
 use Rattle.std.specs.declared.io.Error.{Error}
 use Rattle.imagefile.specs.declared.host.HostFile.{HostFile}
+use Rattle.imagefile.specs.declared.calls.FileCalls as file_calls
 
-module _ {C : Type 0} where
-  abbrev pub calls_of : HostFile C → C
+module _ {C : Type 0} {g : file_calls.Ghosts C} where
+  abbrev pub calls_of : HostFile C g → C
   calls_of file = file.calls
 
-  abbrev pub failures_of : HostFile C → ℕ
+  abbrev pub failures_of : HostFile C g → ℕ
   failures_of file = file.failures
 
-  abbrev pub failure_of : HostFile C → Option Error
+  abbrev pub failure_of : HostFile C g → Option Error
   failure_of file = file.failure

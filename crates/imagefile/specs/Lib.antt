@@ -18,3 +18,4 @@ pub mod Answered
 pub mod RecordedLaws
 pub mod SeekingFile
 pub mod Streams
+pub mod Began

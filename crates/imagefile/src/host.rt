@@ -24,6 +24,8 @@ pub struct HostFile<C: FileCalls = SeekingFile> {
     failures: u64,
     failure: Option<Error>,
     size: Option<u64>,
+    // Why the first one was is known as soon as there is one.
+    ghost told: { failure ≡ None → failures ≡ 0 },
 }
 
 impl HostFile {

@@ -1,17 +1,23 @@
 ghost use Rattle.std.specs.Prelude.{◌≡◌, ◌+◌, ◌*◌, ◌<◌, ◌≤◌, ◌^◌, ◌↔◌, ℕ, Some, None, IfOk, IfErr, OnOk, OnErr};
-ghost use Rattle.std.specs.Prelude.{IsErrOf, IsOk, List, All, length};
+ghost use Rattle.std.specs.Prelude.{IsErrOf, IsOk, IsSome, List, All, length};
 ghost use Rattle.words36.specs.Blocks.{IsBlock, block_bytes};
 ghost use Rattle.words36.specs.Nines.{nine_bytes};
 ghost use Rattle.blockdisk.specs.Disk.{DiskState, MayLeave, Keeps, Writes, Syncs, Fails, SameDisk, one_more};
 ghost use Rattle.blockdisk.specs.declared.fault.Fault.TheVariants.{Device, Damaged};
-ghost use Rattle.imagefile.specs.Image.{block_length, image_state, block_content};
+ghost use Rattle.imagefile.specs.Began.{BeganAs};
+ghost use Rattle.imagefile.specs.Image.{block_length, image_state, block_content, IsImageSize};
 ghost use Rattle.imagefile.specs.Measured.{IsImageOf, IsNoImage};
 ghost use Rattle.imagefile.specs.ImageLaws.{image_counts_now, image_only_now, image_reaches_back};
+ghost use Rattle.imagefile.specs.Supposition.{unseen_in};
+ghost use Rattle.imagefile.specs.Unseen.{size_of};
 ghost use Rattle.imagefile.specs.declared.form.Form.TheVariants.{Wide, Packed};
+ghost use Rattle.imagefile.specs.declared.size.ImageError.TheVariants.{BadSize};
+ghost use Rattle.imagefile.specs.declared.size.ImageError.TheVariants as ImageError;
 
 use crate::codec::{read_block, read_blocks, verify_blocks, write_block, write_blocks};
-use crate::{Durable, Form, ImageError, block_count};
+use crate::{Durable, Form, HostFile, ImageError, Supposition, block_count};
 use blockdisk::{Disk, Fault};
+use std::fs::File;
 use words36::Block;
 
 /// A disk whose blocks lie in a file, one after the other.
@@ -64,10 +70,46 @@ impl<F: Durable> ImageDisk<F> {
     }
 
     /// The file that the disk lies in.
+    pub fn file(&self) -> &F
+        ensures { result.now ≡ file_of self.now }
+    {
+        &self.file
+    }
+
+    /// The file that the disk lies in.
     pub fn finish(self) -> F
         ensures { result ≡ file_of self }
     {
         self.file
+    }
+}
+
+impl ImageDisk<HostFile> {
+    ghost use Rattle.imagefile.specs.ImageDisk.{file_of, form_of};
+    ghost use Rattle.imagefile.specs.HostFile.{failures_of, failure_of};
+
+    /// The disk of an image of this form in an open file of the host, of which nothing was asked yet, with what is
+    /// supposed of it that its calls don't show. Nothing is written.
+    ///
+    /// # Errors
+    ///
+    /// As of `of_form`: the file is handed back, and knows why it failed.
+    pub fn open_file(
+        file: File,
+        supposed: Supposition,
+        form: Form,
+    ) -> Result<Self, (ImageError, HostFile)>
+        ensures form { IfOk result (λ disk. form_of disk ≡ form) }
+        ensures began { IfOk result
+            (λ disk. BeganAs form (unseen_in supposed) (⟦<ImageDisk<HostFile> as Disk>⟧.state disk)) }
+        ensures counted { IfOk result (λ disk. failures_of (file_of disk) ≡ 0) }
+        ensures size { IfErr result (λ refused. refused.0 ≡ BadSize → (⟦<HostFile as Durable>⟧.state refused.1).honest
+            → IsImageSize form (size_of (unseen_in supposed)) → ⊥) }
+        ensures served { IfErr result (λ refused. refused.0 ≡ BadSize → failures_of refused.1 ≡ 0) }
+        ensures failed { IfErr result (λ refused. refused.0 ≡ ImageError.Device
+            → (failures_of refused.1 ≡ 1) × IsSome (failure_of refused.1)) }
+    {
+        ImageDisk::of_form(HostFile::from_file(file, supposed), form)
     }
 }
 

@@ -1,0 +1,37 @@
+-- What a disk is made of whose file began as is supposed.
+use Rattle.std.proofs.Common.{◌≡◌, ℕ, List, [], Result, Ok, Err, IfOk, subst, sym}
+use Rattle.blockdisk.specs.Laws.{keeps_still}
+use Rattle.imagefile.specs.File.{FileState}
+use Rattle.imagefile.specs.Host.{with_failures}
+use Rattle.imagefile.specs.Image.{image_state}
+use Rattle.imagefile.specs.ImageLaws.{image_keeps}
+use Rattle.imagefile.specs.Measured.{IsImageOf}
+use Rattle.imagefile.specs.declared.form.Form.{Form}
+use Rattle.imagefile.specs.Calls.{Call}
+use Rattle.imagefile.specs.Unseen.{Unseen}
+use Rattle.imagefile.specs.Recorded.{recorded}
+use Rattle.imagefile.specs.Began.{BeganAs}
+
+-- the disk of an image that was asked nothing but its length
+pub image_began : (form : Form) (u : Unseen) (blocks : ℕ) (s : FileState)
+    → IsImageOf form blocks (with_failures (recorded u []) 0) s → BeganAs form u (image_state form blocks s)
+image_began form u blocks s image = record {
+  size = image.sized;
+  still = λ h. keeps_still (image_state form blocks (recorded u [])) (image_state form blocks s)
+      (image_keeps form blocks (recorded u []) s (image.keeps h));
+}
+
+-- where one is made of it
+pub opened_began : {D E : Type 0} (result : Result D E) (form_of : D → Form) (blocks_of : D → ℕ)
+    (file_of : D → FileState) (form : Form) (u v : Unseen) (calls : List Call) (failures : ℕ) → v ≡ u → calls ≡ []
+    → failures ≡ 0 → IfOk result (λ disk. form_of disk ≡ form)
+    → IfOk result (λ disk. IsImageOf form (blocks_of disk) (with_failures (recorded v calls) failures) (file_of disk))
+    → IfOk result (λ disk. BeganAs form u (image_state (form_of disk) (blocks_of disk) (file_of disk)))
+opened_began (Ok disk) form_of blocks_of file_of form u v calls failures supposed none no_failure formed image =
+    let long = blocks_of disk in
+    let now = file_of disk in
+    let begun = subst (λ x. IsImageOf form long (with_failures (recorded x []) 0) now) supposed
+    (subst (λ xs. IsImageOf form long (with_failures (recorded v xs) 0) now) none
+    (subst (λ n. IsImageOf form long (with_failures (recorded v calls) n) now) no_failure image)) in
+    subst (λ f. BeganAs form u (image_state f long now)) (sym formed) (image_began form u long now begun)
+opened_began (Err refused) form_of blocks_of file_of form u v calls failures supposed none no_failure formed image = tt
