@@ -19,3 +19,5 @@ pub mod RecordedLaws
 pub mod SeekingFile
 pub mod Streams
 pub mod Began
+pub mod Outcomes
+pub mod Endings

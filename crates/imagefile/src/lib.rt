@@ -14,7 +14,8 @@
 //!    nobody has to know answers to come. (`FileCalls`, `Durable`)
 //! 6. A real file is the record of its calls: each adds itself with its answer, and no other, on every
 //!    file and with no assumption. (`noted`, `asked`) What goes on record is what was asked of the
-//!    standard library, as far as its traits say what a call does (`made`): of a sync they say nothing.
+//!    standard library, as far as its traits say what a call does, and of a sync always. (`made`) Of the code
+//!    one line is trusted: that the impl of `SyncData` for a real file syncs it.
 //! 7. It is honest while that record is one that a file gives which keeps to the model and began as is
 //!    supposed. (`SeekingFile`) No contract says which beginning that is: what is proved of a function that
 //!    is given a file is proved for each. (`Supposition`) A file that answers by the model has an honest
@@ -51,4 +52,4 @@ pub use seeking::{SeekingFile, a_file_by_the_model_is_honest, answers_by_the_mod
 pub use size::{ImageError, block_count};
 pub use streams::apart;
 pub use supposition::Supposition;
-pub use system::{HostCalls, SystemCalls};
+pub use system::{HostCalls, SyncData, SystemCalls};
