@@ -1,6 +1,6 @@
 -- A disk in memory: its blocks, which of them are open, and the record of its writes and syncs, from
 -- which each earlier moment can be told.
-use Rattle.std.specs.Prelude.{◌<◌, ◌≡◌, ◌⊎◌, ◌≤◌, ◌^◌, ℕ, Bool, true, false, List, [], ◌∷◌, ◌++◌, Option, Some, None}
+use Rattle.std.specs.Prelude.{◌<◌, ◌≡◌, ◌⊎◌, ◌≤◌, ◌+◌, ◌^◌, ℕ, Bool, true, false, List, [], ◌∷◌, ◌++◌, Option, Some, None}
 use Rattle.std.specs.Prelude.{get_or, take, length, replicate, slice_set}
 use Rattle.blockdisk.specs.Disk.{Contents, DiskState, one_more}
 use Rattle.blockdisk.specs.declared.memory.DiskCall.{DiskCall}
@@ -88,6 +88,11 @@ written m n words = record m {
   opened = slice_set m.opened n true;
 }
 
+-- these blocks were written from `first` on, one after the other
+abbrev pub run_written : Memory → ℕ → List (List ℕ) → Memory
+run_written m first [] = m
+run_written m first (words ∷ blocks) = run_written (written m first words) (first + 1) blocks
+
 abbrev pub write_refused : Memory → ℕ → Memory
 write_refused m n = record m { opened = slice_set m.opened n true; failures = one_more m.failures }
 
@@ -109,3 +114,11 @@ loaded m n content = record m {
   calls = [];
   opened = replicate (length m.opened) false;
 }
+
+-- The record had room for so many of these blocks, and none for the next: they are written from `first` on, and that one
+-- is open.
+pub record HasNoRoomFor (first : ℕ) (blocks : List (List ℕ)) (old new : Memory) : Type 0 where
+  pub made : ℕ
+  pub fewer : made < length blocks
+  pub full : length old.calls + made ≡ old.room
+  pub refused : new ≡ write_refused (run_written old first (take made blocks)) (first + made)
