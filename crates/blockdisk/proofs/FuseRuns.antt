@@ -1,4 +1,4 @@
--- How the calls of a run behind a fuse add up.
+-- The calls of a run on a disk with a fuse, one after the other.
 use Rattle.std.proofs.Common.{◌≡◌, ◌⊎◌, inl, inr, ⊎_elim, ◌<◌, ◌+◌, ◌∙◌, ℕ, Bool, true, false, Some, None}
 use Rattle.std.proofs.Common.{Option, Result, Ok, Err, IsErrOf, List, refl, ap, subst, arith}
 use Rattle.std.proofs.lemmas.Bool.{false_from_ne_true}
@@ -82,7 +82,7 @@ module _ {D : Type 0} where
       fail = fail ∙ before.fail;
     }
 
-    -- What the next call of a run makes of it: a read or a write, which this says of the disk under the fuse.
+    -- The next call of the run, a read or a write, by what it states about the disk under the fuse.
     module _ (state : D → DiskState) (below : (state mid.inner).failures ≡ (state old.inner).failures) where
       pub read_passed : (n : ℕ) (answer : Result (List ℕ) Fault) → (IsErrOf answer Device → ⊥)
           → (is_blown mid.left ≡ true → IsErrOf answer Device × (new ≡ refused mid))
@@ -104,7 +104,8 @@ module _ {D : Type 0} where
         within,
         ⊎_elim
             (λ is. inl (
-              one_blown is (ap (λ (d : FuseDisk D). d.left) (blown is).1) (ap (λ (d : FuseDisk D). d.fail) (blown is).1),
+              one_blown is (ap (λ (d : FuseDisk D). d.left) (blown is).1)
+                  (ap (λ (d : FuseDisk D). d.fail) (blown is).1),
               ap (λ (d : FuseDisk D). d.failures) (blown is).1 ∙ ap one_more before.failures,
             ))
             (λ is. inr (record {
@@ -125,7 +126,7 @@ module _ {D : Type 0} where
           ≡ false = false_from_ne_true (is_blown mid.left) (λ is. no_fault done Device (blown is).0) in
           (one_passed whole (unblown whole).1, (unblown whole).0.served ∙ below)
 
-      -- a write that was made all the same is counted by the fuse, or by the disk under it
+      -- a write that blew the fuse was made all the same; the fuse or the disk under it counts the failure
       counted : (n : ℕ) (words : List ℕ) (answer : Result (Unit {0}) Fault)
           → IsWrite n words (state mid.inner) (state new.inner) answer → new.failures ≡ own_failures answer mid.failures
           → IsCountedOnce state old new

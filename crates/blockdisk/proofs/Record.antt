@@ -131,7 +131,7 @@ replayed_synced m is room =
 
 -- Runs
 
--- The blocks of a run that are written so far, and one more.
+-- A run, and one more block of it
 pub run_more : (m : Memory) (first : ℕ) (blocks : List (List ℕ)) (count : ℕ) → count < length blocks
     → run_written m first (take (count + 1) blocks)
     ≡ written (run_written m first (take count blocks)) (first + count) (get_or blocks count [])
@@ -152,7 +152,7 @@ run_more m first blocks count less = ap (run_written m first) (take_more blocks 
     long : length (take count blocks) ≡ count
     long = omega (arith, length-take count blocks, less)
 
--- one write of a run, as the disk's promise has it
+-- one write of a run, as the trait states it
 pub write_call : (m m' : Memory) (n : ℕ) (words : List ℕ) (answer : Result (Unit {0}) Fault) → n < length m.blocks
     → OnOk answer (m' ≡ written m n words) → OnErr answer (m' ≡ write_refused m n)
     → IfErr answer (λ fault. fault ≡ Device) → Writes n (memory_state m) (memory_state m')
@@ -183,7 +183,7 @@ write_call m m' n words (Err fault) inside made refused device writes = record {
     other Device is damaged = cc
     other Damaged is damaged = cc
 
--- how many blocks and calls there are after it, where it was made
+-- the number of blocks and calls after a write that succeeded
 pub write_sizes : (m m' : Memory) (n : ℕ) (words : List ℕ) → m' ≡ written m n words
     → (length m'.blocks ≡ length m.blocks) × (length m'.calls ≡ length m.calls + 1) × (m'.room ≡ m.room)
 write_sizes m m' n words made = (

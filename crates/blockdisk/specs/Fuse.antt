@@ -21,17 +21,17 @@ abbrev pub burnt : Fail → Option ℕ → Option ℕ
 burnt fail None = None
 burnt fail (Some passing) = if passing == 0 then left_behind fail else Some (passing - 1)
 
--- So many calls pass.
+-- At least `count` calls pass.
 abbrev pub Lets : Option ℕ → ℕ → Type 0
 Lets None count = Unit {0}
 Lets (Some passing) count = count ≤ passing
 
--- what is left after so many calls that passed
+-- what is left after `count` calls that passed
 abbrev pub left_after : Option ℕ → ℕ → Option ℕ
 left_after None count = None
 left_after (Some passing) count = Some (passing - count)
 
--- how many of so many blocks from `first` on are read: all, or those up to the damaged one
+-- how many of `count` blocks from `first` on are read: all, or those up to the damaged one
 abbrev pub blocks_read : ℕ → ℕ → Option ℕ → ℕ
 blocks_read first count None = count
 blocks_read first count (Some bad) = bad - first + 1

@@ -24,14 +24,14 @@ module _ {D : Type 0} where
   IsMadeAnyway IsCall disk new = (answer : Result (Unit {0}) Fault) × IsCall answer
       × (new ≡ record (passed disk new.inner) { failures = own_failures answer disk.failures })
 
-  -- So many calls were made, and all passed.
+  -- `count` calls were made, and all passed.
   pub record HavePassed (count : ℕ) (old new : FuseDisk D) : Type 0 where
     pub lets : Lets old.left count
     pub left : new.left ≡ left_after old.left count
     pub fail : new.fail ≡ old.fail
     pub failures : new.failures ≡ old.failures
 
-  -- So many calls were made and passed, and then one more, which failed.
+  -- `count` calls were made and passed, and the next one blew the fuse.
   pub record HasBlown (count : ℕ) (old new : FuseDisk D) : Type 0 where
     pub at : old.left ≡ Some count
     pub left : new.left ≡ left_behind old.fail
@@ -41,23 +41,23 @@ module _ {D : Type 0} where
     abbrev pub fuse_state : FuseDisk D → DiskState
     fuse_state disk = fused (state disk.inner) disk.failures
 
-    -- the call that is the last of so many passed, and the disk under the fuse failed it
+    -- `count` calls were made and passed, and the disk under the fuse failed the last of them
     pub record HasFailedBelow (count : ℕ) (old new : FuseDisk D) : Type 0 where
       pub passed : HavePassed count old new
       pub below : (state new.inner).failures ≡ one_more (state old.inner).failures
 
-    -- A read of so many blocks failed at one of them, before the disk under the fuse was reached or by it.
+    -- A read of `count` blocks failed at one of them: it blew the fuse, or the disk under the fuse failed it.
     abbrev pub HasFailedRead : ℕ → FuseDisk D → FuseDisk D → Type 0
     HasFailedRead count old new = (k : ℕ) × (k < count)
         × ((HasBlown k old new × (new.failures ≡ one_more old.failures)) ⊎ HasFailedBelow (k + 1) old new)
 
-    -- A failure is counted once.
+    -- One failure was counted, by the fuse or by the disk under it.
     abbrev pub IsCountedOnce : FuseDisk D → FuseDisk D → Type 0
     IsCountedOnce old new = ((new.failures ≡ one_more old.failures)
         × ((state new.inner).failures ≡ (state old.inner).failures))
         ⊎ ((new.failures ≡ old.failures) × ((state new.inner).failures ≡ one_more (state old.inner).failures))
 
-    -- A write of so many blocks from `first` on failed at one of them, and none behind it was written.
+    -- A write of `count` blocks from `first` on failed at one of them, and no block after that was written.
     pub record HasFailedWrite (first count : ℕ) (old new : FuseDisk D) : Type 0 where
       pub k : ℕ
       pub within : k < count

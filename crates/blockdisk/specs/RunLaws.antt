@@ -221,7 +221,8 @@ module _ (first count : ℕ) (blocks : List (List ℕ)) (s s' : DiskState)
       put = λ h i less. ⊎_elim (λ low. earlier h i low) (λ past. of_group h i less past) (cases_lt i count);
       moves = λ h some. ⊎_elim
           (λ here. omega (arith, before.moves (honest h) here, (behind.writes h).time.later))
-          (λ none. omega (arith, (before.writes (honest h)).time.later, behind.moves h (omega (arith, some, none, long))))
+          (λ none. omega
+          (arith, (before.writes (honest h)).time.later, behind.moves h (omega (arith, some, none, long))))
           (cases_lt 0 count);
       writes = λ h. both (before.writes (honest h)) (behind.writes h);
       same = same_disk_on s s' s'' before.same behind.same;
@@ -294,14 +295,15 @@ write_of_one first blocks s s' answer one write = record {
     moves (Ok done) later = λ some. later
     moves (Err fault) later = tt
 
--- A run that is written block by block
+-- A run that is written one block at a time
 module _ (first count : ℕ) (blocks : List (List ℕ)) (s s' : DiskState) (before : IsPartWrite first count blocks s s')
     (s'' : DiskState) (words : List ℕ) where
   -- one block more
   pub part_write_next : (done : Unit {0}) → words ≡ get_or blocks count []
       → IsWrite (first + count) words s' s'' (Ok done) → IsPartWrite first (count + 1) blocks s s''
   part_write_next done is write = part_write_on first count blocks s s' before 1 (words ∷ []) s'' refl
-      (λ i less. only i (omega (arith, less))) done (write_of_one (first + count) (words ∷ []) s' s'' (Ok done) refl write)
+      (λ i less. only i (omega (arith, less))) done
+      (write_of_one (first + count) (words ∷ []) s' s'' (Ok done) refl write)
     where
       only : (i : ℕ) → i ≡ 0 → get_or (words ∷ []) i [] ≡ get_or blocks (count + i) []
       only i none =

@@ -18,8 +18,8 @@ pub enum Fail {
 }
 
 /// A disk that fails on purpose. So many calls pass, and then one call or every call answers `Device`:
-/// a read, a write and a sync count as one each, and a run as one for each of its blocks up to the first that is damaged
-/// or fails.
+/// a read, a write and a sync count as one each, and a run counts one for each block up to the first that is damaged or
+/// fails.
 ///
 /// A write that fails is made all the same; a read or a sync that fails never reaches the disk under it.
 #[derive(Drop)]

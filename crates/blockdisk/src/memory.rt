@@ -275,7 +275,7 @@ impl Disk for MemDisk {
         for n in first..end {
             match self.read(n) {
                 Ok(_) => (),
-                Err(_) => return Ok(Some(n)), // it is damaged: no read fails here
+                Err(_) => return Ok(Some(n)), // damaged: a read never fails
             }
         }
         Ok(None)

@@ -3,7 +3,9 @@ ghost use Rattle.imagefile.specs.Host.{unknown_file};
 
 use crate::image_tests::{disk_over, expect_v1, v1_file};
 use blockdisk::Fault;
-use imagefile::{Durable, FileCalls, HostCalls, HostFile, SeekingFile, Supposition, SyncData, SystemCalls};
+use imagefile::{
+    Durable, FileCalls, HostCalls, HostFile, SeekingFile, Supposition, SyncData, SystemCalls,
+};
 use std::io::{self, Read, Seek, SeekFrom, Write};
 use std::process::Abort;
 use std::test::Fail;

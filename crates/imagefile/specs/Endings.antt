@@ -1,4 +1,4 @@
--- How the newest call on record ended.
+-- The outcome of the newest recorded call.
 use Rattle.std.specs.Prelude.{◌≡◌, Bool, true, false, List, [], ◌∷◌, Some, None}
 use Rattle.imagefile.specs.Calls.{Call, SeekStart, SeekEnd, Read, Write, Sync}
 use Rattle.imagefile.specs.Outcomes.{Outcome, Failed, Stalled, Moved, Measured, Synced}
@@ -22,7 +22,7 @@ is_failure Moved = false
 is_failure (Measured size) = false
 is_failure Synced = false
 
--- What ended so is the newest call on record: it failed, or it didn't.
+-- The newest recorded call failed exactly if this outcome is a failure.
 abbrev pub EndsSo : Outcome → List Call → Type 0
 EndsSo outcome [] = ⊥
 EndsSo outcome (call ∷ earlier) = has_failed call ≡ is_failure outcome

@@ -13,8 +13,8 @@ use std::io;
 pub trait FileCalls {
     ghost state: { Self → FileState };
 
-    /// The first value became the second by one call, which ended so. Who knows no more of a type than this trait can
-    /// show it only if he makes that call.
+    /// One call with this outcome turned the first value into the second. Code that is generic over this trait can
+    /// only prove it by making that call.
     ghost ended: { Self → Self → Outcome → Type 0 };
 
     /// The number of bytes.

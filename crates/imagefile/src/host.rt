@@ -27,7 +27,7 @@ pub struct HostFile<C: FileCalls = SeekingFile> {
     failures: u64,
     failure: Option<Error>,
     size: Option<u64>,
-    // Why the first one was is known as soon as there is one.
+    // If a call has failed, the reason of the first failure is known.
     ghost told: { failure ≡ None → failures ≡ 0 },
 }
 

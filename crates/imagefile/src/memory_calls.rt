@@ -1,7 +1,8 @@
 ghost use Rattle.std.specs.Prelude.{◌≡◌, ◌≤◌, ◌+◌, Ok, IfOk, OnOk, OnErr, length, take};
 ghost use Rattle.std.proofs.Common.{inr};
 ghost use Rattle.imagefile.specs.File.{FileWrites, FileSyncs, window};
-ghost use Rattle.imagefile.specs.Memory.{memory_state, bytes_written, write_refused, bytes_synced, sync_refused, HasRoom};
+ghost use Rattle.imagefile.specs.Memory.{memory_state, bytes_written, write_refused, bytes_synced, sync_refused};
+ghost use Rattle.imagefile.specs.Memory.{HasRoom};
 ghost use Rattle.imagefile.specs.MemoryLaws.{only_now, reaches_back};
 
 use crate::{Durable, FileCalls, MemFile};

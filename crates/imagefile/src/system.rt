@@ -58,12 +58,12 @@ pub trait SystemCalls {
         ensures noted { history self.new ≡ Sync (is_ok result) ∷ history self.old };
 }
 
-/// What the calls on a file need beyond `Read`, `Write` and `Seek`.
+/// The one call that the host file needs beyond `Read`, `Write` and `Seek`.
 ///
-/// `OpenFile`, which the standard library has for this, would give them the power to cut a file short, too.
+/// The standard library's `OpenFile` has it too, but also calls that cut a file short or change its permissions.
 pub trait SyncData {
-    /// The first value became the second by a sync, with this answer, and by nothing else. Who knows no more of a type
-    /// than this trait can show it of two values only if he calls `sync_data`.
+    /// A sync with this answer, and nothing else, turned the first value into the second. Code that is generic over
+    /// this trait can only prove it by calling `sync_data`.
     ghost was_synced: { Self → Self → Bool → Type 0 };
 
     /// Waits until all that was written is on the device.
@@ -75,9 +75,9 @@ pub trait SyncData {
         ensures { was_synced self.old self.new (is_ok result) };
 }
 
-/// The trusted line of the host file. The standard library promises nothing of `File::sync_data` that a proof could
-/// see, so that nothing proves that this impl calls it. All else that the host file does rests on what the library's
-/// `Read`, `Write` and `Seek` promise of any type.
+/// The trusted line of the host file: the standard library promises nothing about `File::sync_data` that a proof could
+/// use, so nothing proves that this impl calls it. What else the host file does rests on what the library's `Read`,
+/// `Write` and `Seek` promise for any type.
 impl SyncData for File {
     ghost was_synced = { λ before after done. Unit {0} };
 
@@ -89,10 +89,11 @@ impl SyncData for File {
 
 /// An open file of the host, with the record of its calls.
 ///
-/// Each method makes one call of the standard library's and puts it on record. That it is the call on
-/// record is proved as far as the library's traits have words for it: where a seek goes, which bytes
-/// came and which were taken; and of a sync it is proved by `SyncData`. When a call fails, those traits
-/// don't say.
+/// Each method makes one call of the standard library and records it. The contracts prove that the recorded call is the
+/// one that was made, as far as the library's traits can say: where a seek goes, which bytes a read returned, which
+/// bytes a write took. For a sync `SyncData` says it. The library's traits do not say when a call fails, so that a
+/// recorded failure came from the library has to be read from the bodies below. No body can make another call on the
+/// file: `self.file.set_len(0)` does not compile, because `F` has no such method.
 #[derive(Drop)]
 pub struct HostCalls<F: Read + Write + Seek + SyncData = File> {
     file: F,
