@@ -19,20 +19,20 @@ pub data Outcome : Type 0 where
   Synced : Outcome
 
 -- the outcome of a read or a write of n bytes
-abbrev pub moved : ℕ → Result ℕ Error → Outcome
-moved asked (Err error) = Failed error
-moved zero (Ok count) = Moved
-moved (suc asked) (Ok zero) = Stalled
-moved (suc asked) (Ok (suc count)) = Moved
+abbrev pub move_outcome : ℕ → Result ℕ Error → Outcome
+move_outcome asked (Err error) = Failed error
+move_outcome zero (Ok count) = Moved
+move_outcome (suc asked) (Ok zero) = Stalled
+move_outcome (suc asked) (Ok (suc count)) = Moved
 
 -- the outcome of a question for the length
-abbrev pub measured : Result ℕ Error → Outcome
-measured (Err error) = Failed error
-measured (Ok size) = Measured size
+abbrev pub size_outcome : Result ℕ Error → Outcome
+size_outcome (Err error) = Failed error
+size_outcome (Ok size) = Measured size
 
-abbrev pub synced : Result (Unit {0}) Error → Outcome
-synced (Err error) = Failed error
-synced (Ok done) = Synced
+abbrev pub sync_outcome : Result (Unit {0}) Error → Outcome
+sync_outcome (Err error) = Failed error
+sync_outcome (Ok done) = Synced
 
 -- This outcome is a reason to answer Device, and `told` is the error that explains it: the call's own error if it
 -- failed, one of this kind if it moved nothing, UnexpectedEof if the file has another length than expected.
