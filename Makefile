@@ -37,6 +37,7 @@ examples:
 	python3 examples/forms crates/filser/out/filser
 	python3 examples/memory crates/filser/out/filser
 	python3 examples/program crates/filser/out/filser
+	python3 examples/syncs crates/filser/out/filser
 	tools/check-docs crates/filser/out/filser
 
 # The first time every crate below the program is proved too; what was proved is kept below crates/*/out.

@@ -1,2 +1,3 @@
 mod CopyLaws
 mod Record
+pub mod FuseRuns

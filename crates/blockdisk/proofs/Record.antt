@@ -1,15 +1,18 @@
 -- How the record of a disk in memory goes on: one more call leaves the moments before it as they were.
 use Rattle.std.proofs.Common.{◌≡◌, ◌⊎◌, inl, inr, ⊎_elim, ℕ, ◌+◌, ◌<◌, ◌≤◌, Bool, true, false, List, [], ◌∷◌, ◌++◌}
 use Rattle.std.proofs.Common.{length, get_or, slice_set, replicate, Option, Some, None, refl, sym, ◌∙◌, ap, subst}
-use Rattle.std.proofs.Common.{arith, length-append}
+use Rattle.std.proofs.Common.{arith, take, length-append, length-take, Result, Ok, Err, OnOk, OnErr, IfErr, IsErrOf}
 use Rattle.std.proofs.lemmas.Bool.{cases_lt}
 use Rattle.std.proofs.lemmas.List.{take_all, take-append-le, get_or-set_same, get_or-set_other, get_or-replicate}
-use Rattle.std.proofs.lemmas.List.{get_or_past, length-replicate}
+use Rattle.std.proofs.lemmas.List.{get_or_past, length-replicate, take_more}
 use Rattle.std.proofs.Math.ListN.{length-set}
 use Rattle.blockdisk.specs.Disk.{Contents, MayLeave, Passes, Writes, Syncs}
 use Rattle.blockdisk.specs.Memory.{Memory, DiskMoment, after_call, after_calls}
 use Rattle.blockdisk.specs.Memory.{moment_at, Leaves, moment_now, memory_state}
-use Rattle.blockdisk.specs.Memory.{IsReplayed, written, synced}
+use Rattle.blockdisk.specs.Memory.{IsReplayed, held, written, run_written, write_refused, synced}
+use Rattle.blockdisk.specs.Calls.{IsWrite}
+use Rattle.blockdisk.specs.declared.fault.Fault.{Fault}
+use Rattle.blockdisk.specs.declared.fault.Fault.TheVariants.{Device, Damaged}
 use Rattle.blockdisk.specs.declared.memory.DiskCall.{DiskCall}
 use Rattle.blockdisk.specs.declared.memory.DiskCall.TheVariants.{Write, Sync}
 
@@ -125,3 +128,66 @@ replayed_synced m is room =
       fits = omega (arith, one_longer m.calls Sync);
       few = is.few;
     }
+
+-- Runs
+
+-- A run, and one more block of it
+pub run_more : (m : Memory) (first : ℕ) (blocks : List (List ℕ)) (count : ℕ) → count < length blocks
+    → run_written m first (take (count + 1) blocks)
+    ≡ written (run_written m first (take count blocks)) (first + count) (get_or blocks count [])
+run_more m first blocks count less = ap (run_written m first) (take_more blocks count [] less)
+    ∙ run_append m first (take count blocks) (get_or blocks count [])
+    ∙ ap (λ n. written (run_written m first (take count blocks)) (first + n) (get_or blocks count [])) long
+  where
+    run_append : (m : Memory) (first : ℕ) (xs : List (List ℕ)) (words : List ℕ)
+        → run_written m first (xs ++ words ∷ []) ≡ written (run_written m first xs) (first + length xs) words
+    run_append m first [] words =
+        let here : first ≡ first + 0 = omega arith in
+        ap (λ n. written m n words) here
+    run_append m first (x ∷ xs) words =
+        let there : first + 1 + length xs ≡ first + length (x ∷ xs) = omega arith in
+        run_append (written m first x) (first + 1) xs words
+        ∙ ap (λ n. written (run_written (written m first x) (first + 1) xs) n words) there
+
+    long : length (take count blocks) ≡ count
+    long = omega (arith, length-take count blocks, less)
+
+-- one write of a run, as the trait states it
+pub write_call : (m m' : Memory) (n : ℕ) (words : List ℕ) (answer : Result (Unit {0}) Fault) → n < length m.blocks
+    → OnOk answer (m' ≡ written m n words) → OnErr answer (m' ≡ write_refused m n)
+    → IfErr answer (λ fault. fault ≡ Device) → Writes n (memory_state m) (memory_state m')
+    → IsWrite n words (memory_state m) (memory_state m') answer
+write_call m m' n words (Ok done) inside made refused device writes = record {
+  put = λ h. ap (λ (w : Memory). held w.blocks n) made ∙ get_or-set_same m.blocks n (Some words) None inside;
+  moves = λ h. omega (arith, ap (λ (w : Memory). length w.calls) made, one_longer m.calls (Write n words));
+  writes = λ h. writes;
+  same = record {
+    size = ap (λ (w : Memory). length w.blocks) made ∙ length-set m.blocks n (Some words);
+    was_honest = λ h. h;
+  };
+  device = λ is. cc;
+  failed = λ is. cc;
+  served = ap (λ (w : Memory). w.failures) made;
+}
+write_call m m' n words (Err fault) inside made refused device writes = record {
+  put = λ h. tt;
+  moves = λ h. tt;
+  writes = λ h. writes;
+  same = record { size = ap (λ (w : Memory). length w.blocks) refused; was_honest = λ h. h };
+  device = λ is. other fault device is;
+  failed = λ is. ap (λ (w : Memory). w.failures) refused;
+  served = tt;
+}
+  where
+    other : (fault : Fault) → fault ≡ Device → IsErrOf {T = Unit {0}} (Err fault) Damaged → ⊥
+    other Device is damaged = cc
+    other Damaged is damaged = cc
+
+-- the number of blocks and calls after a write that succeeded
+pub write_sizes : (m m' : Memory) (n : ℕ) (words : List ℕ) → m' ≡ written m n words
+    → (length m'.blocks ≡ length m.blocks) × (length m'.calls ≡ length m.calls + 1) × (m'.room ≡ m.room)
+write_sizes m m' n words made = (
+  ap (λ (w : Memory). length w.blocks) made ∙ length-set m.blocks n (Some words),
+  ap (λ (w : Memory). length w.calls) made ∙ one_longer m.calls (Write n words),
+  ap (λ (w : Memory). w.room) made,
+)

@@ -51,6 +51,7 @@ pub record IsWrite (n : ℕ) (words : List ℕ) (s s' : DiskState) (answer : Res
 pub record IsRunWrite (first : ℕ) (blocks : List (List ℕ)) (s s' : DiskState) (answer : Result (Unit {0}) Fault)
     : Type 0 where
   pub put : s'.honest → OnOk answer (HoldRun s'.contents first blocks)
+  pub moves : s'.honest → OnOk answer (0 < length blocks → s.clock < s'.clock)
   pub writes : s'.honest → Modifies (IsInRun first (length blocks)) s s'
   pub same : SameDisk s s'
   pub device : IsErrOf answer Damaged → ⊥

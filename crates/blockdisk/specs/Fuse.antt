@@ -1,5 +1,5 @@
 -- A disk behind a fuse: what it is, by the disk under it and its own failures.
-use Rattle.std.specs.Prelude.{◌+◌, ◌-◌, ◌==◌, ◌^◌, ℕ, Bool, false, Option, Some, None, if◌then◌else◌, min}
+use Rattle.std.specs.Prelude.{◌≤◌, ◌+◌, ◌-◌, ◌==◌, ◌^◌, ℕ, Bool, false, Option, Some, None, if◌then◌else◌, min}
 use Rattle.blockdisk.specs.Disk.{DiskState}
 use Rattle.blockdisk.specs.declared.fuse.Fail.{Fail}
 use Rattle.blockdisk.specs.declared.fuse.Fail.TheVariants.{One, All}
@@ -20,6 +20,21 @@ left_behind All = Some 0
 abbrev pub burnt : Fail → Option ℕ → Option ℕ
 burnt fail None = None
 burnt fail (Some passing) = if passing == 0 then left_behind fail else Some (passing - 1)
+
+-- At least `count` calls pass.
+abbrev pub Lets : Option ℕ → ℕ → Type 0
+Lets None count = Unit {0}
+Lets (Some passing) count = count ≤ passing
+
+-- what is left after `count` calls that passed
+abbrev pub left_after : Option ℕ → ℕ → Option ℕ
+left_after None count = None
+left_after (Some passing) count = Some (passing - count)
+
+-- how many of `count` blocks from `first` on are read: all, or those up to the damaged one
+abbrev pub blocks_read : ℕ → ℕ → Option ℕ → ℕ
+blocks_read first count None = count
+blocks_read first count (Some bad) = bad - first + 1
 
 -- the disk under a fuse, of whose own so many calls failed
 abbrev pub fused : DiskState → ℕ → DiskState

@@ -1,7 +1,7 @@
 -- A disk in memory: its blocks, which of them are open, and the record of its writes and syncs, from
 -- which each earlier moment can be told.
-use Rattle.std.specs.Prelude.{◌<◌, ◌≡◌, ◌⊎◌, ◌≤◌, ◌^◌, ℕ, Bool, true, false, List, [], ◌∷◌, ◌++◌, Option, Some, None}
-use Rattle.std.specs.Prelude.{get_or, take, length, replicate, slice_set}
+use Rattle.std.specs.Prelude.{◌<◌, ◌≡◌, ◌⊎◌, ◌≤◌, ◌+◌, ◌^◌, ℕ, Bool, true, false, List, [], ◌∷◌, ◌++◌, Option, Some}
+use Rattle.std.specs.Prelude.{None, get_or, take, length, replicate, slice_set}
 use Rattle.blockdisk.specs.Disk.{Contents, DiskState, one_more}
 use Rattle.blockdisk.specs.declared.memory.DiskCall.{DiskCall}
 use Rattle.blockdisk.specs.declared.memory.DiskCall.TheVariants.{Write, Sync}
@@ -88,6 +88,11 @@ written m n words = record m {
   opened = slice_set m.opened n true;
 }
 
+-- the blocks of a run written one after the other, from block `first`
+abbrev pub run_written : Memory → ℕ → List (List ℕ) → Memory
+run_written m first [] = m
+run_written m first (words ∷ blocks) = run_written (written m first words) (first + 1) blocks
+
 abbrev pub write_refused : Memory → ℕ → Memory
 write_refused m n = record m { opened = slice_set m.opened n true; failures = one_more m.failures }
 
@@ -109,3 +114,11 @@ loaded m n content = record m {
   calls = [];
   opened = replicate (length m.opened) false;
 }
+
+-- The record has room for the first `made` blocks of the run and not for the next one. Those are written, and the next
+-- one is open.
+pub record HasNoRoomFor (first : ℕ) (blocks : List (List ℕ)) (old new : Memory) : Type 0 where
+  pub made : ℕ
+  pub fewer : made < length blocks
+  pub full : length old.calls + made ≡ old.room
+  pub refused : new ≡ write_refused (run_written old first (take made blocks)) (first + made)

@@ -1,6 +1,6 @@
 -- How a read or a write of neighbouring blocks is made of those of fewer.
 use Rattle.std.specs.Prelude.{◌≡◌, ◌⊎◌, ◌+◌, ◌-◌, ◌<◌, ◌≤◌, ℕ, List, Option, Some, None, Result, Ok, Err, OnOk, IsOk}
-use Rattle.std.specs.Prelude.{IsErrOf, false, [], length, get_or, take, drop}
+use Rattle.std.specs.Prelude.{IsErrOf, false, [], ◌∷◌, length, get_or, take, drop}
 use Rattle.std.proofs.Common.{inl, inr, ⊎_elim, refl, ap, ◌∙◌, sym, arith, subst}
 use Rattle.std.proofs.lemmas.Bool.{cases_lt}
 use Rattle.std.proofs.lemmas.List.{get_or-take, get_or-drop, length-take, length-drop}
@@ -8,7 +8,7 @@ use Rattle.blockdisk.specs.Calls.{IsRunRead, IsWrite, IsRunWrite}
 use Rattle.blockdisk.specs.Disk.{Contents, DiskState, MayLeave, Passes, Keeps, SameDisk, HoldRun, IsInRun}
 use Rattle.blockdisk.specs.Disk.{SameOutside, Near, Modifies, one_more}
 use Rattle.blockdisk.specs.Laws.{same_contents, keeps_on, passes_weaker, same_disk_start, same_disk_on}
-use Rattle.blockdisk.specs.Laws.{modifies_start, modifies_on, modifies_wider, writes_modifies}
+use Rattle.blockdisk.specs.Laws.{modifies_start, modifies_on, modifies_wider, modifies_write, writes_modifies}
 use Rattle.blockdisk.specs.declared.fault.Fault.{Fault}
 use Rattle.blockdisk.specs.declared.fault.Fault.TheVariants.{Device, Damaged}
 
@@ -175,6 +175,7 @@ module _ (first count : ℕ) (s s' : DiskState) (others : SameOutside (IsInRun f
 -- So many of these blocks were written, from `first` on.
 pub record IsPartWrite (first count : ℕ) (blocks : List (List ℕ)) (s s' : DiskState) : Type 0 where
   pub put : s'.honest → (i : ℕ) → i < count → s'.contents (first + i) ≡ Some (get_or blocks i [])
+  pub moves : s'.honest → 0 < count → s.clock < s'.clock
   pub writes : s'.honest → Modifies (IsInRun first count) s s'
   pub same : SameDisk s s'
   pub served : s'.failures ≡ s.failures
@@ -183,6 +184,7 @@ pub record IsPartWrite (first count : ℕ) (blocks : List (List ℕ)) (s s' : Di
 pub no_part_write : (first : ℕ) (blocks : List (List ℕ)) (s : DiskState) → IsPartWrite first 0 blocks s s
 no_part_write first blocks s = record {
   put = λ h i none. absurd (omega (arith, none));
+  moves = λ h none. absurd (omega (arith, none));
   writes = λ h. modifies_start (IsInRun first 0) s;
   same = same_disk_start s;
   served = refl;
@@ -194,6 +196,7 @@ module _ (first count : ℕ) (blocks : List (List ℕ)) (s s' : DiskState)
   pub part_written : (done : Unit {0}) → length blocks ≡ count → IsRunWrite first blocks s s' (Ok done)
   part_written done all = record {
     put = λ h i less. before.put h i (omega (arith, less, all));
+    moves = λ h some. before.moves h (omega (arith, some, all));
     writes = λ h. subst (λ k. Modifies (IsInRun first k) s s') (sym all) (before.writes h);
     same = before.same;
     device = λ is. absurd (no_fault done Damaged is);
@@ -216,6 +219,11 @@ module _ (first count : ℕ) (blocks : List (List ℕ)) (s s' : DiskState)
         → IsPartWrite first (count + more) blocks s s''
     part_write_on done behind = record {
       put = λ h i less. ⊎_elim (λ low. earlier h i low) (λ past. of_group h i less past) (cases_lt i count);
+      moves = λ h some. ⊎_elim
+          (λ here. omega (arith, before.moves (honest h) here, (behind.writes h).time.later))
+          (λ none. omega
+          (arith, (before.writes (honest h)).time.later, behind.moves h (omega (arith, some, none, long))))
+          (cases_lt 0 count);
       writes = λ h. both (before.writes (honest h)) (behind.writes h);
       same = same_disk_on s s' s'' before.same behind.same;
       served = behind.served ∙ before.served;
@@ -242,6 +250,7 @@ module _ (first count : ℕ) (blocks : List (List ℕ)) (s s' : DiskState)
         → IsRunWrite (first + count) group s' s'' (Err fault) → IsRunWrite first blocks s s'' (Err fault)
     part_write_failed fault room behind = record {
       put = λ h. tt;
+      moves = λ h. tt;
       writes = λ h. modifies_wider (IsInRun first (count + more)) (IsInRun first (length blocks)) s s''
           (λ n within. (within.0, omega (arith, within.1, room)))
           (both (before.writes (behind.same.was_honest h)) (behind.writes h));
@@ -264,6 +273,7 @@ pub write_of_one : (first : ℕ) (blocks : List (List ℕ)) (s s' : DiskState) (
     → length blocks ≡ 1 → IsWrite first (get_or blocks 0 []) s s' answer → IsRunWrite first blocks s s' answer
 write_of_one first blocks s s' answer one write = record {
   put = λ h. put answer (write.put h);
+  moves = λ h. moves answer (write.moves h);
   writes = λ h. writes_modifies (IsInRun first (length blocks)) first s s' (omega arith, omega (arith, one))
       (write.writes h);
   same = write.same;
@@ -279,3 +289,40 @@ write_of_one first blocks s s' answer one write = record {
         let at : first + i ≡ first = omega (arith, none) in
         ap s'.contents at ∙ is ∙ ap (λ k. Some (get_or blocks k [])) (sym none)
     put (Err fault) is = tt
+
+    moves : (answer : Result (Unit {0}) Fault) → OnOk answer (s.clock < s'.clock)
+        → OnOk answer (0 < length blocks → s.clock < s'.clock)
+    moves (Ok done) later = λ some. later
+    moves (Err fault) later = tt
+
+-- A run that is written one block at a time
+module _ (first count : ℕ) (blocks : List (List ℕ)) (s s' : DiskState) (before : IsPartWrite first count blocks s s')
+    (s'' : DiskState) (words : List ℕ) where
+  -- one block more
+  pub part_write_next : (done : Unit {0}) → words ≡ get_or blocks count []
+      → IsWrite (first + count) words s' s'' (Ok done) → IsPartWrite first (count + 1) blocks s s''
+  part_write_next done is write = part_write_on first count blocks s s' before 1 (words ∷ []) s'' refl
+      (λ i less. only i (omega (arith, less))) done
+      (write_of_one (first + count) (words ∷ []) s' s'' (Ok done) refl write)
+    where
+      only : (i : ℕ) → i ≡ 0 → get_or (words ∷ []) i [] ≡ get_or blocks (count + i) []
+      only i none =
+          let here : count ≡ count + i = omega (arith, none) in
+          ap (λ k. get_or (words ∷ []) k []) none ∙ is ∙ ap (λ k. get_or blocks k []) here
+
+  -- the next one fails
+  pub part_write_ends : (fault : Fault) → count < length blocks → IsWrite (first + count) words s' s'' (Err fault)
+      → IsRunWrite first blocks s s'' (Err fault)
+  part_write_ends fault below write = record {
+    put = λ h. tt;
+    moves = λ h. tt;
+    writes = λ h. modifies_write (IsInRun first (length blocks)) (first + count) s s' s''
+        (omega arith, omega (arith, below))
+        (modifies_wider (IsInRun first count) (IsInRun first (length blocks)) s s'
+        (λ n within. (within.0, omega (arith, within.1, below))) (before.writes (write.same.was_honest h)))
+        (write.writes h);
+    same = same_disk_on s s' s'' before.same write.same;
+    device = write.device;
+    failed = λ is. write.failed is ∙ ap one_more before.served;
+    served = tt;
+  }

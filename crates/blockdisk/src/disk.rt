@@ -111,6 +111,8 @@ pub trait Disk {
     fn write_run(&mut self, first: u32, blocks: &[Block]) -> Result<(), Fault>
         requires { first + length blocks.now ≤ (state self.old).size }
         ensures put { (state self.new).honest → OnOk result (HoldRun (state self.new).contents first blocks.now) }
+        ensures moves { (state self.new).honest → OnOk result (0 < length blocks.now
+            → (state self.old).clock < (state self.new).clock) }
         ensures writes { (state self.new).honest
             → Modifies (IsInRun first (length blocks.now)) (state self.old) (state self.new) }
         ensures same { SameDisk (state self.old) (state self.new) }

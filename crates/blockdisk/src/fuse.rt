@@ -1,7 +1,8 @@
-ghost use Rattle.std.specs.Prelude.{◌≡◌, ◌<◌, Some, None, Result, IsErrOf, OnOk, OnErr, true, false};
-ghost use Rattle.blockdisk.specs.Calls.{IsRead, IsWrite, IsSync};
-ghost use Rattle.blockdisk.specs.Disk.{one_more};
-ghost use Rattle.blockdisk.specs.Fuse.{is_blown, burnt, fused};
+ghost use Rattle.std.specs.Prelude.{◌≡◌, ◌<◌, ◌≤◌, ◌+◌, ◌-◌, Some, None, Result, IsErrOf, IfOk, OnOk, OnErr};
+ghost use Rattle.std.specs.Prelude.{length, true, false};
+ghost use Rattle.blockdisk.specs.Calls.{IsRead, IsRunRead, IsVerify, IsWrite, IsRunWrite, IsSync};
+ghost use Rattle.blockdisk.specs.Disk.{IsWithin, one_more};
+ghost use Rattle.blockdisk.specs.Fuse.{is_blown, burnt, fused, blocks_read};
 ghost use Rattle.blockdisk.specs.declared.fault.Fault.TheVariants.{Device, Damaged};
 
 use crate::{Disk, Fault};
@@ -17,7 +18,8 @@ pub enum Fail {
 }
 
 /// A disk that fails on purpose. So many calls pass, and then one call or every call answers `Device`:
-/// a read, a write and a sync count as one each, and a run as one for each of its blocks.
+/// a read, a write and a sync count as one each, and a run counts one for each block up to the first that is damaged or
+/// fails.
 ///
 /// A write that fails is made all the same; a read or a sync that fails never reaches the disk under it.
 #[derive(Drop)]
@@ -98,7 +100,7 @@ impl<D: Disk> FuseDisk<D> {
 }
 
 impl<D: Disk> Disk for FuseDisk<D> {
-    ghost use Rattle.blockdisk.specs.Fused.{passed, refused, IsMadeAnyway};
+    ghost use Rattle.blockdisk.specs.Fused.{passed, refused, IsMadeAnyway, HavePassed, HasFailedRead, HasFailedWrite};
 
     ghost state = { λ disk. fused (D.state disk.inner) disk.failures };
 
@@ -128,6 +130,44 @@ impl<D: Disk> Disk for FuseDisk<D> {
         self.inner.read(n)
     }
 
+    fn read_run(&mut self, first: u32, blocks: &mut [Block]) -> Result<Option<u32>, Fault>
+        requires { first + length blocks.old ≤ (D.state self.old.inner).size }
+        ensures within { IfOk result (IsWithin first (first + length blocks.old)) }
+        ensures passed { IfOk result
+            (λ found. HavePassed (blocks_read first (length blocks.old) found) self.old self.new) }
+        ensures failed { OnErr result (HasFailedRead D.state (length blocks.old) self.old self.new) }
+        ensures reads { IsRunRead first (fused (D.state self.old.inner) self.old.failures)
+            (fused (D.state self.new.inner) self.new.failures) blocks.new result }
+    {
+        let _size = self.blocks(); // no more than a u32 counts
+        for place in 0..blocks.len() {
+            let number = first + place as u32;
+            match self.read(number) {
+                Ok(block) => blocks[place] = block,
+                Err(Fault::Damaged) => return Ok(Some(number)),
+                Err(Fault::Device) => return Err(Fault::Device),
+            }
+        }
+        Ok(None)
+    }
+
+    fn verify(&mut self, first: u32, end: u32) -> Result<Option<u32>, Fault>
+        requires { end ≤ (D.state self.old.inner).size }
+        ensures passed { IfOk result (λ found. HavePassed (blocks_read first (end - first) found) self.old self.new) }
+        ensures failed { OnErr result (HasFailedRead D.state (end - first) self.old self.new) }
+        ensures verifies { IsVerify first end (fused (D.state self.old.inner) self.old.failures)
+            (fused (D.state self.new.inner) self.new.failures) result }
+    {
+        for n in first..end {
+            match self.read(n) {
+                Ok(_) => (),
+                Err(Fault::Damaged) => return Ok(Some(n)),
+                Err(Fault::Device) => return Err(Fault::Device),
+            }
+        }
+        Ok(None)
+    }
+
     fn write(&mut self, n: u32, block: &Block) -> Result<(), Fault>
         requires { n < (D.state self.old.inner).size }
         ensures blown { is_blown self.old.left ≡ true → IsErrOf result Device × IsMadeAnyway
@@ -143,6 +183,20 @@ impl<D: Disk> Disk for FuseDisk<D> {
             return Err(Fault::Device);
         }
         self.inner.write(n, block)
+    }
+
+    fn write_run(&mut self, first: u32, blocks: &[Block]) -> Result<(), Fault>
+        requires { first + length blocks.now ≤ (D.state self.old.inner).size }
+        ensures passed { OnOk result (HavePassed (length blocks.now) self.old self.new) }
+        ensures failed { OnErr result (HasFailedWrite D.state first (length blocks.now) self.old self.new) }
+        ensures writes { IsRunWrite first blocks.now (fused (D.state self.old.inner) self.old.failures)
+            (fused (D.state self.new.inner) self.new.failures) result }
+    {
+        let _size = self.blocks(); // no more than a u32 counts
+        for place in 0..blocks.len() {
+            self.write(first + place as u32, &blocks[place])?;
+        }
+        Ok(())
     }
 
     fn sync(&mut self) -> Result<(), Fault>

@@ -1,10 +1,12 @@
 ghost use Rattle.std.specs.Prelude.{◌≡◌, ◌<◌, ◌≤◌, ◌+◌, ◌^◌, ℕ, Some, None, IfOk, IfErr, OnOk, OnErr, IsErrOf, length};
-ghost use Rattle.std.specs.Prelude.{replicate, if◌then◌else◌};
+ghost use Rattle.std.specs.Prelude.{replicate, if◌then◌else◌, IsOk};
 ghost use Rattle.std.proofs.Common.{inr};
 ghost use Rattle.blockdisk.specs.declared.fault.Fault.TheVariants.{Device, Damaged};
-ghost use Rattle.blockdisk.specs.Disk.{Writes, Syncs};
+ghost use Rattle.blockdisk.specs.Calls.{IsRunWrite};
+ghost use Rattle.blockdisk.specs.Disk.{Writes, Syncs, AreFilled, AreVerified, IsWithin};
 ghost use Rattle.blockdisk.specs.Crashing.{at_sync, left_in, picked};
-ghost use Rattle.blockdisk.specs.Memory.{held, memory_state, written, write_refused, synced, sync_refused};
+ghost use Rattle.blockdisk.specs.Memory.{held, memory_state, written, run_written, write_refused, synced, sync_refused};
+ghost use Rattle.blockdisk.specs.Memory.{HasNoRoomFor};
 ghost use Rattle.blockdisk.specs.MemoryLaws.{only_now, reaches_back};
 
 use crate::{Disk, Fault, NoMemory, Pick};
@@ -246,6 +248,39 @@ impl Disk for MemDisk {
         }
     }
 
+    fn read_run(&mut self, first: u32, blocks: &mut [Block]) -> Result<Option<u32>, Fault>
+        requires { first + length blocks.old ≤ length self.old.blocks }
+        ensures served { IsOk result }
+        ensures within { IfOk result (IsWithin first (first + length blocks.old)) }
+        ensures words { IfOk result (AreFilled (held self.old.blocks) first blocks.new) }
+        ensures unchanged { self.new ≡ self.old }
+    {
+        for place in 0..blocks.len() {
+            let number = first as usize + place;
+            match self.blocks[number] {
+                Some(block) => blocks[place] = block,
+                None => return Ok(Some(number as u32)),
+            }
+        }
+        Ok(None)
+    }
+
+    fn verify(&mut self, first: u32, end: u32) -> Result<Option<u32>, Fault>
+        requires { end ≤ length self.old.blocks }
+        ensures served { IsOk result }
+        ensures within { IfOk result (IsWithin first end) }
+        ensures verified { IfOk result (AreVerified (held self.old.blocks) first end) }
+        ensures unchanged { self.new ≡ self.old }
+    {
+        for n in first..end {
+            match self.read(n) {
+                Ok(_) => (),
+                Err(_) => return Ok(Some(n)), // damaged: a read never fails
+            }
+        }
+        Ok(None)
+    }
+
     fn write(&mut self, n: u32, block: &Block) -> Result<(), Fault>
         requires { n < length self.old.blocks }
         ensures written { OnOk result (self.new ≡ written self.old n block.now) }
@@ -265,6 +300,20 @@ impl Disk for MemDisk {
             Ok(()) => Ok(()),
             Err(_) => unreachable!(),
         }
+    }
+
+    fn write_run(&mut self, first: u32, blocks: &[Block]) -> Result<(), Fault>
+        requires { first + length blocks.now ≤ length self.old.blocks }
+        ensures written { OnOk result (self.new ≡ run_written self.old first blocks.now) }
+        ensures full { OnErr result (HasNoRoomFor first blocks.now self.old self.new) }
+        ensures device { IfErr result (λ fault. fault ≡ Device) }
+        ensures writes { IsRunWrite first blocks.now (memory_state self.old) (memory_state self.new) result }
+    {
+        let _size = self.blocks(); // no more than a u32 counts
+        for place in 0..blocks.len() {
+            self.write(first + place as u32, &blocks[place])?;
+        }
+        Ok(())
     }
 
     fn sync(&mut self) -> Result<(), Fault>

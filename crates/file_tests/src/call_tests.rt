@@ -3,8 +3,9 @@ ghost use Rattle.imagefile.specs.Host.{unknown_file};
 
 use crate::image_tests::{disk_over, expect_v1, v1_file};
 use blockdisk::Fault;
-use imagefile::{Durable, FileCalls, HostCalls, HostFile, SeekingFile, Supposition, SystemCalls};
-use std::fs::{Metadata, OpenFile};
+use imagefile::{
+    Durable, FileCalls, HostCalls, HostFile, SeekingFile, Supposition, SyncData, SystemCalls,
+};
 use std::io::{self, Read, Seek, SeekFrom, Write};
 use std::process::Abort;
 use std::test::Fail;
@@ -29,6 +30,8 @@ impl Sluggish {
 
 impl FileCalls for Sluggish {
     ghost state = { λ file. unknown_file };
+
+    ghost ended = { λ before after outcome. Unit {0} };
 
     ghost counts_now = { λ file t r h le may. absurd h };
 
@@ -177,20 +180,10 @@ impl Seek for Failing {
     }
 }
 
-impl OpenFile for Failing {
-    fn metadata(&self) -> io::Result<Metadata> {
-        Err(io::Error::from(io::ErrorKind::Unsupported))
-    }
+impl SyncData for Failing {
+    ghost was_synced = { λ before after done. Unit {0} };
 
-    fn set_len(&self, _size: u64) -> io::Result<()> {
-        Err(io::Error::from(io::ErrorKind::Unsupported))
-    }
-
-    fn sync_all(&self) -> io::Result<()> {
-        Err(io::Error::from(io::ErrorKind::Unsupported))
-    }
-
-    fn sync_data(&self) -> io::Result<()> {
+    fn sync_data(&mut self) -> io::Result<()> {
         self.answer(StdCall::Sync, ())
     }
 }
@@ -204,6 +197,8 @@ pub(crate) struct Unpromised<S: SystemCalls> {
 
 impl<S: SystemCalls> FileCalls for Unpromised<S> {
     ghost state = { λ file. unknown_file };
+
+    ghost ended = { λ before after outcome. Unit {0} };
 
     ghost counts_now = { λ file t r h le may. absurd h };
 

@@ -97,17 +97,24 @@ block_written form blocks n at len s s' words answer place long put moves writes
 pub run_written : (form : Form) (size first at len : ℕ) (s s' : FileState) (blocks : List (List ℕ))
     (answer : Result (Unit {0}) Fault) → at ≡ block_length form * first → len ≡ block_length form * length blocks
     → (s'.honest → OnOk answer (HoldRun (image_contents form s'.bytes) first blocks))
+    → (s'.honest → OnOk answer (s.clock < s'.clock))
     → (s'.honest → FileWrites at len s s') → SameFile s s' → (IsErrOf answer Damaged → ⊥)
     → (IsErrOf answer Device → s'.failures ≡ one_more s.failures) → OnOk answer (s'.failures ≡ s.failures)
     → IsRunWrite first blocks (image_state form size s) (image_state form size s') answer
-run_written form size first at len s s' blocks answer place long put writes same device failed served = record {
+run_written form size first at len s s' blocks answer place long put moves writes same device failed served = record {
   put = put;
+  moves = λ h. where_some answer (moves h);
   writes = λ h. image_writes_run form size s s' first (length blocks) (rw (← place, ← long) (writes h));
   same = same_disk form size s s' same;
   device = device;
   failed = failed;
   served = served;
 }
+  where
+    where_some : (answer : Result (Unit {0}) Fault) → OnOk answer (s.clock < s'.clock)
+        → OnOk answer (0 < length blocks → s.clock < s'.clock)
+    where_some (Ok done) later = λ some. later
+    where_some (Err fault) later = tt
 
 pub synced : {E : Type 0} (answer : Result (Unit {0}) E) (form : Form) (blocks : ℕ) (s s' : FileState)
     → OnOk answer (FileSyncs s s') → OnOk answer (Syncs (image_state form blocks s) (image_state form blocks s'))

@@ -19,3 +19,8 @@ pub mod RecordedLaws
 pub mod SeekingFile
 pub mod Streams
 pub mod Began
+<<<<<<< HEAD
+=======
+pub mod Outcomes
+pub mod Endings
+>>>>>>> h73

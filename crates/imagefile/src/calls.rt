@@ -1,6 +1,7 @@
 ghost use Rattle.std.specs.Prelude.{◌≡◌, ◌+◌, ◌<◌, ◌≤◌, ℕ, length, take, is_ok, IfOk, OnOk, OnErr};
 ghost use Rattle.imagefile.specs.File.{Remains, FileState, MayRemain, SameFile, FileKeeps, FileWrites, FileSyncs};
 ghost use Rattle.imagefile.specs.File.{FileFails, window};
+ghost use Rattle.imagefile.specs.Outcomes.{Outcome, size_outcome, move_outcome, sync_outcome};
 
 use std::io;
 
@@ -12,12 +13,17 @@ use std::io;
 pub trait FileCalls {
     ghost state: { Self → FileState };
 
+    /// One call with this outcome turned the first value into the second. Code that is generic over this trait can
+    /// only prove it by making that call.
+    ghost ended: { Self → Self → Outcome → Type 0 };
+
     /// The number of bytes.
     ///
     /// # Errors
     ///
     /// The system's.
     fn size(&mut self) -> io::Result<u64>
+        ensures ended { ended self.old self.new (size_outcome result) }
         ensures size { (state self.new).honest → IfOk result (λ size. size ≡ (state self.old).size) }
         ensures keeps { (state self.new).honest → FileKeeps (state self.old) (state self.new) }
         ensures same { SameFile (state self.old) (state self.new) };
@@ -29,6 +35,7 @@ pub trait FileCalls {
     /// The system's; `bytes` may then hold anything.
     fn read_some(&mut self, at: u64, bytes: &mut [u8]) -> io::Result<usize>
         requires { (state self.old).honest → at + length bytes.old ≤ (state self.old).size }
+        ensures ended { ended self.old self.new (move_outcome (length bytes.old) result) }
         ensures few { IfOk result (λ count. count ≤ length bytes.old) }
         ensures read { (state self.new).honest
             → IfOk result (λ count. take count bytes.new ≡ window (state self.old).bytes at count) }
@@ -43,6 +50,7 @@ pub trait FileCalls {
     /// The system's; those places may then hold anything.
     fn write_some(&mut self, at: u64, bytes: &[u8]) -> io::Result<usize>
         requires { (state self.old).honest → at + length bytes.now ≤ (state self.old).size }
+        ensures ended { ended self.old self.new (move_outcome (length bytes.now) result) }
         ensures few { IfOk result (λ count. count ≤ length bytes.now) }
         ensures put { (state self.new).honest
             → IfOk result (λ count. window (state self.new).bytes at count ≡ take count bytes.now) }
@@ -57,6 +65,7 @@ pub trait FileCalls {
     /// The system's. The open bytes stay open, and each may be anything then; the closed ones stay as they
     /// are.
     fn sync_all(&mut self) -> io::Result<()>
+        ensures ended { ended self.old self.new (sync_outcome result) }
         ensures syncs { (state self.new).honest → OnOk result (FileSyncs (state self.old) (state self.new)) }
         ensures moves { (state self.new).honest → OnOk result ((state self.old).clock < (state self.new).clock) }
         ensures fails { (state self.new).honest → OnErr result (FileFails (state self.old) (state self.new)) }

@@ -1,10 +1,13 @@
-ghost use Rattle.std.specs.Prelude.{◌≡◌, ◌+◌, ◌<◌, ◌≤◌, ℕ, [], length, take, None, IsSome, IfOk, OnOk, OnErr, IsErrOf};
+ghost use Rattle.std.specs.Prelude.{◌≡◌, ◌⊎◌, ◌+◌, ◌<◌, ◌≤◌, ℕ, [], length, take, Some, None, IfOk, OnOk, OnErr};
+ghost use Rattle.std.specs.Prelude.{IsErrOf};
 ghost use Rattle.blockdisk.specs.Disk.{one_more};
 ghost use Rattle.blockdisk.specs.declared.fault.Fault.TheVariants.{Device, Damaged};
 ghost use Rattle.imagefile.specs.File.{SameFile, FileKeeps, FileWrites, FileSyncs, FileFails, window};
 ghost use Rattle.imagefile.specs.Host.{with_failures, the_first_of};
 ghost use Rattle.imagefile.specs.Supposition.{unseen_in};
 ghost use Rattle.imagefile.specs.Recorded.{IsHonestRecord};
+ghost use Rattle.imagefile.specs.Outcomes.{HasCause, IsPastAll, Looked, LookedAndSynced, Measured};
+ghost use Rattle.std.specs.declared.io.ErrorKind.TheVariants.{UnexpectedEof, WriteZero};
 
 use crate::{Durable, FileCalls, HostCalls, SeekingFile, Supposition};
 use blockdisk::Fault;
@@ -24,12 +27,16 @@ pub struct HostFile<C: FileCalls = SeekingFile> {
     failures: u64,
     failure: Option<Error>,
     size: Option<u64>,
+<<<<<<< HEAD
     // Why the first one was is known as soon as there is one.
+=======
+    // If a call has failed, the reason of the first failure is known.
+>>>>>>> h73
     ghost told: { failure ≡ None → failures ≡ 0 },
 }
 
 impl HostFile {
-    ghost use Rattle.imagefile.specs.HostFile.{calls_of, failures_of, failure_of};
+    ghost use Rattle.imagefile.specs.HostFile.{calls_of, failures_of, failure_of, known_size_of};
     ghost use Rattle.imagefile.specs.SeekingFile.{system_of, unseen_of};
     ghost use Rattle.imagefile.specs.HostCalls.{file_of, history_of};
 
@@ -42,19 +49,21 @@ impl HostFile {
         ensures honest { IsHonestRecord (unseen_of (calls_of result)) (history_of (system_of (calls_of result))) }
         ensures none_failed { failures_of result ≡ 0 }
         ensures no_failure { failure_of result ≡ None }
+        ensures no_size { known_size_of result ≡ None }
     {
         HostFile::new(SeekingFile::new(HostCalls::new(file), supposed))
     }
 }
 
 impl<C: FileCalls> HostFile<C> {
-    ghost use Rattle.imagefile.specs.HostFile.{calls_of, failures_of, failure_of};
+    ghost use Rattle.imagefile.specs.HostFile.{calls_of, failures_of, failure_of, known_size_of};
 
     /// The file of these calls. No call has failed yet.
     pub fn new(calls: C) -> Self
         ensures calls { calls_of result ≡ calls }
         ensures none_failed { failures_of result ≡ 0 }
         ensures no_failure { failure_of result ≡ None }
+        ensures no_size { known_size_of result ≡ None }
     {
         HostFile {
             calls,
@@ -78,6 +87,7 @@ impl<C: FileCalls> HostFile<C> {
         ensures calls { calls_of self.new ≡ calls_of self.old }
         ensures failures { failures_of self.new ≡ one_more (failures_of self.old) }
         ensures failure { failure_of self.new ≡ the_first_of (failure_of self.old) error }
+        ensures keeps_size { known_size_of self.new ≡ known_size_of self.old }
     {
         self.failures = self.failures.saturating_add(1);
         if self.failure.is_none() {
@@ -97,7 +107,12 @@ impl<C: FileCalls> HostFile<C> {
         ensures same { SameFile (C.state (calls_of self.old)) (C.state (calls_of self.new)) }
         ensures device { IsErrOf result Damaged → ⊥ }
         ensures failed { IsErrOf result Device → failures_of self.new ≡ one_more (failures_of self.old) }
-        ensures told { OnErr result (IsSome (failure_of self.new)) }
+        ensures looked { OnOk result
+            (Looked C.ended (known_size_of self.old) (calls_of self.old) (calls_of self.new)) }
+        ensures because { OnErr result (HasCause C.ended (calls_of self.new) UnexpectedEof (known_size_of self.old)
+            (failure_of self.old) (failure_of self.new)) }
+        ensures quiet { OnOk result (failure_of self.new ≡ failure_of self.old) }
+        ensures keeps_size { known_size_of self.new ≡ known_size_of self.old }
         ensures served { OnOk result (failures_of self.new ≡ failures_of self.old) }
     {
         let Some(wanted) = self.size else {
@@ -127,7 +142,10 @@ impl<C: FileCalls> HostFile<C> {
         ensures same { SameFile (C.state (calls_of self.old)) (C.state (calls_of self.new)) }
         ensures device { IsErrOf result Damaged → ⊥ }
         ensures failed { IsErrOf result Device → failures_of self.new ≡ one_more (failures_of self.old) }
-        ensures told { OnErr result (IsSome (failure_of self.new)) }
+        ensures because { OnErr result (HasCause C.ended (calls_of self.new) UnexpectedEof None
+            (failure_of self.old) (failure_of self.new)) }
+        ensures quiet { OnOk result (failure_of self.new ≡ failure_of self.old) }
+        ensures keeps_size { known_size_of self.new ≡ known_size_of self.old }
         ensures served { OnOk result (failures_of self.new ≡ failures_of self.old) }
     {
         match self.calls.read_some(at, bytes) {
@@ -155,7 +173,10 @@ impl<C: FileCalls> HostFile<C> {
         ensures same { SameFile (C.state (calls_of self.old)) (C.state (calls_of self.new)) }
         ensures device { IsErrOf result Damaged → ⊥ }
         ensures failed { IsErrOf result Device → failures_of self.new ≡ one_more (failures_of self.old) }
-        ensures told { OnErr result (IsSome (failure_of self.new)) }
+        ensures because { OnErr result (HasCause C.ended (calls_of self.new) WriteZero None
+            (failure_of self.old) (failure_of self.new)) }
+        ensures quiet { OnOk result (failure_of self.new ≡ failure_of self.old) }
+        ensures keeps_size { known_size_of self.new ≡ known_size_of self.old }
         ensures served { OnOk result (failures_of self.new ≡ failures_of self.old) }
     {
         match self.calls.write_some(at, bytes) {
@@ -167,7 +188,7 @@ impl<C: FileCalls> HostFile<C> {
 }
 
 impl<C: FileCalls> Durable for HostFile<C> {
-    ghost use Rattle.imagefile.specs.HostFile.{calls_of, failures_of, failure_of};
+    ghost use Rattle.imagefile.specs.HostFile.{calls_of, failures_of, failure_of, known_size_of};
 
     ghost state = { λ file. with_failures (C.state file.calls) file.failures };
 
@@ -185,7 +206,12 @@ impl<C: FileCalls> Durable for HostFile<C> {
         ensures same { SameFile (C.state (calls_of self.old)) (C.state (calls_of self.new)) }
         ensures device { IsErrOf result Damaged → ⊥ }
         ensures failed { IsErrOf result Device → failures_of self.new ≡ one_more (failures_of self.old) }
-        ensures told { OnErr result (IsSome (failure_of self.new)) }
+        ensures measured { IfOk result (λ size. C.ended (calls_of self.old) (calls_of self.new) (Measured size)
+            × (known_size_of self.new ≡ Some size)) }
+        ensures because { OnErr result (HasCause C.ended (calls_of self.new) UnexpectedEof None
+            (failure_of self.old) (failure_of self.new)) }
+        ensures quiet { OnOk result (failure_of self.new ≡ failure_of self.old) }
+        ensures keeps_size { OnErr result (known_size_of self.new ≡ known_size_of self.old) }
         ensures served { OnOk result (failures_of self.new ≡ failures_of self.old) }
     {
         match self.calls.size() {
@@ -206,7 +232,11 @@ impl<C: FileCalls> Durable for HostFile<C> {
         ensures same { SameFile (C.state (calls_of self.old)) (C.state (calls_of self.new)) }
         ensures device { IsErrOf result Damaged → ⊥ }
         ensures failed { IsErrOf result Device → failures_of self.new ≡ one_more (failures_of self.old) }
-        ensures told { OnErr result (IsSome (failure_of self.new)) }
+        ensures because { OnErr result (HasCause C.ended (calls_of self.new) UnexpectedEof None
+            (failure_of self.old) (failure_of self.new)
+            ⊎ IsPastAll (at + length bytes.old) (failure_of self.old) (failure_of self.new)) }
+        ensures quiet { OnOk result (failure_of self.new ≡ failure_of self.old) }
+        ensures keeps_size { known_size_of self.new ≡ known_size_of self.old }
         ensures served { OnOk result (failures_of self.new ≡ failures_of self.old) }
     {
         let mut done = 0;
@@ -230,7 +260,11 @@ impl<C: FileCalls> Durable for HostFile<C> {
         ensures same { SameFile (C.state (calls_of self.old)) (C.state (calls_of self.new)) }
         ensures device { IsErrOf result Damaged → ⊥ }
         ensures failed { IsErrOf result Device → failures_of self.new ≡ one_more (failures_of self.old) }
-        ensures told { OnErr result (IsSome (failure_of self.new)) }
+        ensures because { OnErr result (HasCause C.ended (calls_of self.new) WriteZero None
+            (failure_of self.old) (failure_of self.new)
+            ⊎ IsPastAll (at + length bytes.now) (failure_of self.old) (failure_of self.new)) }
+        ensures quiet { OnOk result (failure_of self.new ≡ failure_of self.old) }
+        ensures keeps_size { known_size_of self.new ≡ known_size_of self.old }
         ensures served { OnOk result (failures_of self.new ≡ failures_of self.old) }
     {
         let mut done = self.put_some(at, bytes)?;
@@ -253,7 +287,12 @@ impl<C: FileCalls> Durable for HostFile<C> {
         ensures same { SameFile (C.state (calls_of self.old)) (C.state (calls_of self.new)) }
         ensures device { IsErrOf result Damaged → ⊥ }
         ensures failed { IsErrOf result Device → failures_of self.new ≡ one_more (failures_of self.old) }
-        ensures told { OnErr result (IsSome (failure_of self.new)) }
+        ensures synced { OnOk result
+            (LookedAndSynced C.ended (known_size_of self.old) (calls_of self.old) (calls_of self.new)) }
+        ensures because { OnErr result (HasCause C.ended (calls_of self.new) UnexpectedEof (known_size_of self.old)
+            (failure_of self.old) (failure_of self.new)) }
+        ensures quiet { OnOk result (failure_of self.new ≡ failure_of self.old) }
+        ensures keeps_size { known_size_of self.new ≡ known_size_of self.old }
         ensures served { OnOk result (failures_of self.new ≡ failures_of self.old) }
     {
         self.keep_size()?;

@@ -69,7 +69,7 @@ impl<F: Durable> ImageDisk<F> {
         }
     }
 
-    /// The file that the disk lies in.
+    /// Returns the file that holds the image.
     pub fn file(&self) -> &F
         ensures { result.now ≡ file_of self.now }
     {
@@ -88,12 +88,12 @@ impl ImageDisk<HostFile> {
     ghost use Rattle.imagefile.specs.ImageDisk.{file_of, form_of};
     ghost use Rattle.imagefile.specs.HostFile.{failures_of, failure_of};
 
-    /// The disk of an image of this form in an open file of the host, of which nothing was asked yet, with what is
-    /// supposed of it that its calls don't show. Nothing is written.
+    /// Makes the disk of an image of this form from an open file that has not been used yet. `supposed` stands for what
+    /// no call shows of the file. Writes nothing.
     ///
     /// # Errors
     ///
-    /// As of `of_form`: the file is handed back, and knows why it failed.
+    /// As of `of_form`. The file comes back and knows why it failed.
     pub fn open_file(
         file: File,
         supposed: Supposition,

@@ -7,20 +7,22 @@
 //! 2. `ImageDisk` over any `Durable` is a `Disk`: its contents, open blocks, clock, crashes and count of
 //!    failures are those that the file's bytes spell, and it is honest while the file is.
 //! 3. A file is refused exactly where its length is not a multiple of a block's or it has 2^32 blocks or
-//!    more, or where it fails; nothing is written, and the file is handed back. (`block_count`, `new`)
+//!    more, or where it fails; nothing is written, and the file is handed back. (`block_count`, `new`) The disk
+//!    of an open file holds what that began with. (`open_file`)
 //! 4. `MemFile` is a `Durable` with no assumption, and each of its calls leaves exactly what is stated.
 //! 5. `HostFile` is a `Durable` over any system's calls, and honest while they are: an answer may end that,
 //!    and none brings it back. What a call answered is right wherever the file is honest after it, so that
 //!    nobody has to know answers to come. (`FileCalls`, `Durable`)
 //! 6. A real file is the record of its calls: each adds itself with its answer, and no other, on every
 //!    file and with no assumption. (`noted`, `asked`) What goes on record is what was asked of the
-//!    standard library, as far as its traits say what a call does (`made`): of a sync they say nothing.
+//!    standard library, as far as its traits say what a call does, and of a sync always. (`made`) Of the code
+//!    one line is trusted: that the impl of `SyncData` for a real file syncs it.
 //! 7. It is honest while that record is one that a file gives which keeps to the model and began as is
 //!    supposed. (`SeekingFile`) No contract says which beginning that is: what is proved of a function that
 //!    is given a file is proved for each. (`Supposition`) A file that answers by the model has an honest
 //!    record, however it began. (`answers_by_the_model_are_honest`, `a_file_by_the_model_is_honest`)
-//! 8. `Device` is answered exactly with one more failure, on every file. (`failed`, `served`) Why the first call failed
-//!    that did is kept. (`told`)
+//! 8. `Device` is answered exactly with one more failure, on every file. (`failed`, `served`) Its cause is a call that
+//!    failed, moved no bytes or found another length, and the first reason is kept. (`because`)
 //! 9. A file that has the number of a standard stream is told from one that hasn't. (`apart`)
 #![tactic(auto)]
 
@@ -51,4 +53,4 @@ pub use seeking::{SeekingFile, a_file_by_the_model_is_honest, answers_by_the_mod
 pub use size::{ImageError, block_count};
 pub use streams::apart;
 pub use supposition::Supposition;
-pub use system::{HostCalls, SystemCalls};
+pub use system::{HostCalls, SyncData, SystemCalls};

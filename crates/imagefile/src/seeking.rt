@@ -4,6 +4,7 @@ ghost use Rattle.imagefile.specs.File.{FileWrites, window};
 ghost use Rattle.imagefile.specs.Calls.{Call, SeekStart, SeekEnd, Read, Write, Sync, answer, came};
 ghost use Rattle.imagefile.specs.Unseen.{Unseen, size_of};
 ghost use Rattle.imagefile.specs.Recorded.{IsHonestRecord, BeginsAt, GoesTo};
+ghost use Rattle.imagefile.specs.Endings.{EndsSo};
 ghost use Rattle.imagefile.specs.Recorded.{AsksAt, words_asked_at, after_calls, recorded};
 ghost use Rattle.imagefile.specs.RecordedLaws.{recorded_counts_now, recorded_only_now, recorded_reaches_back};
 ghost use Rattle.imagefile.specs.Answered.{HostCall, IsInFile, answered};
@@ -98,6 +99,8 @@ impl<S: SystemCalls> FileCalls for SeekingFile<S> {
     ghost use Rattle.imagefile.specs.SeekingFile.{system_of, unseen_of};
 
     ghost state = { λ file. recorded (unseen_of file) (S.history (system_of file)) };
+
+    ghost ended = { λ before after outcome. EndsSo outcome (S.history (system_of after)) };
 
     ghost counts_now = { λ file t r h le may. recorded_counts_now (unseen_of file)
         (S.history (system_of file)) t r le may };

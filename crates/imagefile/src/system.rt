@@ -1,4 +1,4 @@
-ghost use Rattle.std.specs.Prelude.{◌≡◌, ◌≤◌, List, ◌∷◌, [], length, is_ok, pos, IfOk};
+ghost use Rattle.std.specs.Prelude.{◌≡◌, ◌≤◌, Bool, List, ◌∷◌, [], length, is_ok, pos, IfOk};
 ghost use Rattle.std.specs.Io.KnownBytes.{ReadConsumes, WriteAppends};
 ghost use Rattle.std.specs.Io.Seek.{SeekMoves};
 ghost use Rattle.std.specs.declared.io.traits.SeekFrom.TheVariants as from;
@@ -58,18 +58,49 @@ pub trait SystemCalls {
         ensures noted { history self.new ≡ Sync (is_ok result) ∷ history self.old };
 }
 
+/// The one call that the host file needs beyond `Read`, `Write` and `Seek`.
+///
+/// The standard library's `OpenFile` has it too, but also calls that cut a file short or change its permissions.
+pub trait SyncData {
+    /// A sync with this answer, and nothing else, turned the first value into the second. Code that is generic over
+    /// this trait can only prove it by calling `sync_data`.
+    ghost was_synced: { Self → Self → Bool → Type 0 };
+
+    /// Waits until all that was written is on the device.
+    ///
+    /// # Errors
+    ///
+    /// The system's.
+    fn sync_data(&mut self) -> io::Result<()>
+        ensures { was_synced self.old self.new (is_ok result) };
+}
+
+/// The trusted line of the host file: the standard library promises nothing about `File::sync_data` that a proof could
+/// use, so nothing proves that this impl calls it. What else the host file does rests on what the library's `Read`,
+/// `Write` and `Seek` promise for any type.
+impl SyncData for File {
+    ghost was_synced = { λ before after done. Unit {0} };
+
+    fn sync_data(&mut self) -> io::Result<()> {
+        // No call of this crate changes the file's length, and its times need not be on the device.
+        OpenFile::sync_data(self)
+    }
+}
+
 /// An open file of the host, with the record of its calls.
 ///
-/// Each method makes one call of the standard library's and puts it on record. That it is the call on
-/// record is proved as far as the library's traits have words for it: where a seek goes, which bytes
-/// came and which were taken. A sync has none there.
+/// Each method makes one call of the standard library and records it. The contracts prove that the recorded call is the
+/// one that was made, as far as the library's traits can say: where a seek goes, which bytes a read returned, which
+/// bytes a write took. For a sync `SyncData` says it. The library's traits do not say when a call fails, so that a
+/// recorded failure came from the library has to be read from the bodies below. No body can make another call on the
+/// file: `self.file.set_len(0)` does not compile, because `F` has no such method.
 #[derive(Drop)]
-pub struct HostCalls<F: Read + Write + Seek + OpenFile = File> {
+pub struct HostCalls<F: Read + Write + Seek + SyncData = File> {
     file: F,
     history: CallRecord,
 }
 
-impl<F: Read + Write + Seek + OpenFile> HostCalls<F> {
+impl<F: Read + Write + Seek + SyncData> HostCalls<F> {
     ghost use Rattle.imagefile.specs.HostCalls.{history_of, file_of};
 
     /// This open file, of which nothing was asked yet.
@@ -84,7 +115,7 @@ impl<F: Read + Write + Seek + OpenFile> HostCalls<F> {
     }
 }
 
-impl<F: Read + Write + Seek + OpenFile> SystemCalls for HostCalls<F> {
+impl<F: Read + Write + Seek + SyncData> SystemCalls for HostCalls<F> {
     ghost use Rattle.imagefile.specs.HostCalls.{history_of, file_of};
 
     ghost history = { history_of };
@@ -138,8 +169,10 @@ impl<F: Read + Write + Seek + OpenFile> SystemCalls for HostCalls<F> {
         count
     }
 
-    fn sync(&mut self) -> io::Result<()> {
-        // No call of this trait changes the file's length, and its times need not be on the device.
+    fn sync(&mut self) -> io::Result<()>
+        ensures noted { history_of self.new ≡ Sync (is_ok result) ∷ history_of self.old }
+        ensures made { F.was_synced (file_of self.old) (file_of self.new) (is_ok result) }
+    {
         let done = self.file.sync_data();
         self.history = self.history.then(&CallMade::Sync(done.is_ok()));
         done

@@ -15,5 +15,6 @@ returns-clause-writes g c =
     (g.F.Durable.state c.args.file.now) s' blocks c.write_at.result c.place_of.ensures long
     (λ h. run_put c.write_at.result c.args.form s'.bytes c.args.first c.place_of.result bytes blocks
     c.place_of.ensures long c.put_blocks.ensures.words (c.write_at.ensures.put h))
-    c.write_at.ensures.writes c.write_at.ensures.same c.write_at.ensures.device c.write_at.ensures.failed
+    c.write_at.ensures.moves c.write_at.ensures.writes c.write_at.ensures.same c.write_at.ensures.device
+    c.write_at.ensures.failed
     c.write_at.ensures.served

@@ -10,6 +10,7 @@ loop-place-init g c =
     let s = g.Self.Disk.state c.args.self.now in
     record {
       put = λ h i none. absurd (omega (arith, none));
+      moves = λ h none. absurd (omega (arith, none));
       writes = λ h. modifies_start (IsInRun c.args.first (length c.args.blocks.now)) s;
       same = same_disk_start s;
       served = refl;
@@ -42,6 +43,11 @@ loop-place-preserved g c =
           (λ other. (c.write.ensures.writes h).contents (first + i) (λ e. other (omega (arith, e)))
           ∙ c.loop-place.invariant.put (was h) i (omega (arith, less, other)))
           (cases_eq i place);
+      moves = λ h some. omega (
+        arith,
+        (c.loop-place.invariant.writes (was h)).time.later,
+        c.in_ok-write.ensures.moves h,
+      );
       writes = λ h. modifies_write (IsInRun first (length blocks)) (first + place) s now new
           (omega arith, omega (arith, below)) (c.loop-place.invariant.writes (was h)) (c.write.ensures.writes h);
       same = same_disk_on s now new c.loop-place.invariant.same c.write.ensures.same;

@@ -48,6 +48,8 @@ loop-done-preserved g c =
     record {
       few = long_enough buffer part done k inv.few few long;
       count = e.served ∙ inv.count;
+      quiet = e.quiet ∙ inv.quiet;
+      known = e.keeps_size ∙ inv.known;
       same = same_on s0 s s' inv.same e.same;
       keeps = λ h. keeps_on s0 s s' (inv.keeps (e.same.was_honest h)) (e.keeps h);
       read = λ h i less. ⊎_elim

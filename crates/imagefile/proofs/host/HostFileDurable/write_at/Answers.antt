@@ -23,6 +23,8 @@ loop-done-preserved g c =
         length-drop done bytes,
       );
       count = e.served ∙ inv.count;
+      quiet = e.quiet ∙ inv.quiet;
+      known = e.keeps_size ∙ inv.known;
       same = same_on s0 s s' inv.same e.same;
       moves = λ h. omega (arith, inv.moves (e.same.was_honest h), e.moves h);
       writes = λ h. part_writes at done c.in-Some.place bytes place inv.few s0 s s' (inv.writes (e.same.was_honest h))

@@ -6,6 +6,8 @@ abbrev pub invariant-loop-done : goal.invariant-loop-done
 invariant-loop-done g l = record {
   few : l.done ≤ length l.bytes;
   count : l.self.failures ≡ l.fn.self.failures;
+  quiet : l.self.failure ≡ l.fn.self.failure;
+  known : l.self.size ≡ l.fn.self.size;
   same : SameFile (g.C.FileCalls.state l.fn.self.calls) (g.C.FileCalls.state l.self.calls);
   moves : (g.C.FileCalls.state l.self.calls).honest → (g.C.FileCalls.state l.fn.self.calls).clock
       < (g.C.FileCalls.state l.self.calls).clock;

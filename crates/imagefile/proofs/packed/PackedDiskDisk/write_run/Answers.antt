@@ -3,6 +3,9 @@ use Rattle.imagefile.proofs.packed.PackedDiskDisk.write_run.Goals as goal
 pub returns-clause-put : goal.returns-clause-put
 returns-clause-put g c = (c.write_blocks.ensures.writes c.args.self.now.blocks).put
 
+pub returns-clause-moves : goal.returns-clause-moves
+returns-clause-moves g c = (c.write_blocks.ensures.writes c.args.self.now.blocks).moves
+
 pub returns-clause-writes : goal.returns-clause-writes
 returns-clause-writes g c = (c.write_blocks.ensures.writes c.args.self.now.blocks).writes
 
