@@ -263,7 +263,7 @@ def main():
         for blocks in (64, 65, 4608, 4609, 10000, 131072):
             tries.size(blocks)
         tries.interrupted()
-    print(f"forms: {len(rows)} rows, {tries.count - tries.failed} as they should be, {tries.failed} not")
+    print(f"both_forms: {len(rows)} rows, {tries.count - tries.failed} as they should be, {tries.failed} not")
     return 1 if tries.failed else 0
 
 

@@ -290,7 +290,7 @@ def main():
         program = Program(os.path.abspath(sys.argv[1]), folder)
         served = images(program, count)
         inputs(program, count)
-    print(f"hostile: {program.count - program.failed} as they should be, {program.failed} not; "
+    print(f"hostile_inputs: {program.count - program.failed} as they should be, {program.failed} not; "
           f"{served} of {count} spoiled images were served")
     return 1 if program.failed else 0
 
