@@ -2,53 +2,49 @@
 
 PREFIX ?= /usr/local
 
-.PHONY: help test wrong-bodies examples build run install
+.PHONY: help try build run test program-tests wrong-bodies install
 
 help:
-	@echo 'make test     the gate: prove every crate from nothing, run the tests, try the wrong bodies of must-fail/, run'
-	@echo '              the examples, and try the tool that tries the other wrong bodies'
-	@echo 'make wrong-bodies  try those of wrong-bodies/, of all crates or of those in CRATES="NAME .."'
-	@echo 'make examples run the examples alone, on the program that is there, or on one that is built first'
+	@echo 'make try      a first session with the program, unproved: a minute'
 	@echo 'make build    prove and build the program, as bin/filser'
-	@echo 'make run      build it, and do a first run in a fresh folder'
-	@echo 'make install  build it, and put the program, its man page and its completion for bash below'
+	@echo 'make run      the same, and then a first run in a fresh folder'
+	@echo 'make test     the gate: prove every crate from nothing, run its tests, try the wrong bodies of must-fail/, and'
+	@echo '              test the built program, the documents and the tools'
+	@echo 'make program-tests  test the program that is there, or one that is built first, and check the documents'
+	@echo 'make wrong-bodies   try the edits of wrong-bodies/, of all crates or of those in CRATES="NAME .."'
+	@echo 'make install  build the program, and install it with its man page and its completion for bash below'
 	@echo '              PREFIX (now $(PREFIX))'
 
+# rt try needs no proof, takes no lock, and leaves nothing below crates/, so it may run beside a check.
+try:
+	@tools/first-session
+
 # The program that rt ci leaves is the one that it built from nothing. It proves as many things side by side as there are
-# processors; left to itself it waits for more memory than proofs take (docs/PROVING.md).
+# processors; left to itself it waits for more memory than proofs take (docs/TRAPS.md).
 test:
 	RT_JOBS=$${RT_JOBS:-$$(nproc)} tools/timed rt ci
-	$(MAKE) examples
+	$(MAKE) program-tests
 	tools/test-wrong-bodies
 
-# Many by one check, over what earlier checks kept: the first time every crate is proved too.
+# Many edits by one check, beginning with what earlier checks kept: the first time every crate is proved too.
 wrong-bodies:
 	tools/wrong-bodies $(CRATES)
 
-# A program that is there is taken as it is: after a change of the source it is make build that makes another one.
-examples:
+# A program that is there is taken as it is: make build after a change of the sources.
+program-tests:
 	@test -x crates/filser/out/filser || $(MAKE) build
-	sh examples/run crates/filser/out/filser
-	sh examples/starts crates/filser/out/filser
-	sh examples/emulate crates/filser/out/filser
-	python3 examples/files crates/filser/out/filser
-	python3 examples/hostile crates/filser/out/filser 2000
-	python3 examples/jobs crates/filser/out/filser
-	python3 examples/forms crates/filser/out/filser
-	python3 examples/memory crates/filser/out/filser
-	python3 examples/program crates/filser/out/filser
-	python3 examples/syncs crates/filser/out/filser
+	tests/run_all.sh crates/filser/out/filser
 	tools/check-docs crates/filser/out/filser
 
 # The first time every crate below the program is proved too; what was proved is kept below crates/*/out.
 build:
-	@echo 'The program and all crates below it are proved before it is built: up to half an hour the first time, on'
-	@echo 'four processors, and later only what has changed. "so far: N of M functions checked" speaks of one crate.'
+	@echo 'This proves the program and all crates below it, and builds it: half an hour or more the first time, on four'
+	@echo 'processors, and later only what has changed. "so far: N of M functions checked" speaks of one crate.'
 	cd crates/filser && rt run -- --version
 	mkdir -p bin
 	cp crates/filser/out/filser bin/filser
 
-# The second session is refused a directory that nobody has made: status 1.
+# The second session is refused, since nobody has made a directory yet: status 1.
 run: build
 	@set -e; program=$$PWD/bin/filser; folder=$$(mktemp -d); cd $$folder; \
 	show() { printf '$$ %s\n' "$$1"; }; \

@@ -1,4 +1,4 @@
-//! The arguments of subcommands, as values of `clap`'s, and the words that stand beside a subcommand in the help.
+//! The arguments of subcommands, as values of `clap`'s, and the texts of their help.
 ghost use Rattle.std.specs.Prelude.{◌≡◌, IfOk, codes, false};
 ghost use Rattle.clap.specs.Words.{app_of, new_rule, rule_of, with_rule};
 ghost use Rattle.clap.specs.declared.builder.command.Command.TheViews.{out-Command as fields_of};
@@ -7,7 +7,7 @@ ghost use Rattle.arguments.specs.CommandLine.{dated, filed, flag, form_rule, for
 use clap::{Arg, ArgAction, Command};
 use std::alloc::{AllocError, Global};
 
-/// A text that has to be given.
+/// A required argument.
 pub(crate) fn wanted<'a>(alloc: Global, id: &'a str, help: &'a str) -> Arg<'a>
     ensures rule { rule_of result ≡ wanted id.entry.now }
     ensures local { result.global ≡ false }
@@ -15,14 +15,14 @@ pub(crate) fn wanted<'a>(alloc: Global, id: &'a str, help: &'a str) -> Arg<'a>
     Arg::new(alloc, id).required(true).help(help)
 }
 
-/// How many blocks a new image gets.
+/// The size of a new image.
 fn blocks<'a>(alloc: Global) -> Arg<'a>
     ensures rule { rule_of result ≡ numbered (codes "BLOCKS") 64 131072 }
     ensures local { result.global ≡ false }
 {
     Arg::new(alloc, "BLOCKS")
         .required(true)
-        .help("How many blocks of 128 words it has, 64 to 131072")
+        .help("Size of the volume in blocks of 128 words, 64 to 131072")
         .value_parser(clap::value_parser!(u32).range(64..=131072))
 }
 
@@ -33,7 +33,7 @@ fn date<'a>(alloc: Global) -> Arg<'a>
     Arg::new(alloc, "date")
         .long("date")
         .value_name("N")
-        .help("The date of what is written, 0 to 32767")
+        .help("Date of the files that are written, 0 to 32767")
         .default_value("0")
         .value_parser(clap::value_parser!(u32).range(0..=32767))
 }
@@ -45,7 +45,7 @@ fn minute<'a>(alloc: Global) -> Arg<'a>
     Arg::new(alloc, "minute")
         .long("minute")
         .value_name("N")
-        .help("Its minute of the day, 0 to 1439")
+        .help("Minute of that day, 0 to 1439")
         .default_value("0")
         .value_parser(clap::value_parser!(u32).range(0..=1439))
 }
@@ -62,7 +62,7 @@ pub(crate) fn with_argument<'a>(
     command.arg(argument)
 }
 
-/// A command with these words on what it does.
+/// A command with this sentence on what it does.
 pub(crate) fn about<'a>(command: Command<'a>, text: &'a str) -> Command<'a>
     ensures app { app_of result ≡ app_of command.entry }
     ensures local { (fields_of result).has_globals ≡ (fields_of command.entry).has_globals }
@@ -70,7 +70,7 @@ pub(crate) fn about<'a>(command: Command<'a>, text: &'a str) -> Command<'a>
     command.about(text)
 }
 
-/// A command with the date and the minute of what it writes.
+/// A command with the date and the minute of the files that it writes.
 #[tactic(auto, unfolding(crate::specs::CommandLine::dated))]
 pub(crate) fn dated<'a>(alloc: Global, command: Command<'a>) -> Result<Command<'a>, AllocError>
     ensures app { IfOk result (λ c. app_of c ≡ dated (app_of command.entry)) }
@@ -80,7 +80,7 @@ pub(crate) fn dated<'a>(alloc: Global, command: Command<'a>) -> Result<Command<'
     with_argument(command, minute(alloc))
 }
 
-/// A command with the number of blocks of a new image.
+/// A command with the size of a new image.
 #[tactic(auto, unfolding(crate::specs::CommandLine::sized))]
 pub(crate) fn sized<'a>(alloc: Global, command: Command<'a>) -> Result<Command<'a>, AllocError>
     ensures app { IfOk result (λ c. app_of c ≡ sized (app_of command.entry)) }
@@ -97,7 +97,7 @@ fn form<'a>(alloc: Global) -> Arg<'a>
     Arg::new(alloc, "form")
         .long("form")
         .value_name("N")
-        .help("The form of IMAGE: 1, eight bytes a word, or 2, nine bytes to two words")
+        .help("Form of IMAGE: 1 has eight bytes to a word, 2 has nine bytes to two words")
         .default_value("1")
         .value_parser(clap::value_parser!(u32).range(1..=2))
 }
@@ -111,7 +111,7 @@ pub(crate) fn formed<'a>(alloc: Global, command: Command<'a>) -> Result<Command<
     with_argument(command, form(alloc))
 }
 
-/// A command with one more example of its use below its help.
+/// A command with this text below its help.
 pub(crate) fn shown<'a>(command: Command<'a>, example: &'a str) -> Command<'a>
     ensures app { app_of result ≡ app_of command.entry }
     ensures local { (fields_of result).has_globals ≡ (fields_of command.entry).has_globals }
@@ -119,7 +119,7 @@ pub(crate) fn shown<'a>(command: Command<'a>, example: &'a str) -> Command<'a>
     command.after_help(example)
 }
 
-/// That bytes are words.
+/// The flag that bytes are words.
 fn words<'a>(alloc: Global) -> Arg<'a>
     ensures rule { rule_of result ≡ flag (codes "words") }
     ensures local { result.global ≡ false }
@@ -127,23 +127,23 @@ fn words<'a>(alloc: Global) -> Arg<'a>
     Arg::new(alloc, "words")
         .long("words")
         .action(ArgAction::SetTrue)
-        .help("As words: eight bytes each, the most significant first")
+        .help("Read or write words, not text: eight bytes each, most significant first")
 }
 
-/// A command with a file of a directory.
+/// A command on one file of a directory.
 #[tactic(auto, unfolding(crate::specs::CommandLine::filed))]
 pub(crate) fn filed<'a>(alloc: Global, command: Command<'a>) -> Result<Command<'a>, AllocError>
     ensures app { IfOk result (λ c. app_of c ≡ filed (app_of command.entry)) }
     ensures local { IfOk result (λ c. (fields_of c).has_globals ≡ (fields_of command.entry).has_globals) }
 {
-    let command = with_argument(command, wanted(alloc, "IMAGE", "The image to work on"))?;
-    let owner = wanted(alloc, "PPN", "Whose directory, in octal, as 10,20");
+    let command = with_argument(command, wanted(alloc, "IMAGE", "The image file"))?;
+    let owner = wanted(alloc, "PPN", "The directory, in octal, as 10,20");
     let command = with_argument(command, owner)?;
     let command = with_argument(command, wanted(alloc, "NAME", "The file, as FOO.TXT"))?;
     with_argument(command, words(alloc))
 }
 
-/// That lists are a table.
+/// The flag that lists are tables.
 pub(crate) fn tsv<'a>(alloc: Global) -> Arg<'a>
     ensures rule { rule_of result ≡ flag (codes "tsv") }
     ensures local { result.global ≡ false }
@@ -151,13 +151,13 @@ pub(crate) fn tsv<'a>(alloc: Global) -> Arg<'a>
     Arg::new(alloc, "tsv")
         .long("tsv")
         .action(ArgAction::SetTrue)
-        .help("A line for each file, its fields apart by tabs, and no totals")
+        .help("One line for each file, with tabs between its fields, and no totals")
 }
 
-/// A directory that may be left out.
+/// A directory, which may be left out.
 pub(crate) fn place<'a>(alloc: Global) -> Arg<'a>
     ensures rule { rule_of result ≡ new_rule (codes "PPN") }
     ensures local { result.global ≡ false }
 {
-    Arg::new(alloc, "PPN").help("Whose directory, in octal, as 10,20 [default: all]")
+    Arg::new(alloc, "PPN").help("The directory, in octal, as 10,20 [default: all]")
 }

@@ -13,27 +13,27 @@ use crate::arguments::{
 use clap::Command;
 use std::alloc::{AllocError, Global};
 
-/// What `--version` shows behind the name.
+/// The version that `--version` shows.
 const VERSION: &str = "0.1.0";
 
-/// What stands below the commands in the help.
+/// The text below the commands in the help.
 const NOTES: &str = "\
-Without a command the input is served as by run, on a fresh volume of 64
-blocks in memory, at date 0 and minute 0. It is gone at the end.
+Without a command, filser serves a session on a new volume of 64 blocks in
+memory, at date 0 and minute 0. The volume is gone at the end.
 
 Options of run, calls, put and get:
-  --date N    the date of what is written, 0 to 32767 [default: 0]
-  --minute N  its minute of the day, 0 to 1439 [default: 0]
-Of all commands, for the image that they name first:
-  --form N    1, eight bytes a word, or 2, nine bytes to two words
-              [default: 1]
+  --date N    date of the files that are written, 0 to 32767 [default: 0]
+  --minute N  minute of that day, 0 to 1439 [default: 0]
+Option of every command:
+  --form N    form of IMAGE: 1 has eight bytes to a word, 2 has nine bytes to
+              two words [default: 1]
 
-Exit status:
-  0  all was done
-  1  a line of the input was refused, or what was asked
-  2  the arguments were wrong
-  3  the image was refused, or its start found no memory
-  4  the device, the input or the output failed, another process has the
+Exit status, the highest that applies:
+  0  everything was done
+  1  a line, a call or the command was refused
+  2  the arguments are wrong
+  3  the image was refused, or there was no memory to start
+  4  a device, the input or the output failed, another process has the
      image, or memory ran out
 
 Example:
@@ -43,15 +43,15 @@ Example:
   filser list DISK.IMG
   filser get DISK.IMG 10,20 FOO.TXT > foo.txt
 
-Each run pays for one start, which reads the whole image's files, so one run
-over many lines beats many runs. One process serves an image at a time: it
-locks the file, which keeps away other runs of filser, and neither editors nor
-copies nor, on some network file systems, other machines.";
+Every run first reads all files of the image, so one run over many lines is
+faster than many runs. A run locks its image, and a second run on it is
+refused. The lock does not stop editors or copies, nor, on some network file
+systems, other machines.";
 
-/// What stands below the arguments of `list` in its help.
+/// The text below the arguments of `list` in its help.
 const LIST_NOTES: &str = "\
 With --tsv the fields of a line are PPN, name, extension, protection, mode,
-date, time, words and blocks; PPN, protection and mode are octal.
+date, time, words and blocks. PPN, protection and mode are octal.
 
 Example:
   filser list DISK.IMG 10,20
@@ -72,10 +72,10 @@ fn init_command<'a>(alloc: Global) -> Result<Command<'a>, AllocError>
 {
     let command = about(
         Command::new(alloc, "init"),
-        "Make an image of a volume with no directory",
+        "Make a new image, with no directory on it",
     );
     let command = shown(command, "Example:\n  filser init DISK.IMG 4096");
-    let command = with_argument(command, wanted(alloc, "IMAGE", "The file to make"))?;
+    let command = with_argument(command, wanted(alloc, "IMAGE", "The image file to make"))?;
     formed(alloc, sized(alloc, command)?)
 }
 
@@ -86,13 +86,13 @@ fn run_command<'a>(alloc: Global) -> Result<Command<'a>, AllocError>
 {
     let command = about(
         Command::new(alloc, "run"),
-        "Serve the lines of the input on an image",
+        "Serve a session: command lines from standard input",
     );
     let command = shown(
         command,
         "Example:\n  printf 'LOGIN [10,20]\\nDIRECTORY\\n' | filser run DISK.IMG",
     );
-    let command = with_argument(command, wanted(alloc, "IMAGE", "The image to serve"))?;
+    let command = with_argument(command, wanted(alloc, "IMAGE", "The image file"))?;
     formed(alloc, dated(alloc, command)?)
 }
 
@@ -103,13 +103,13 @@ fn calls_command<'a>(alloc: Global) -> Result<Command<'a>, AllocError>
 {
     let command = about(
         Command::new(alloc, "calls"),
-        "Serve the calls that the lines of the input spell on an image",
+        "Serve a call script: one monitor call on each line of standard input",
     );
     let command = shown(
         command,
         "Example:\n  printf '1 LOGIN 10,20 1000\\n1 EXA 121\\n' | filser calls DISK.IMG",
     );
-    let command = with_argument(command, wanted(alloc, "IMAGE", "The image to serve"))?;
+    let command = with_argument(command, wanted(alloc, "IMAGE", "The image file"))?;
     formed(alloc, dated(alloc, command)?)
 }
 
@@ -120,7 +120,7 @@ fn put_command<'a>(alloc: Global) -> Result<Command<'a>, AllocError>
 {
     let command = about(
         Command::new(alloc, "put"),
-        "Make a file of the input, in the place of one that is there",
+        "Store standard input as a file, replacing any file of that name",
     );
     let command = shown(
         command,
@@ -135,7 +135,10 @@ fn get_command<'a>(alloc: Global) -> Result<Command<'a>, AllocError>
     ensures app { IfOk result (λ c. app_of c ≡ get_app) }
     ensures local { IfOk result (λ c. (fields_of c).has_globals ≡ false) }
 {
-    let command = about(Command::new(alloc, "get"), "Print a file");
+    let command = about(
+        Command::new(alloc, "get"),
+        "Write a file to standard output",
+    );
     let command = shown(
         command,
         "Example:\n  filser get DISK.IMG 10,20 FOO.TXT > foo.txt",
@@ -149,12 +152,9 @@ fn list_command<'a>(alloc: Global) -> Result<Command<'a>, AllocError>
     ensures app { IfOk result (λ c. app_of c ≡ list_app) }
     ensures local { IfOk result (λ c. (fields_of c).has_globals ≡ false) }
 {
-    let command = about(
-        Command::new(alloc, "list"),
-        "Print the list of a directory, or of all that there are",
-    );
+    let command = about(Command::new(alloc, "list"), "List one directory, or all");
     let command = shown(command, LIST_NOTES);
-    let command = with_argument(command, wanted(alloc, "IMAGE", "The image to look at"))?;
+    let command = with_argument(command, wanted(alloc, "IMAGE", "The image file"))?;
     let command = with_argument(command, place(alloc))?;
     formed(alloc, with_argument(command, tsv(alloc))?)
 }
@@ -166,10 +166,10 @@ fn check_command<'a>(alloc: Global) -> Result<Command<'a>, AllocError>
 {
     let command = about(
         Command::new(alloc, "check"),
-        "End a change that was cut short, read the whole image, and say what it has",
+        "Finish an interrupted change, verify the whole image, report size and free blocks",
     );
     let command = shown(command, "Example:\n  filser check DISK.IMG");
-    let command = with_argument(command, wanted(alloc, "IMAGE", "The image to check"))?;
+    let command = with_argument(command, wanted(alloc, "IMAGE", "The image file"))?;
     formed(alloc, command)
 }
 
@@ -180,18 +180,18 @@ fn convert_command<'a>(alloc: Global) -> Result<Command<'a>, AllocError>
 {
     let command = about(
         Command::new(alloc, "convert"),
-        "Write what is on an image to a new one of the other form",
+        "Copy an image to a new one in the other form",
     );
     let command = shown(
         command,
         "Example:\n  filser convert DISK.IMG SMALL.IMG --form 1",
     );
-    let command = with_argument(command, wanted(alloc, "IMAGE", "The image to read"))?;
-    let command = with_argument(command, wanted(alloc, "NEW", "The file to make"))?;
+    let command = with_argument(command, wanted(alloc, "IMAGE", "The image file to copy"))?;
+    let command = with_argument(command, wanted(alloc, "NEW", "The image file to make"))?;
     formed(alloc, command)
 }
 
-/// With the subcommands that make an image, and serve an input on it.
+/// Adds the subcommands that make an image, and serve an input on it.
 #[tactic(auto, unfolding(crate::specs::CommandLine::serving))]
 fn with_serving<'a>(alloc: Global, command: Command<'a>) -> Result<Command<'a>, AllocError>
     ensures { IfOk result (λ c. app_of c ≡ serving (app_of command.entry)) }
@@ -201,7 +201,7 @@ fn with_serving<'a>(alloc: Global, command: Command<'a>) -> Result<Command<'a>, 
     with_one(command, calls_command(alloc)?)
 }
 
-/// With those that bring a file in and out.
+/// Adds those that bring a file in and out.
 #[tactic(auto, unfolding(crate::specs::CommandLine::filing))]
 fn with_filing<'a>(alloc: Global, command: Command<'a>) -> Result<Command<'a>, AllocError>
     ensures { IfOk result (λ c. app_of c ≡ filing (app_of command.entry)) }
@@ -210,7 +210,7 @@ fn with_filing<'a>(alloc: Global, command: Command<'a>) -> Result<Command<'a>, A
     with_one(command, get_command(alloc)?)
 }
 
-/// With those that look.
+/// Adds those that change no file.
 #[tactic(auto, unfolding(crate::specs::CommandLine::looking))]
 fn with_looking<'a>(alloc: Global, command: Command<'a>) -> Result<Command<'a>, AllocError>
     ensures { IfOk result (λ c. app_of c ≡ looking (app_of command.entry)) }
@@ -219,7 +219,7 @@ fn with_looking<'a>(alloc: Global, command: Command<'a>) -> Result<Command<'a>, 
     with_one(command, check_command(alloc)?)
 }
 
-/// With the one that converts.
+/// Adds the one that converts.
 #[tactic(auto, unfolding(crate::specs::CommandLine::converting))]
 fn with_converting<'a>(alloc: Global, command: Command<'a>) -> Result<Command<'a>, AllocError>
     ensures { IfOk result (λ c. app_of c ≡ converting (app_of command.entry)) }
@@ -227,13 +227,13 @@ fn with_converting<'a>(alloc: Global, command: Command<'a>) -> Result<Command<'a
     with_one(command, convert_command(alloc)?)
 }
 
-/// The program's name, with what help and version say of it.
+/// The program's name, version and help.
 fn program<'a>(alloc: Global) -> Command<'a>
     ensures { app_of result ≡ versioned (codes "filser") }
 {
     about(
         Command::new(alloc, "filser"),
-        "A TOPS-10 file service over one disk image",
+        "A TOPS-10 file service on one disk image",
     )
     .after_help(NOTES)
     .version(VERSION)
@@ -244,7 +244,7 @@ fn program<'a>(alloc: Global) -> Command<'a>
 ///
 /// # Errors
 ///
-/// `AllocError` where memory ran out.
+/// `AllocError` if memory ran out.
 #[tactic(auto, unfolding(crate::specs::CommandLine::command_line))]
 pub fn command_line<'a>(alloc: Global) -> Result<Command<'a>, AllocError>
     ensures { IfOk result (λ c. app_of c ≡ command_line) }

@@ -331,8 +331,7 @@ fn play_example(
     Ok(())
 }
 
-/// The example that examples/README.md walks through: job 2 reads on in the file that it looked up, which job 1
-/// supersedes.
+/// Job 2 reads on in the file that it looked up, while job 1 supersedes it.
 #[test]
 fn a_reader_across_a_supersede(rt: HostRuntime) -> Result<(), Fail> {
     let mut monitor = ready(&rt, rt.alloc(), 64)?;

@@ -1,6 +1,10 @@
 #!/usr/bin/env python3
-"""Puts files into images and gets them back, lists and checks images, and looks at what is printed and at the exit
-status: python3 examples/files PROGRAM. It prints a line for each thing that is not as it should be, and one at the end."""
+"""Tests put, get, list, check and convert: what each prints, its exit status, and the bytes that it leaves.
+
+usage: tests/put_get_list_convert.py PROGRAM
+
+Prints a line for each thing that is not as it should be, and one line at the end.
+"""
 
 import os
 import pty
@@ -361,13 +365,13 @@ def refusals(tries):
 
 def main():
     if len(sys.argv) != 2 or not os.access(sys.argv[1], os.X_OK):
-        print("usage: python3 examples/files PROGRAM", file=sys.stderr)
+        print("usage: tests/put_get_list_convert.py PROGRAM", file=sys.stderr)
         return 2
     with tempfile.TemporaryDirectory() as folder:
         tries = Tries(os.path.abspath(sys.argv[1]), folder)
         for part in [check, row, lists, tables, back, converts, progress, refusals]:
             part(tries)
-    print(f"files: {tries.count - tries.failed} as they should be, {tries.failed} not")
+    print(f"put_get_list_convert: {tries.count - tries.failed} as they should be, {tries.failed} not")
     return 1 if tries.failed else 0
 
 

@@ -1,17 +1,19 @@
 #!/usr/bin/env python3
-"""Serves call scripts of four jobs, and compares each answer with that of a model: python3 examples/jobs PROGRAM
-[COUNT].
+"""Compares what scripts of four jobs are answered with a model of the file machine.
 
-The model is machine.py beside it, and what the jobs do is in players.py. The volumes are small enough to be full at
-times. COUNT seeds (20 if not given), the same in every run; for each the four jobs follow each other in three ways: one
-job after the other, in turn, and at random. Of each reply, of each word that a job looks at, of the room that is left
-and of each file at the end it is said whether they are the model's."""
+usage: tests/against_model.py PROGRAM [COUNT]
+
+The model is model/machine.py, and model/players.py decides what the jobs do. The volumes are small enough to be full at
+times. For each of COUNT seeds (20 if not given), the same in every run, the four jobs follow each other in three ways:
+one job after the other, in turn, and at random. Each reply, each word that a job examines, the room that is left, and
+each file at the end must be the model's.
+"""
 
 import os
 import sys
 import tempfile
 
-from players import run, script, wrong_files
+from model.players import run, script, wrong_files
 
 ORDERS = ["apart", "in turn", "at random"]
 
@@ -39,7 +41,7 @@ def serve(program, folder, seed, order):
 
 def main():
     if len(sys.argv) not in (2, 3) or not os.access(sys.argv[1], os.X_OK):
-        print("usage: python3 examples/jobs PROGRAM [COUNT]", file=sys.stderr)
+        print("usage: tests/against_model.py PROGRAM [COUNT]", file=sys.stderr)
         return 2
     program, count = os.path.abspath(sys.argv[1]), int(sys.argv[2]) if len(sys.argv) == 3 else 20
     failed = lines = 0
@@ -51,7 +53,7 @@ def main():
                 failed += bool(wrong)
                 for what in wrong:
                     print(f"seed {seed}, {order}: {what}")
-    print(f"jobs: {3 * count - failed} scripts as they should be, {failed} not; {lines} lines")
+    print(f"against_model: {3 * count - failed} scripts as they should be, {failed} not; {lines} lines")
     return 1 if failed else 0
 
 

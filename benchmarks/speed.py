@@ -1,21 +1,22 @@
 #!/usr/bin/env python3
-"""What words cost on their way: python3 examples/speed PROGRAM
+"""Measures what words cost on their way to and from an image.
 
-Makes a volume of 131,072 blocks in a folder of its own (below /dev/shm where there is one, so that a sync costs
-nothing), with a file of 10 MiB and fifty of 1 MiB. A table has what a run takes, and how much of that there is for each
-word of the image, which is eight bytes:
+usage: benchmarks/speed.py PROGRAM
 
-  a start       the volume is recovered, and all that files reach is read
-  OUT           a file is superseded by one OUT of 1016 blocks, beside a start
-  put 1 MiB     a file of 1 MiB is superseded, from words on the standard input, beside a start
-  get 10 MiB    a file of 10 MiB is read as words, beside a start
-  type 10 MiB   the same as text, of five characters in a word
+Makes a volume of 131,072 blocks in a folder of its own (below /dev/shm if there is one, so that a sync costs nothing),
+with a file of 10 MiB and fifty of 1 MiB. The table has what a run takes, in all and for each word of the image (eight
+bytes):
 
-What is counted are instructions of the program, by valgrind, which are the same in each run and on a machine that has
-other things to do; a plain copy takes one for each word. What the system does for the program is no part of them. So
-the last column has the processor's time, the system's with the program's, as a multiple of what a plain read of as many
-bytes takes (dd, a MiB at a time): the least of fifteen runs of each, which on a machine that has other things to do is
-still rough. It isn't part of the gate.
+  a start       recovers the volume, and reads all that files reach
+  OUT           supersedes a file by one OUT of 1016 blocks, besides a start
+  put 1 MiB     supersedes a file of 1 MiB by words on standard input, besides a start
+  get 10 MiB    reads a file of 10 MiB as words, besides a start
+  type 10 MiB   reads the same as text, five characters to a word
+
+The unit is instructions of the program, counted by valgrind: the same number in each run, even on a busy machine. A plain
+copy takes one for each word. The system's work is no part of them, so the last column has the processor's time, the
+system's included, as a multiple of what a plain read of as many bytes takes (dd, a MiB at a time): the least of fifteen
+runs of each, which is still rough on a busy machine. This is no part of the gate.
 """
 import os
 import re
@@ -79,7 +80,7 @@ def words_of(count):
 
 def main():
     if len(sys.argv) != 2 or not os.access(sys.argv[1], os.X_OK):
-        print("usage: python3 examples/speed PROGRAM", file=sys.stderr)
+        print("usage: benchmarks/speed.py PROGRAM", file=sys.stderr)
         return 2
     program = os.path.abspath(sys.argv[1])
     place = "/dev/shm" if os.access("/dev/shm", os.W_OK) else None

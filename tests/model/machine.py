@@ -1,6 +1,8 @@
-"""A model of the file machine, written apart from the program: what each line of a call script is answered with, and
-how many blocks are left. A file is a list of words; there are no blocks, no table and no log in it. Numbers are octal
-where the manual's are."""
+"""A model of the file machine, written independently of the program.
+
+It answers each line of a call script, and tells how many blocks are left. A file is a list of words; there are no blocks,
+no table and no log in it. Numbers are octal where the manual's are.
+"""
 
 RIGHT = 0o777777
 USE = 1 << 35

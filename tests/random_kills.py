@@ -1,13 +1,13 @@
 #!/usr/bin/env python3
-"""kills: ends the program by a signal at a random moment, many times over, and looks that each file is whole behind it.
+"""Kills the program at random moments, many times over, and checks that each file is whole afterwards.
 
-usage: examples/kills PROGRAM [TIMES [SEED]]
+usage: tests/random_kills.py PROGRAM [TIMES [SEED]]
 
-A process of `filser calls` writes FOO.DAT over and over, each time with as many blocks as no version before it of the
-same process had, and each word of a version is its number. It is ended by SIGKILL within some 40 milliseconds. Then
-`filser check` accepts the image, `filser run` lists one file, and `filser get --words` gives the version that has as many
-blocks, whole, which is the one of the last CLOSE that was answered or of the one behind it. The last line is
-'N passed, M failed'. It isn't part of the gate, since it takes its time from the clock.
+A process of `filser calls` writes FOO.DAT over and over, each version with one block more than the last, and each word
+of a version is its number. It is killed by SIGKILL within some 40 milliseconds. Then `filser check` must accept the
+image, `filser run` must list one file, and `filser get --words` must give a version with as many blocks, whole: that of
+the last answered CLOSE, or the next one. The last line is 'N passed, M failed'. This is no part of the gate, since it
+depends on the clock.
 """
 import pathlib
 import random
@@ -81,7 +81,7 @@ def look(program, image, first, answered, before):
 
 def main():
     if len(sys.argv) not in (2, 3, 4):
-        sys.exit("usage: examples/kills PROGRAM [TIMES [SEED]]")
+        sys.exit("usage: tests/random_kills.py PROGRAM [TIMES [SEED]]")
     program = str(pathlib.Path(sys.argv[1]).resolve())
     times = int(sys.argv[2]) if len(sys.argv) > 2 else 200
     rng = random.Random(int(sys.argv[3]) if len(sys.argv) > 3 else 1)

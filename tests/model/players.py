@@ -1,12 +1,14 @@
-"""Jobs that write, supersede, update, append to, read, rename and delete the same few files of two directories, by
-command lists and through rings; now and then a list or a header makes no sense. What they do next goes by a model of
-the file machine, machine.py, and by a seed, and is the same in every run."""
+"""Jobs that write, supersede, update, append to, read, rename and delete the same few files of two directories.
+
+They use command lists and rings; now and then a list or a header makes no sense. What a job does next depends on a model
+of the file machine (machine.py) and on a seed, so it is the same in every run.
+"""
 
 import os
 import random
 import subprocess
 
-from machine import DSK, DUMP, RIGHT, SYSTEM, USE, Machine
+from model.machine import DSK, DUMP, RIGHT, SYSTEM, USE, Machine
 
 EVENTS = 300
 OWNER, OTHER = (0o10, 0o20), (0o11, 0o5)

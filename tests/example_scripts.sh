@@ -1,15 +1,17 @@
 #!/bin/sh
-# Runs the examples of this folder, each on a new image of 64 blocks, and compares what they print, and their exit
-# status, with what is stored beside them: sh examples/run PROGRAM.
+# Runs the call scripts and sessions of examples/, each on a new image of 64 blocks, and compares what they print, and
+# their exit status, with what is stored beside them.
+#
+# usage: tests/example_scripts.sh PROGRAM
 set -eu
 unset CDPATH
 
 if [ $# -ne 1 ] || [ ! -f "$1" ] || [ ! -x "$1" ]; then
-    echo "usage: sh examples/run PROGRAM" >&2
+    echo "usage: tests/example_scripts.sh PROGRAM" >&2
     exit 2
 fi
 program=$(cd "$(dirname "$1")" && pwd)/$(basename "$1")
-here=$(cd "$(dirname "$0")" && pwd)
+examples=$(cd "$(dirname "$0")/../examples" && pwd)
 room=$(mktemp -d)
 trap 'rm -rf "$room"' EXIT
 trap 'exit 1' HUP INT TERM
@@ -27,8 +29,8 @@ new() {
 # try NAME COMMAND KIND STATUS: the input NAME.KIND, served by `filser COMMAND`, has to end with this status.
 try() {
     status=0 well=ok
-    "$program" "$2" "$image" <"$here/$1.$3" >"$room/out" || status=$?
-    if ! diff -u "$here/$1.$3.out" "$room/out"; then
+    "$program" "$2" "$image" <"$examples/$1.$3" >"$room/out" || status=$?
+    if ! diff -u "$examples/$1.$3.out" "$room/out"; then
         well='it printed something else' failed=1
     fi
     if [ "$status" -ne "$4" ]; then

@@ -1,15 +1,17 @@
 #!/bin/sh
-# Runs the two emulators of this folder, each on a new image, and compares what they print: sh examples/emulate PROGRAM.
-# The one in C is left out where there is no C compiler.
+# Runs the two emulators of examples/, each on a new image, and compares what they print. Without a C compiler only the one
+# in Python is run.
+#
+# usage: tests/example_emulators.sh PROGRAM
 set -eu
 unset CDPATH
 
 if [ $# -ne 1 ] || [ ! -f "$1" ] || [ ! -x "$1" ]; then
-    echo "usage: sh examples/emulate PROGRAM" >&2
+    echo "usage: tests/example_emulators.sh PROGRAM" >&2
     exit 2
 fi
 program=$(cd "$(dirname "$1")" && pwd)/$(basename "$1")
-here=$(cd "$(dirname "$0")" && pwd)
+examples=$(cd "$(dirname "$0")/../examples" && pwd)
 room=$(mktemp -d)
 trap 'rm -rf "$room"' EXIT
 trap 'exit 1' HUP INT TERM
@@ -27,11 +29,11 @@ judge() {
 
 "$program" init "$room/A.IMG" 64
 printf 'DONE\n1 2 777777777777\nSTOPPED 020017\n' >"$room/wanted"
-python3 "$here/emulator.py" "$program" "$room/A.IMG" >"$room/out" || failed=1
+python3 "$examples/emulator.py" "$program" "$room/A.IMG" >"$room/out" || failed=1
 judge emulator.py
 
 if command -v cc >/dev/null; then
-    cc -Wall -Wextra -Werror -o "$room/emulator" "$here/emulator.c"
+    cc -Wall -Wextra -Werror -o "$room/emulator" "$examples/emulator.c"
     printf '1 LOGIN 10,20 1000: DONE\n1 EXA 121: VALUE 000000000140\n' >"$room/wanted"
     "$room/emulator" "$program" "$room/A.IMG" >"$room/out" || failed=1
     judge emulator.c

@@ -1,8 +1,13 @@
 #!/usr/bin/env python3
-"""Runs the program on images that were written out by hand and on files that are none, under hosts that refuse a call,
-over an input that breaks off, and with words that no command takes: python3 examples/program PROGRAM. Of each run it
-looks at what is printed, at what is told on the standard error, at the exit status and at the bytes that the image has
-then. It prints a line for each thing that is not as it should be, and one at the end."""
+"""Tests what the program refuses, and what it says of a host that fails.
+
+usage: tests/refusals_and_faults.py PROGRAM
+
+The program gets images that were written by hand and files that are no images; hosts that refuse a call; an input that
+breaks off; and arguments that no command takes. Each run is judged by what it prints, by its standard error, by its exit
+status, and by the bytes that the image has then. Prints a line for each thing that is not as it should be, and one line
+at the end.
+"""
 
 import ctypes
 import errno
@@ -457,7 +462,7 @@ CASES = [
 
 def main():
     if len(sys.argv) != 2 or not os.access(sys.argv[1], os.X_OK):
-        print("usage: python3 examples/program PROGRAM", file=sys.stderr)
+        print("usage: tests/refusals_and_faults.py PROGRAM", file=sys.stderr)
         return 2
     with tempfile.TemporaryDirectory() as folder:
         # Another user may not come to where the program is, so a copy of it is run.
@@ -468,7 +473,7 @@ def main():
         for case in CASES:
             tries.enter(os.path.join(folder, case.__name__))
             case(tries)
-    print(f"program: {tries.count - tries.failed} as they should be, {tries.failed} not")
+    print(f"refusals_and_faults: {tries.count - tries.failed} as they should be, {tries.failed} not")
     return 1 if tries.failed else 0
 
 

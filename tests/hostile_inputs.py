@@ -1,12 +1,19 @@
 #!/usr/bin/env python3
-"""Serves images that were spoiled on purpose, and inputs that make no sense: python3 examples/hostile PROGRAM [COUNT].
+"""Serves images that were spoiled on purpose, and inputs that make no sense.
 
-An image of a few files gets one to three of its words changed, in places that mean something. Each start of it ends, and
-prints that it is a volume, or why it is none, and the same of an image of form 2 with these words. One that is refused
-keeps its bytes, but for a change that recovery ends. One that is served has each of its files read, is filled to its last
-block, and emptied, and is a volume then. Inputs are random bytes, and lines that were cut and put together anew: each line
-is answered, and lines that say nothing change nothing. COUNT images and as many inputs (200 if not given), the same in every run. The last line says how many were as
-they should be."""
+usage: tests/hostile_inputs.py PROGRAM [COUNT]
+
+Spoiled images: an image of a few files gets one to three of its words changed, in places that mean something, in form 1
+and in form 2. Each start ends, and says that the image is a volume, or why not. A refused image keeps its bytes, except
+for a commit that recovery finishes. A served image has each file read, is filled to its last block and emptied, and is
+still a volume then.
+
+Inputs: random bytes, and lines that were cut and put together anew. Each line is answered, and a line that means nothing
+changes nothing.
+
+COUNT images and COUNT inputs (200 if not given), the same in every run. The last line says how many were as they should
+be.
+"""
 
 import os
 import random
@@ -276,14 +283,14 @@ def inputs(program, count):
 
 def main():
     if len(sys.argv) not in (2, 3) or not os.access(sys.argv[1], os.X_OK):
-        print("usage: python3 examples/hostile PROGRAM [COUNT]", file=sys.stderr)
+        print("usage: tests/hostile_inputs.py PROGRAM [COUNT]", file=sys.stderr)
         return 2
     count = int(sys.argv[2]) if len(sys.argv) == 3 else 200
     with tempfile.TemporaryDirectory() as folder:
         program = Program(os.path.abspath(sys.argv[1]), folder)
         served = images(program, count)
         inputs(program, count)
-    print(f"hostile: {program.count - program.failed} as they should be, {program.failed} not; "
+    print(f"hostile_inputs: {program.count - program.failed} as they should be, {program.failed} not; "
           f"{served} of {count} spoiled images were served")
     return 1 if program.failed else 0
 

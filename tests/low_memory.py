@@ -1,13 +1,15 @@
 #!/usr/bin/env python3
-"""Serves call scripts of four jobs with too little memory, and compares each answer with that of a model: python3
-examples/memory PROGRAM [COUNT].
+"""Serves call scripts of four jobs with too little memory, and compares each answer with a model.
 
-The model is machine.py beside it, and what the jobs do is in players.py. For each of COUNT seeds (10 if not given) the
-program is given so many pages of memory as it takes to start, one more, and so on, up to those with which it serves the
-whole script. And it is served a line at a time, each with no more memory than it has, and where it asks for some, once
-more with ample memory. Where an event is answered NOMEMORY, the model isn't asked: all is as it was before, so that
-each event behind it has to be the model's again; and what takes no memory is never answered so. When the program has
-ended it is started anew: the room that is left is the model's, and so is each word of each file."""
+usage: tests/low_memory.py PROGRAM [COUNT]
+
+The model is model/machine.py, and model/players.py decides what the jobs do. For each of COUNT seeds (10 if not given)
+the program gets as many pages of memory as it takes to start, one more, and so on, up to those with which it serves the
+whole script. Then it is served one line at a time, each with no more memory than the process has, and once more with
+ample memory if it asks for some. After a NOMEMORY everything must be as before, so each later answer must be the model's
+again; calls that take no memory must never be answered NOMEMORY. At the end the program is started anew, and its room
+and each word of each file must be the model's.
+"""
 
 import copy
 import os
@@ -16,8 +18,8 @@ import subprocess
 import sys
 import tempfile
 
-from machine import Machine
-from players import JOBS, run, script, wrong_files
+from model.machine import Machine
+from model.players import JOBS, run, script, wrong_files
 
 BLOCKS = 160
 PAGE = 4096
@@ -152,7 +154,7 @@ def try_seed(program, folder, seed):
 
 def main():
     if len(sys.argv) not in (2, 3) or not os.access(sys.argv[1], os.X_OK):
-        print("usage: python3 examples/memory PROGRAM [COUNT]", file=sys.stderr)
+        print("usage: tests/low_memory.py PROGRAM [COUNT]", file=sys.stderr)
         return 2
     program, count = os.path.abspath(sys.argv[1]), int(sys.argv[2]) if len(sys.argv) == 3 else 10
     limits = refusals = again = failed = 0
@@ -163,7 +165,7 @@ def main():
             failed += bool(wrong)
             for what in wrong[:3]:
                 print(f"seed {seed}, {what}")
-    print(f"memory: {count - failed} scripts as they should be, {failed} not; {limits} limits, {refusals} events "
+    print(f"low_memory: {count - failed} scripts as they should be, {failed} not; {limits} limits, {refusals} events "
           f"refused, {again} more served when they were asked again")
     return 1 if failed or not refusals or not again else 0
 

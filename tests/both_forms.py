@@ -1,11 +1,14 @@
 #!/usr/bin/env python3
-"""Plays the worked rows of crates/rows/stdin over images of both forms: python3 examples/forms PROGRAM.
+"""Plays the worked rows of crates/rows/stdin over images of both forms.
 
-Each row begins with the image that its lines describe, once in form 1 and once in form 2. Its lines of sessions go through
-`filser run`, and its lines of calls through `filser calls`. Both forms print the same, and end with the same status and
-the same words in each block; a row that has sessions alone prints what the row wants. The top of crates/rows/stdin says
-what its lines mean. Then images of several sizes are converted there and back, and one of them by processes that are
-interrupted. It prints a line for each thing that is not as it should be, and one at the end."""
+usage: tests/both_forms.py PROGRAM
+
+Each row begins with the image that its lines describe, once in form 1 and once in form 2. Its session lines go through
+`filser run`, and its calls through `filser calls`. Both forms must print the same, and end with the same status and the
+same words in each block; a row that has only sessions must print what the row wants. The top of crates/rows/stdin says
+what its lines mean. Then images of several sizes are converted there and back, one of them by processes that are
+interrupted. Prints a line for each thing that is not as it should be, and one line at the end.
+"""
 
 import os
 import re
@@ -248,7 +251,7 @@ class Tries:
 
 def main():
     if len(sys.argv) != 2 or not os.access(sys.argv[1], os.X_OK):
-        print("usage: python3 examples/forms PROGRAM", file=sys.stderr)
+        print("usage: python3 tests/both_forms.py PROGRAM", file=sys.stderr)
         return 2
     here = os.path.dirname(os.path.abspath(__file__))
     rows = [Row(*row) for row in rows_of(os.path.join(here, "..", "crates", "rows", "stdin"))]
@@ -260,7 +263,7 @@ def main():
         for blocks in (64, 65, 4608, 4609, 10000, 131072):
             tries.size(blocks)
         tries.interrupted()
-    print(f"forms: {len(rows)} rows, {tries.count - tries.failed} as they should be, {tries.failed} not")
+    print(f"both_forms: {len(rows)} rows, {tries.count - tries.failed} as they should be, {tries.failed} not")
     return 1 if tries.failed else 0
 
 

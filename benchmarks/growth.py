@@ -1,16 +1,15 @@
 #!/usr/bin/env python3
-"""growth: what a call costs as a directory or a volume grows.
+"""Measures what a call costs as a directory or a volume grows.
 
-usage: examples/growth PROGRAM [LARGEST] [--time]
+usage: benchmarks/growth.py PROGRAM [LARGEST] [--time]
 
-Images are made in a folder of their own (below /dev/shm where there is one, so that a sync costs nothing), with 100,
-1,000, 10,000 and 40,000 empty files (up to LARGEST), all in one directory and spread over 100 directories. For each a
-table line says what a start takes, and then what each LOOKUP, each create, each supersede, and a list of all
-directories take beside that, with its ratio to the line of 100 files. A second table has the start of volumes of 64 to
-131,072 blocks, empty and filled. What is counted are thousands of instructions of the program, by valgrind, which are
-the same in each run and on a machine that has other things to do; with --time, or where there is no valgrind,
-microseconds of a processor, the least of nine runs. What the system does for the program is no part of the
-instructions, and is one of the time. It isn't part of the gate.
+Makes images in a folder of its own (below /dev/shm if there is one, so that a sync costs nothing) with 100, 1,000, 10,000
+and 40,000 empty files (up to LARGEST), all in one directory and spread over 100 directories. For each of them a line of
+the first table gives what a start takes, and what each LOOKUP, create, supersede and list of all directories takes
+besides, with its ratio to the line of 100 files. A second table has the start of volumes of 64 to 131,072 blocks, empty
+and full. The unit is thousands of instructions of the program, counted by valgrind: the same number in each run, even on
+a busy machine. With --time, or if there is no valgrind, it is microseconds of a processor, the least of nine runs. The
+system's work is part of the time, but not of the instructions. This is no part of the gate.
 """
 import os
 import pathlib

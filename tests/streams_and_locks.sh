@@ -1,13 +1,14 @@
 #!/bin/sh
-# Starts the program in ways that it isn't meant to be started in, and looks that none of them spoils an image: with
-# standard streams that are closed or lead to the image, beside another process, on files that are no images, where there
-# is no room. Compares what is printed, what is told on the standard error, the exit status and the image's bytes:
-# sh examples/starts PROGRAM.
+# Starts the program in ways that it isn't meant to be started in: with standard streams that are closed or lead to the
+# image, beside another process, on files that are no images, and with no space left for a new image. No image may be
+# spoiled. Compares what is printed, the standard error, the exit status and the image's bytes.
+#
+# usage: tests/streams_and_locks.sh PROGRAM
 set -eu
 unset CDPATH
 
 if [ $# -ne 1 ] || [ ! -f "$1" ] || [ ! -x "$1" ]; then
-    echo "usage: sh examples/starts PROGRAM" >&2
+    echo "usage: tests/streams_and_locks.sh PROGRAM" >&2
     exit 2
 fi
 program=$(cd "$(dirname "$1")" && pwd)/$(basename "$1")

@@ -1,0 +1,23 @@
+#!/bin/sh
+# Runs every test of the built program that belongs to the gate, one after the other, and stops at the first that fails.
+#
+# usage: tests/run_all.sh PROGRAM
+set -eu
+unset CDPATH
+
+if [ $# -ne 1 ] || [ ! -f "$1" ] || [ ! -x "$1" ]; then
+    echo "usage: tests/run_all.sh PROGRAM" >&2
+    exit 2
+fi
+program=$(cd "$(dirname "$1")" && pwd)/$(basename "$1")
+cd "$(dirname "$0")"
+
+./example_scripts.sh "$program"
+./example_emulators.sh "$program"
+./streams_and_locks.sh "$program"
+./put_get_list_convert.py "$program"
+./hostile_inputs.py "$program" 2000
+./against_model.py "$program"
+./both_forms.py "$program"
+./low_memory.py "$program"
+./refusals_and_faults.py "$program"
