@@ -1,5 +1,5 @@
 #!/usr/bin/env python3
-"""Counts the syncs that the program makes: python3 examples/syncs PROGRAM.
+"""Counts the syncs that the program makes: python3 tests/syncs_of_each_call.py PROGRAM.
 
 No proof covers the system's own sync: the library promises nothing about that call, so one line of the program is
 trusted to make it. The program serves a call script and a session under strace, line by line. A start syncs the image
@@ -15,7 +15,7 @@ import subprocess
 import sys
 import tempfile
 
-from machine import Machine
+from model.machine import Machine
 
 BLOCKS = 64
 LIMIT = 60
@@ -68,7 +68,6 @@ LINES = [
     ("TYPE FOO.TXT", "HELLO", NONE),
     ("MAKDIR [10,20]", "?File name already exists", NONE),
 ]
-
 
 class Counts:
     """Counts the syncs of runs in a folder with an image."""
@@ -132,17 +131,15 @@ class Counts:
             self.judge(count == syncs, f"{line}: {count} syncs and not {syncs}")
         self.judge(counts[-1] == 0, f"{' '.join(words)}: {counts[-1]} syncs after the last line")
 
-
 def may_trace():
     """Tells whether strace is installed and may trace."""
     if not shutil.which("strace"):
         return False
     return subprocess.run(["strace", "-o", "/dev/null", "true"], capture_output=True, check=False).returncode == 0
 
-
 def main():
     if len(sys.argv) != 2 or not os.access(sys.argv[1], os.X_OK):
-        print("usage: python3 examples/syncs PROGRAM", file=sys.stderr)
+        print("usage: python3 tests/syncs_of_each_call.py PROGRAM", file=sys.stderr)
         return 2
     if not may_trace():
         print("syncs: SKIPPED, there is no strace that may trace (apt-get install strace)")
@@ -155,7 +152,6 @@ def main():
         counts.expect(["run", "J.IMG"], LINES)
     print(f"syncs: {counts.lines} lines, {counts.failed} failures")
     return 1 if counts.failed else 0
-
 
 if __name__ == "__main__":
     sys.exit(main())
