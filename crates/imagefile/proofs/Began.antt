@@ -1,8 +1,4 @@
-<<<<<<< HEAD
--- What a disk is made of whose file began as is supposed.
-=======
 -- A disk over a file that was asked for its length and nothing else.
->>>>>>> h73
 use Rattle.std.proofs.Common.{◌≡◌, ℕ, List, [], Result, Ok, Err, IfOk, subst, sym}
 use Rattle.blockdisk.specs.Laws.{keeps_still}
 use Rattle.imagefile.specs.File.{FileState}
@@ -16,11 +12,7 @@ use Rattle.imagefile.specs.Unseen.{Unseen}
 use Rattle.imagefile.specs.Recorded.{recorded}
 use Rattle.imagefile.specs.Began.{BeganAs}
 
-<<<<<<< HEAD
--- the disk of an image that was asked nothing but its length
-=======
 -- with the number of blocks that the length gives
->>>>>>> h73
 pub image_began : (form : Form) (u : Unseen) (blocks : ℕ) (s : FileState)
     → IsImageOf form blocks (with_failures (recorded u []) 0) s → BeganAs form u (image_state form blocks s)
 image_began form u blocks s image = record {
@@ -29,11 +21,7 @@ image_began form u blocks s image = record {
       (image_keeps form blocks (recorded u []) s (image.keeps h));
 }
 
-<<<<<<< HEAD
--- where one is made of it
-=======
 -- the same for the answer of a call that makes the disk
->>>>>>> h73
 pub opened_began : {D E : Type 0} (result : Result D E) (form_of : D → Form) (blocks_of : D → ℕ)
     (file_of : D → FileState) (form : Form) (u v : Unseen) (calls : List Call) (failures : ℕ) → v ≡ u → calls ≡ []
     → failures ≡ 0 → IfOk result (λ disk. form_of disk ≡ form)

@@ -1,8 +1,4 @@
-<<<<<<< HEAD
--- The disk of an image whose file began as is supposed.
-=======
 -- The disk of an image whose file began in a given state.
->>>>>>> h73
 use Rattle.std.specs.Prelude.{◌≡◌, ◌*◌, ℕ, []}
 use Rattle.blockdisk.specs.Disk.{DiskState, Still}
 use Rattle.imagefile.specs.Image.{block_length, image_state}
@@ -10,21 +6,12 @@ use Rattle.imagefile.specs.declared.form.Form.{Form}
 use Rattle.imagefile.specs.Unseen.{Unseen, size_of}
 use Rattle.imagefile.specs.Recorded.{recorded}
 
-<<<<<<< HEAD
--- the disk of so many blocks whose image is a file that began like this, and of which nothing was asked yet
-abbrev pub begun_image : Form → ℕ → Unseen → DiskState
-begun_image form blocks u = image_state form blocks (recorded u [])
-
--- The file of this disk's image began like this, and was only read: while it has been honest, the disk holds what it
--- held before the first call, and a crash leaves what it could leave then.
-=======
 -- the disk of n blocks over a file that began like this and has not been used yet
 abbrev pub begun_image : Form → ℕ → Unseen → DiskState
 begun_image form blocks u = image_state form blocks (recorded u [])
 
 -- The file under this disk began like this and was only read since. While the disk is honest, it holds what it held
 -- before the first call, and a crash leaves what it could leave then.
->>>>>>> h73
 pub record BeganAs (form : Form) (u : Unseen) (d : DiskState) : Type 0 where
   pub size : d.honest → size_of u ≡ block_length form * d.size
   pub still : d.honest → Still (begun_image form d.size u) d

@@ -19,8 +19,5 @@ pub mod RecordedLaws
 pub mod SeekingFile
 pub mod Streams
 pub mod Began
-<<<<<<< HEAD
-=======
 pub mod Outcomes
 pub mod Endings
->>>>>>> h73

@@ -27,11 +27,7 @@ pub struct HostFile<C: FileCalls = SeekingFile> {
     failures: u64,
     failure: Option<Error>,
     size: Option<u64>,
-<<<<<<< HEAD
-    // Why the first one was is known as soon as there is one.
-=======
     // If a call has failed, the reason of the first failure is known.
->>>>>>> h73
     ghost told: { failure ≡ None → failures ≡ 0 },
 }
 
