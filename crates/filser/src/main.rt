@@ -45,6 +45,7 @@ pub use error::RequestError;
 pub use fault::{HostFault, ImageFault};
 pub use host::{Host, MakingLeave, NewFile, OpeningLeave, RemovalRight, SystemHost};
 pub use identity::FileId;
+pub use lines::LineReader;
 pub use message::Message;
 pub use outcome::{Leaves, Run};
 pub use program::work;
@@ -98,7 +99,7 @@ fn run(rt: &HostRuntime) -> io::Result<u8> {
         &missing,
         telling,
         Leaves { image, new },
-        &mut rt.reader(),
+        &mut LineReader::new(rt.reader()),
         &mut output,
         &mut errors,
     );

@@ -50,7 +50,7 @@ pub fn work<H: Host, R: Read, W: Write, E: Write>(
     missing: &MissingStreams,
     telling: Telling,
     leaves: Leaves,
-    reader: &mut R,
+    reader: &mut LineReader<R>,
     writer: &mut W,
     errors: &mut E,
 ) -> Run
@@ -63,7 +63,7 @@ pub fn work<H: Host, R: Read, W: Write, E: Write>(
         → fault_of command_line (map (λ w. w.now) words.now) ≡ [] → result.code ≢ 2 }
     // What was done with the images, what was printed, and the status of that, unless the end of the text can't be
     // written.
-    ensures ran { (status : Statuses) × (left : Option (List ℕ)) × (full : Option (List ℕ))
+    ensures ran { (status : Statuses) × (full : Option (List ℕ))
         × ((result.code ≡ status_code status) ⊎ (result.code ≡ 4)) × Keeps full (W.contents writer.new)
         × WasRun (H.facts host.now) (⟦<Run as Seen>⟧.views) missing.now (record {
           opening = leaves.image;
@@ -74,14 +74,13 @@ pub fn work<H: Host, R: Read, W: Write, E: Write>(
           new = result.new;
           memory = result.memory;
         }) (fault_of command_line (map (λ w. w.now) words.now))
-        (subcommand_of command_line (map (λ w. w.now) words.now)) (R.remaining reader.old) left
+        (subcommand_of command_line (map (λ w. w.now) words.now)) (R.remaining reader.old.reader) (R.remaining reader.new.reader)
         (W.contents writer.old) full status }
 {
-    let mut lines = LineReader::new(reader);
     let outcome = answer(
-        host, alloc, words, missing, telling, leaves, &mut lines, writer, errors,
+        host, alloc, words, missing, telling, leaves, reader, writer, errors,
     );
-    if let Some((line, fault)) = lines.fault() {
+    if let Some((line, fault)) = reader.fault() {
         report(
             errors,
             "standard input",
