@@ -13,8 +13,7 @@ use Rattle.meaning.specs.Retrieval.{Run, run_blocks, count_up}
 use Rattle.retrieval.specs.Runs.{pair_of, pairs_of, blocks_of_runs, IsAtOffset, behind, longest_runs, AreKept}
 use Rattle.retrieval.specs.declared.run.Run.{Run as RunValue}
 use Rattle.retrieval.proofs.RunLists.{length-count_up}
-use Rattle.retrieval.proofs.LongestRuns.{longest_behind, behind_last, blocks_of_longest, NoneAdjoins}
-use Rattle.retrieval.proofs.LongestRuns.{longest_apart}
+use Rattle.retrieval.proofs.LongestRuns.{longest_behind, behind_last, blocks_of_longest, NoneAdjoins, longest_apart}
 use Rattle.meaning.proofs.SpliceLaws.{below_or_not}
 
 -- A run behind the first so many.

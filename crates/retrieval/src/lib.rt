@@ -22,8 +22,8 @@
 //!    and are there, or names a data block that is damaged; such a block is never answered as words.
 //!    (`words`, `whole`, `few`, `damaged`)
 //! 8. After `put_words` the blocks hold the body with the words put, zeros before them where it ended
-//!    before; none is written that another version reaches, and the table holds one for the other. If words of a
-//!    block stay and it is damaged, that block is refused, and never taken for words.
+//!    before; none is written that another version reaches, and the table holds one for the other. A damaged block
+//!    is refused if words of it stay, and no other is; it is never taken for words.
 //!    (`body`, `length`, `counted`, `modified`, `held`, `whole`, `edge`)
 //! 9. Memory is taken for the lists of runs and of ribs and for the words that are read, and a `Version` whose
 //!    growth is refused stays as it was. `take_retrieval_blocks` and `write_retrieval_blocks` do what
