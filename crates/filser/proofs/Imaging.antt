@@ -247,10 +247,10 @@ copied_since form v mid from target to began sound h p = record {
       (λ c may. inl (c, may, λ n few. refl));
 }
 
-module _ {H M F D I : Type 0} (facts : HostFacts H) (views : Views M F D I) (sink full : Option (List ℕ)) (status : Status)
-    where
+module _ {H L M F D I : Type 0} (facts : HostFacts H) (views : Views M F D I) (sink full : Option (List ℕ))
+    (status : Status) where
   on_copy_so : (new : List ℕ) (form : Form) (v : Unseen) (mid from : DiskState) (target to : D)
-      (disks : Disks M F D I) → IsNewDisk facts views new form mid.size v target → BeganAs form v (views.disk target)
+      (disks : Disks L F D I) → IsNewDisk facts views new form mid.size v target → BeganAs form v (views.disk target)
       → (views.disk target).failures ≡ 0 → SameDisk (views.disk target) (views.disk to)
       → IsCopyRun views mid from (views.disk target) to sink full disks status
       → IsOnCopy facts views new form v mid from sink full disks status
@@ -271,7 +271,7 @@ module _ {H M F D I : Type 0} (facts : HostFacts H) (views : Views M F D I) (sin
       (λ fault. inr (inl (to, p.0, disk.made, (p.1.0, fault, p.1.2))))
       (λ device. inr (inr (
         p.1.0,
-        subst (λ (d : Disks M F D I). IsNotMade facts views new form mid.size v p.1.0 d) (sym p.0) (
+        subst (λ (d : Disks L F D I). IsNotMade facts views new form mid.size v p.1.0 d) (sym p.0) (
           disk.made,
           inl (device.0, device.1 ∙ (λ i. min (sound i + 1) (2 ^ 64 - 1))),
         ),
@@ -279,7 +279,7 @@ module _ {H M F D I : Type 0} (facts : HostFacts H) (views : Views M F D I) (sin
       ))) p.1.1
 
   pub on_copy : (new : List ℕ) (form other : Form) (blocks : ℕ) (v : Unseen) (mid from : DiskState) (target to : D)
-      (disks : Disks M F D I) → other ≡ form → blocks ≡ mid.size → IsNewDisk facts views new other blocks v target
+      (disks : Disks L F D I) → other ≡ form → blocks ≡ mid.size → IsNewDisk facts views new other blocks v target
       → BeganAs other v (views.disk target) → (views.disk target).failures ≡ 0
       → SameDisk (views.disk target) (views.disk to)
       → IsCopyRun views mid from (views.disk target) to sink full disks status
@@ -291,13 +291,13 @@ module _ {H M F D I : Type 0} (facts : HostFacts H) (views : Views M F D I) (sin
       (subst (λ (f : Form). BeganAs f v (views.disk target)) formed began) sound same run
 
   -- A conversion of an image that was opened.
-  source_since : (new : List ℕ) (form : Form) (u v : Unseen) (disk from : DiskState) (copy : Disks M F D I)
-      (began : BeganAs form u disk) (sound : disk.failures ≡ 0)
-      → IsOnSource facts views new (other_form form) v disk from sink full copy status
-      → IsOnSource facts views new (other_form form) v (begun_image form disk.size u) from sink full copy status
-  source_since new form u v disk from copy began sound (inl p) =
+  source_since : (new : List ℕ) (form : Form) (u v : Unseen) (making : L) (disk from : DiskState)
+      (copy : Disks L F D I) (began : BeganAs form u disk) (sound : disk.failures ≡ 0)
+      → IsOnSource facts views new (other_form form) v making disk from sink full copy status
+      → IsOnSource facts views new (other_form form) v making (begun_image form disk.size u) from sink full copy status
+  source_since new form u v making disk from copy began sound (inl p) =
       inl (p.0, (p.1.0, fault_since form u disk began sound from p.1.0 p.1.1, p.1.2))
-  source_since new form u v disk from copy began sound (inr p) = inr (record {
+  source_since new form u v making disk from copy began sound (inr p) = inr (record {
     mid = p.mid;
     size = p.size;
     was_honest = p.was_honest;
@@ -306,19 +306,20 @@ module _ {H M F D I : Type 0} (facts : HostFacts H) (views : Views M F D I) (sin
     done = p.done;
   })
 
-  pub converted : (path new : List ℕ) (form : Form) (u v : Unseen) (disk from : D) (image copy : Disks M F D I)
-      → image ≡ Unserved from → IsOpened facts path u → (began : BeganAs form u (views.disk disk))
-      → (views.disk disk).failures ≡ 0 → SameDisk (views.disk disk) (views.disk from)
-      → IsLeftAlone (views.disk disk) (views.disk from)
-      → IsOnSource facts views new (other_form form) v (views.disk disk) (views.disk from) sink full copy status
-      → IsOnBoth facts views path new form u v sink full image copy status
-  converted path new form u v disk from image copy is opened began sound same alone source = inl (
+  pub converted : {N : Type 0} (path new : List ℕ) (form : Form) (u v : Unseen) (opening : N) (making : L)
+      (disk from : D) (image : Disks N F D I) (copy : Disks L F D I) → image ≡ Unserved from → IsOpened facts path u
+      → BeganAs form u (views.disk disk) → (views.disk disk).failures ≡ 0
+      → SameDisk (views.disk disk) (views.disk from) → IsLeftAlone (views.disk disk) (views.disk from)
+      → IsOnSource facts views new (other_form form) v making (views.disk disk) (views.disk from) sink full copy status
+      → IsOnBoth facts views path new form u v opening making sink full image copy status
+  converted path new form u v opening making disk from image copy is opened began sound same alone source = inl (
     from,
     is,
     opened,
     record { size = λ h. began.size (same.was_honest h) ∙ (λ i. block_length form * sym same.size i) },
     subst (λ n. IsLeftAlone (begun_image form n u) (views.disk from)) (sym same.size)
         (alone_since form u (views.disk disk) began sound (views.disk from) same.was_honest alone),
-    subst (λ n. IsOnSource facts views new (other_form form) v (begun_image form n u) (views.disk from) sink full copy
-        status) (sym same.size) (source_since new form u v (views.disk disk) (views.disk from) copy began sound source),
+    subst (λ n. IsOnSource facts views new (other_form form) v making (begun_image form n u) (views.disk from) sink full
+        copy status) (sym same.size)
+        (source_since new form u v making (views.disk disk) (views.disk from) copy began sound source),
   )

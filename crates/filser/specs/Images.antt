@@ -26,7 +26,7 @@ use Rattle.filser.specs.ServedDisks.{IsRefusedBy, IsServed, IsUnserved}
 use Rattle.filser.specs.Tasks.{Attends, IsFirstMoment}
 use Rattle.filser.specs.Views.{Views}
 use Rattle.filser.specs.declared.disks.Disks.{Disks}
-use Rattle.filser.specs.declared.disks.Disks.TheVariants.{None, Memory, NoImage, Unserved, Served, Made}
+use Rattle.filser.specs.declared.disks.Disks.TheVariants.{Unasked, None, NoImage, Unserved, Served, Made}
 use Rattle.filser.specs.declared.fault.HostFault.TheVariants.{System, Memory as NoMemory, WrongLength}
 use Rattle.filser.specs.declared.fault.ImageFault.{ImageFault}
 use Rattle.filser.specs.declared.host.RemovalRight.{RemovalRight}
@@ -52,10 +52,10 @@ pub record IsWhole (form : Form) (u : Unseen) (d : DiskState) : Type 0 where
 -- A task on the image of this form at a path.
 
 -- why none was done
-abbrev pub IsDenied : {H M F D I : Type 0} → HostFacts H → Views M F D I → List ℕ → Form → Unseen → ImageFault
-    → Disks M F D I → Type 0
+abbrev pub IsDenied : {H L M F D I : Type 0} → HostFacts H → Views M F D I → List ℕ → Form → Unseen → ImageFault
+    → Disks L F D I → Type 0
 IsDenied facts views path form u fault None = IsUnopened facts path fault
-IsDenied facts views path form u fault (Memory memory) = ⊥
+IsDenied facts views path form u fault (Unasked leave) = ⊥
 IsDenied facts views path form u fault (NoImage file) =
     IsOpened facts path u × IsNoImage form u (views.file file) fault
 IsDenied facts views path form u fault (Unserved disk) =
@@ -64,17 +64,17 @@ IsDenied facts views path form u fault (Served image) = ⊥
 IsDenied facts views path form u fault (Made disk right) = ⊥
 
 -- no disk was made of it
-abbrev pub HasNoDisk : {M F D I : Type 0} → Disks M F D I → Type 0
+abbrev pub HasNoDisk : {L F D I : Type 0} → Disks L F D I → Type 0
 HasNoDisk None = Unit {0}
-HasNoDisk (Memory memory) = ⊥
+HasNoDisk (Unasked leave) = ⊥
 HasNoDisk (NoImage file) = Unit {0}
 HasNoDisk (Unserved disk) = ⊥
 HasNoDisk (Served image) = ⊥
 HasNoDisk (Made disk right) = ⊥
 
 -- What became of it: it was served, by asking its disk alone since the file was opened; or not, for a reason that stands.
-abbrev pub IsOnImage : {H M F D I : Type 0} → HostFacts H → Views M F D I → List ℕ → Form → Unseen → Task
-    → Option (List ℕ) → Option (List ℕ) → Option (List ℕ) → Option (List ℕ) → Disks M F D I → Status → Type 0
+abbrev pub IsOnImage : {H L M F D I : Type 0} → HostFacts H → Views M F D I → List ℕ → Form → Unseen → Task
+    → Option (List ℕ) → Option (List ℕ) → Option (List ℕ) → Option (List ℕ) → Disks L F D I → Status → Type 0
 IsOnImage {I = I} facts views path form u task source left sink full disks status =
     ((image : I) × (disks ≡ Served image) × IsOpened facts path u × IsWhole form u (views.image image)
     × IsTaskRun views.image (begun_image form (views.image image).size u) task source left sink full image status)
@@ -92,10 +92,10 @@ IsNoNewDisk size failures blocks fault = (IsDeviceFault fault × (failures ≡ 1
     × ((told : Option Error) × (fault.host ≡ option_map System told)))
 
 -- why there is none
-abbrev pub IsNotMade : {H M F D I : Type 0} → HostFacts H → Views M F D I → List ℕ → Form → ℕ → Unseen → ImageFault
-    → Disks M F D I → Type 0
+abbrev pub IsNotMade : {H L M F D I : Type 0} → HostFacts H → Views M F D I → List ℕ → Form → ℕ → Unseen → ImageFault
+    → Disks L F D I → Type 0
 IsNotMade facts views path form blocks u fault None = IsUnmade facts path fault ⊎ IsUnfilled facts path fault
-IsNotMade facts views path form blocks u fault (Memory memory) = ⊥
+IsNotMade facts views path form blocks u fault (Unasked leave) = ⊥
 IsNotMade facts views path form blocks u fault (NoImage file) =
     IsMade facts path u × IsNoImage form u (views.file file) fault
 IsNotMade facts views path form blocks u fault (Unserved disk) =
@@ -117,8 +117,8 @@ pub record IsEmptyVolume (d : DiskState) : Type 0 where
 
 -- What became of one that was asked for: it is there, and nothing was printed; or there is none, for a reason that
 -- stands.
-abbrev pub IsOnNew : {H M F D I : Type 0} → HostFacts H → Views M F D I → List ℕ → Form → ℕ → Unseen
-    → Option (List ℕ) → Option (List ℕ) → Disks M F D I → Status → Type 0
+abbrev pub IsOnNew : {H L M F D I : Type 0} → HostFacts H → Views M F D I → List ℕ → Form → ℕ → Unseen
+    → Option (List ℕ) → Option (List ℕ) → Disks L F D I → Status → Type 0
 IsOnNew {D = D} facts views path form blocks u sink full disks status =
     ((disk : D) × (right : RemovalRight) × (disks ≡ Made disk right) × IsNewDisk facts views path form blocks u disk
     × IsEmptyVolume (views.disk disk) × (full ≡ sink) × (status ≡ Done))
@@ -137,17 +137,13 @@ pub record IsFresh (d : DiskState) : Type 0 where
 
 -- what became of it; its disk is honest whatever was done
 abbrev pub IsOnFresh : {M F D I : Type 0} → Views M F D I → Option (List ℕ) → Option (List ℕ) → Option (List ℕ)
-    → Option (List ℕ) → Disks M F D I → Status → Type 0
-IsOnFresh {M} views source left sink full (Memory memory) status = (views.memory memory).honest
+    → Option (List ℕ) → Option M → Status → Type 0
+IsOnFresh {M} views source left sink full (Some memory) status = (views.memory memory).honest
     × (((begun : M) × IsFresh (views.memory begun) × (at : Moment) × IsFirstMoment at
     × IsTaskRun views.memory (views.memory begun) (Run at) source left sink full memory status)
     ⊎ ((views.memory memory).failures ≡ 1) × (left ≡ source)
     × IsExplained sink full status (record { refusal = Start Device; host = Nothing }))
-IsOnFresh views source left sink full None status = (left ≡ source) × (full ≡ sink) × (status ≡ Fault)
-IsOnFresh views source left sink full (NoImage file) status = ⊥
-IsOnFresh views source left sink full (Unserved disk) status = ⊥
-IsOnFresh views source left sink full (Served image) status = ⊥
-IsOnFresh views source left sink full (Made disk right) status = ⊥
+IsOnFresh views source left sink full Nothing status = (left ≡ source) × (full ≡ sink) × (status ≡ Fault)
 
 -- A conversion, to the other form.
 
@@ -187,8 +183,8 @@ pub record IsCopied (mid from new to : DiskState) : Type 0 where
   pub last : LeavesOnly new to (HomesComeLast mid.size from.contents new)
 
 -- What became of a copy that was begun, from `mid`, which is `from` now, to `target`, which is `to` now.
-abbrev pub IsCopyRun : {M F D I : Type 0} → Views M F D I → DiskState → DiskState → DiskState → D → Option (List ℕ)
-    → Option (List ℕ) → Disks M F D I → Status → Type 0
+abbrev pub IsCopyRun : {L M F D I : Type 0} → Views M F D I → DiskState → DiskState → DiskState → D → Option (List ℕ)
+    → Option (List ℕ) → Disks L F D I → Status → Type 0
 IsCopyRun views mid from target to sink full copy status =
     ((right : RemovalRight) × (copy ≡ Made to right)
     × (from.honest → (views.disk to).honest → IsCopied mid from target (views.disk to))
@@ -199,8 +195,8 @@ IsCopyRun views mid from target to sink full copy status =
 
 -- What became of the new one, where `mid` is the disk of the other one when it was to be made: it is there; or the other
 -- one couldn't be read again; or there is none, for a reason that stands.
-abbrev pub IsOnCopy : {H M F D I : Type 0} → HostFacts H → Views M F D I → List ℕ → Form → Unseen → DiskState
-    → DiskState → Option (List ℕ) → Option (List ℕ) → Disks M F D I → Status → Type 0
+abbrev pub IsOnCopy : {H L M F D I : Type 0} → HostFacts H → Views M F D I → List ℕ → Form → Unseen → DiskState
+    → DiskState → Option (List ℕ) → Option (List ℕ) → Disks L F D I → Status → Type 0
 IsOnCopy {D = D} facts views new form v mid from sink full copy status =
     ((to : D) × (right : RemovalRight) × (copy ≡ Made to right) × IsNewDisk facts views new form mid.size v to
     × (from.honest → (views.disk to).honest → IsCopied mid from (begun_image form mid.size v) (views.disk to))
@@ -211,8 +207,8 @@ IsOnCopy {D = D} facts views new form v mid from sink full copy status =
     × IsExplained sink full status fault)
 
 -- The disk of the image that is there was recovered and read, which took it to `mid`; and then a copy was to be made.
-pub record IsConverted {H M F D I : Type 0} (facts : HostFacts H) (views : Views M F D I) (new : List ℕ) (form : Form)
-    (v : Unseen) (begun from : DiskState) (sink full : Option (List ℕ)) (copy : Disks M F D I) (status : Status)
+pub record IsConverted {H L M F D I : Type 0} (facts : HostFacts H) (views : Views M F D I) (new : List ℕ) (form : Form)
+    (v : Unseen) (begun from : DiskState) (sink full : Option (List ℕ)) (copy : Disks L F D I) (status : Status)
     : Type 0 where
   pub mid : D
   pub size : (views.disk mid).size ≡ begun.size
@@ -222,21 +218,22 @@ pub record IsConverted {H M F D I : Type 0} (facts : HostFacts H) (views : Views
   pub done : IsOnCopy facts views new form v (views.disk mid) from sink full copy status
 
 -- What became of that disk and of the new one: a start refused it, or a copy was to be made.
-abbrev pub IsOnSource : {H M F D I : Type 0} → HostFacts H → Views M F D I → List ℕ → Form → Unseen → DiskState
-    → DiskState → Option (List ℕ) → Option (List ℕ) → Disks M F D I → Status → Type 0
-IsOnSource facts views new form v begun from sink full copy status =
-    ((copy ≡ None) × ((fault : ImageFault) × IsFaultOf begun from fault × IsExplained sink full status fault))
+abbrev pub IsOnSource : {H L M F D I : Type 0} → HostFacts H → Views M F D I → List ℕ → Form → Unseen → L → DiskState
+    → DiskState → Option (List ℕ) → Option (List ℕ) → Disks L F D I → Status → Type 0
+IsOnSource facts views new form v making begun from sink full copy status =
+    ((copy ≡ Unasked making) × ((fault : ImageFault) × IsFaultOf begun from fault × IsExplained sink full status fault))
     ⊎ IsConverted facts views new form v begun from sink full copy status
 
--- What became of both: the one that is there was opened; or it wasn't, or the name of the new one is taken.
-abbrev pub IsOnBoth : {H M F D I : Type 0} → HostFacts H → Views M F D I → List ℕ → List ℕ → Form → Unseen → Unseen
-    → Option (List ℕ) → Option (List ℕ) → Disks M F D I → Disks M F D I → Status → Type 0
-IsOnBoth {D = D} facts views path new form u v sink full image copy status =
+-- What became of both: the one that is there was opened; or it wasn't, or the name of the new one is taken. A leave
+-- that wasn't used is handed back.
+abbrev pub IsOnBoth : {H L N M F D I : Type 0} → HostFacts H → Views M F D I → List ℕ → List ℕ → Form → Unseen → Unseen
+    → L → N → Option (List ℕ) → Option (List ℕ) → Disks L F D I → Disks N F D I → Status → Type 0
+IsOnBoth {D = D} facts views path new form u v opening making sink full image copy status =
     ((from : D) × (image ≡ Unserved from) × IsOpened facts path u × IsWhole form u (views.disk from)
     × IsLeftAlone (begun_image form (views.disk from).size u) (views.disk from)
-    × IsOnSource facts views new (other_form form) v (begun_image form (views.disk from).size u) (views.disk from)
-    sink full copy status)
-    ⊎ ((copy ≡ None) × ((fault : ImageFault)
-    × (((image ≡ None) × ((file : FileId) × facts.found new (Some file))
+    × IsOnSource facts views new (other_form form) v making (begun_image form (views.disk from).size u)
+    (views.disk from) sink full copy status)
+    ⊎ ((copy ≡ Unasked making) × ((fault : ImageFault)
+    × (((image ≡ Unasked opening) × ((file : FileId) × facts.found new (Some file))
     × (fault ≡ record { refusal = Exists; host = Nothing }))
     ⊎ (HasNoDisk image × IsDenied facts views path form u fault image)) × IsExplained sink full status fault))

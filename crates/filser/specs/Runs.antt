@@ -1,5 +1,4 @@
--- What a run comes to: the reader had `source` and has `left`, the writer held `sink` and holds `full`, and `image` and
--- `new` are what is left of the images that it worked on.
+-- What a run comes to: the reader had `source` and has `left`, the writer held `sink` and holds `full`.
 use Rattle.std.specs.Prelude.{◌≡◌, ◌⊎◌, ℕ, List, Option, Some, None as Nothing}
 use Rattle.clap.specs.Words.{Kinds, IsAmong, kind_of, Row, Text}
 use Rattle.imagefile.specs.Unseen.{Unseen}
@@ -13,7 +12,7 @@ use Rattle.filser.specs.Views.{Views}
 use Rattle.filser.specs.declared.asked.Request.{Request}
 use Rattle.filser.specs.declared.asked.Request.TheVariants.{Fresh, Init, Work, Convert}
 use Rattle.filser.specs.declared.disks.Disks.{Disks}
-use Rattle.filser.specs.declared.disks.Disks.TheVariants.{None}
+use Rattle.filser.specs.declared.disks.Disks.TheVariants.{Unasked}
 use Rattle.filser.specs.declared.error.RequestError.{RequestError}
 use Rattle.filser.specs.declared.error.RequestError.TheVariants.{Usage, BadArgument, NoMemory}
 use Rattle.filser.specs.declared.fault.HostFault.{HostFault}
@@ -21,19 +20,38 @@ use Rattle.filser.specs.declared.status.Status.{Status}
 use Rattle.filser.specs.declared.status.Status.TheVariants.{Done, Fault}
 use Rattle.filser.specs.declared.streams.MissingStreams.{MissingStreams}
 
--- What was asked for was done, or not for a reason that stands: `u` is supposed of the file that is there, `v` of the
--- one that is made.
-abbrev pub IsRequestRun : {H M F D I : Type 0} → HostFacts H → Views M F D I → Unseen → Unseen → Request
-    → Option (List ℕ) → Option (List ℕ) → Option (List ℕ) → Option (List ℕ) → Disks M F D I → Disks M F D I → Status
-    → Type 0
-IsRequestRun facts views u v Fresh source left sink full image new status =
-    IsOnFresh views source left sink full image status × (new ≡ None)
-IsRequestRun facts views u v (Init path blocks form) source left sink full image new status =
-    (left ≡ source) × (image ≡ None) × IsOnNew facts views path.now form blocks v sink full new status
-IsRequestRun facts views u v (Work path form task) source left sink full image new status =
-    IsOnImage facts views path.now form u task source left sink full image status × (new ≡ None)
-IsRequestRun facts views u v (Convert path other form) source left sink full image new status =
-    (left ≡ source) × IsOnBoth facts views path.now other.now form u v sink full image new status
+-- What a run is handed, and what it hands back: the leaves to open and to make a file with what is supposed of the
+-- files, and what is left of the image that is there, of the one that is made, and of the volume in memory.
+pub record Things (L N M F D I : Type 0) : Type 0 where
+  pub opening : L
+  pub making : N
+  pub u : Unseen
+  pub v : Unseen
+  pub image : Disks L F D I
+  pub new : Disks N F D I
+  pub memory : Option M
+
+-- Neither leave was used, and there is no volume in memory.
+pub record AreUntouched {L N M F D I : Type 0} (things : Things L N M F D I) : Type 0 where
+  pub image : things.image ≡ Unasked things.opening
+  pub new : things.new ≡ Unasked things.making
+  pub memory : things.memory ≡ Nothing
+
+-- What was asked for was done, or not for a reason that stands; and nothing else was asked of the host.
+abbrev pub IsRequestRun : {H L N M F D I : Type 0} → HostFacts H → Views M F D I → Things L N M F D I → Request
+    → Option (List ℕ) → Option (List ℕ) → Option (List ℕ) → Option (List ℕ) → Status → Type 0
+IsRequestRun facts views things Fresh source left sink full status =
+    IsOnFresh views source left sink full things.memory status × (things.image ≡ Unasked things.opening)
+    × (things.new ≡ Unasked things.making)
+IsRequestRun facts views things (Init path blocks form) source left sink full status =
+    (left ≡ source) × IsOnNew facts views path.now form blocks things.v sink full things.new status
+    × (things.image ≡ Unasked things.opening) × (things.memory ≡ Nothing)
+IsRequestRun facts views things (Work path form task) source left sink full status =
+    IsOnImage facts views path.now form things.u task source left sink full things.image status
+    × (things.new ≡ Unasked things.making) × (things.memory ≡ Nothing)
+IsRequestRun facts views things (Convert path other form) source left sink full status =
+    (left ≡ source) × IsOnBoth facts views path.now other.now form things.u things.v things.opening things.making sink
+    full things.image things.new status × (things.memory ≡ Nothing)
 
 -- No standard stream leads to the image that is named.
 abbrev pub IsApart : {H : Type 0} → HostFacts H → Option (List ℕ) → Type 0
@@ -49,22 +67,20 @@ LeadsToStream facts (Some path) sink full status = (stream : HostFault) × IsStr
 
 -- Nothing was asked of an image, and nothing read: it would have printed into the image, or there is nothing to read
 -- from or to print to.
-abbrev pub IsTurnedAway : {H M F D I : Type 0} → HostFacts H → Views M F D I → MissingStreams → Request
-    → Option (List ℕ) → Option (List ℕ) → Option (List ℕ) → Option (List ℕ) → Disks M F D I → Disks M F D I → Status
-    → Type 0
-IsTurnedAway facts views missing request source left sink full image new status =
-    (left ≡ source) × (image ≡ None) × (new ≡ None)
+abbrev pub IsTurnedAway : {H L N M F D I : Type 0} → HostFacts H → MissingStreams → Things L N M F D I → Request
+    → Option (List ℕ) → Option (List ℕ) → Option (List ℕ) → Option (List ℕ) → Status → Type 0
+IsTurnedAway facts missing things request source left sink full status =
+    (left ≡ source) × AreUntouched things
     × (LeadsToStream facts (image_named request) sink full status
     ⊎ (AreNeeded missing × (full ≡ sink) × (status ≡ Fault)))
 
 -- It was turned away, or what it asks for was done with streams that are there and lead elsewhere.
-abbrev pub IsHandled : {H M F D I : Type 0} → HostFacts H → Views M F D I → MissingStreams → Unseen → Unseen → Request
-    → Option (List ℕ) → Option (List ℕ) → Option (List ℕ) → Option (List ℕ) → Disks M F D I → Disks M F D I → Status
-    → Type 0
-IsHandled facts views missing u v request source left sink full image new status =
+abbrev pub IsHandled : {H L N M F D I : Type 0} → HostFacts H → Views M F D I → MissingStreams → Things L N M F D I
+    → Request → Option (List ℕ) → Option (List ℕ) → Option (List ℕ) → Option (List ℕ) → Status → Type 0
+IsHandled facts views missing things request source left sink full status =
     (IsApart facts (image_named request) × (AreNeeded missing → ⊥)
-    × IsRequestRun facts views u v request source left sink full image new status)
-    ⊎ IsTurnedAway facts views missing request source left sink full image new status
+    × IsRequestRun facts views things request source left sink full status)
+    ⊎ IsTurnedAway facts missing things request source left sink full status
 
 -- what is printed if the words ask for nothing that is done: the text that was asked of `clap`, or nothing
 abbrev pub PrintsOnly : Kinds → RequestError → Option (List ℕ) → Option (List ℕ) → Type 0
@@ -73,16 +89,16 @@ PrintsOnly kinds BadArgument sink full = full ≡ sink
 PrintsOnly kinds NoMemory sink full = full ≡ sink
 
 -- The words ask for nothing that is done.
-abbrev pub IsUnasked : {M F D I : Type 0} → Kinds → Option (Text × List Row) → Option (List ℕ) → Option (List ℕ)
-    → Option (List ℕ) → Option (List ℕ) → Disks M F D I → Disks M F D I → Status → Type 0
-IsUnasked kinds found source left sink full image new status =
-    (error : RequestError) × (left ≡ source) × (image ≡ None) × (new ≡ None) × EndsUnasked error status
+abbrev pub IsUnasked : {L N M F D I : Type 0} → Kinds → Option (Text × List Row) → Things L N M F D I
+    → Option (List ℕ) → Option (List ℕ) → Option (List ℕ) → Option (List ℕ) → Status → Type 0
+IsUnasked kinds found things source left sink full status =
+    (error : RequestError) × (left ≡ source) × AreUntouched things × EndsUnasked error status
     × PrintsOnly kinds error sink full × (error ≡ BadArgument → (request : Request) → Asks found request → ⊥)
 
 -- A whole run, by the words of its command line.
-pub record WasRun {H M F D I : Type 0} (facts : HostFacts H) (views : Views M F D I) (missing : MissingStreams)
-    (u v : Unseen) (kinds : Kinds) (found : Option (Text × List Row)) (source left sink full : Option (List ℕ))
-    (image new : Disks M F D I) (status : Status) : Type 0 where
+pub record WasRun {H L N M F D I : Type 0} (facts : HostFacts H) (views : Views M F D I) (missing : MissingStreams)
+    (things : Things L N M F D I) (kinds : Kinds) (found : Option (Text × List Row))
+    (source left sink full : Option (List ℕ)) (status : Status) : Type 0 where
   pub is : ((request : Request) × Asks found request
-      × IsHandled facts views missing u v request source left sink full image new status)
-      ⊎ IsUnasked kinds found source left sink full image new status
+      × IsHandled facts views missing things request source left sink full status)
+      ⊎ IsUnasked kinds found things source left sink full status

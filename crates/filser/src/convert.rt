@@ -1,4 +1,4 @@
-ghost use Rattle.std.specs.Prelude.{◌≡◌, ◌≢◌, OnOk, IfOk, IfErr, IsErrOf};
+ghost use Rattle.std.specs.Prelude.{◌≡◌, ◌≢◌, None, OnOk, IfOk, IfErr, IsErrOf};
 ghost use Rattle.blockdisk.specs.Disk.{SameDisk, one_more};
 ghost use Rattle.imagefile.specs.Began.{BeganAs};
 ghost use Rattle.imagefile.specs.Image.{other_form};
@@ -16,18 +16,18 @@ ghost use Rattle.filser.specs.declared.fault.ImageFault.{ImageFault as Faults};
 ghost use Rattle.filser.specs.declared.status.Status.TheVariants.{BadArguments};
 
 use crate::fault::report;
-use crate::image::{Denied, failure_of, new_file, open_disk, zeros_in};
+use crate::image::{NotMade, failure_of, new_file, open_disk, zeros_in};
 use crate::message::print_line;
 use crate::outcome::Outcome;
 use crate::program::refuse_image;
 use crate::progress::Watched;
 use crate::{
-    Beginnings, Disks, Host, ImageFault, Message, Refusal, RemovalRight, RunDisks, Seen, Status,
-    Telling,
+    Disks, Host, ImageDisks, ImageFault, Leaves, MakingLeave, Message, Refusal, RemovalRight, Run, Seen,
+    Status, Telling,
 };
 use blockdisk::Disk;
 use commands::Volume;
-use imagefile::{Form, HostFile, ImageDisk, Supposition};
+use imagefile::{Form, HostFile, ImageDisk};
 use std::alloc::Global;
 use std::io::Write;
 use volume::{CopyError, VolumeError};
@@ -52,13 +52,15 @@ pub(crate) fn convert_image<H: Host, W: Write, E: Write>(
     host: &H,
     alloc: Global,
     conversion: &Conversion<'_>,
-    supposed: Beginnings,
+    leaves: Leaves,
     writer: &mut W,
     errors: &mut E,
 ) -> Outcome
     ensures serving { result.status ≢ BadArguments }
-    ensures ran { IsOnBoth (H.facts host.now) (⟦<RunDisks as Seen>⟧.views) conversion.now.path.now
-        conversion.now.new.now conversion.now.form (unseen_in supposed.image) (unseen_in supposed.new)
+    ensures memory { result.memory ≡ None }
+    ensures ran { IsOnBoth (H.facts host.now) (⟦<Run as Seen>⟧.views) conversion.now.path.now
+        conversion.now.new.now conversion.now.form (unseen_in leaves.image.supposed) (unseen_in leaves.new.supposed)
+        leaves.image leaves.new
         (W.contents writer.old) (W.contents writer.new) result.image result.new result.status }
 {
     if host.identity(conversion.new).is_some() {
@@ -66,11 +68,14 @@ pub(crate) fn convert_image<H: Host, W: Write, E: Write>(
             refusal: Refusal::Exists,
             host: None,
         };
-        return unconverted(fault, conversion.new, Disks::None, writer, errors);
+        let image = Disks::Unasked(leaves.image);
+        return unconverted(fault, conversion.new, image, leaves.new, writer, errors);
     }
-    match open_disk(host, conversion.path, conversion.form, supposed.image, errors) {
-        Ok(disk) => convert_disk(host, alloc, disk, conversion, supposed.new, writer, errors),
-        Err((fault, disks)) => unconverted(fault, conversion.path, disks, writer, errors),
+    match open_disk(host, conversion.path, conversion.form, leaves.image, errors) {
+        Ok(disk) => convert_disk(host, alloc, disk, conversion, leaves.new, writer, errors),
+        Err((fault, disks)) => {
+            unconverted(fault, conversion.path, disks, leaves.new, writer, errors)
+        }
     }
 }
 
@@ -78,19 +83,22 @@ pub(crate) fn convert_image<H: Host, W: Write, E: Write>(
 fn unconverted<W: Write, E: Write>(
     fault: ImageFault,
     path: &str,
-    image: RunDisks,
+    image: ImageDisks,
+    leave: MakingLeave,
     writer: &mut W,
     errors: &mut E,
 ) -> Outcome
     ensures serving { result.status ≢ BadArguments }
     ensures image { result.image ≡ image }
-    ensures new { result.new ≡ disks.None }
+    ensures new { result.new ≡ disks.Unasked leave }
+    ensures memory { result.memory ≡ None }
     ensures explained { IsExplained (W.contents writer.old) (W.contents writer.new) result.status fault }
 {
     Outcome {
         status: refuse_image(fault, path, writer, errors),
         image,
-        new: Disks::None,
+        new: Disks::Unasked(leave),
+        memory: None,
     }
 }
 
@@ -119,27 +127,35 @@ fn convert_disk<H: Host, W: Write, E: Write>(
     alloc: Global,
     disk: ImageDisk<HostFile>,
     conversion: &Conversion<'_>,
-    supposed: Supposition,
+    leave: MakingLeave,
     writer: &mut W,
     errors: &mut E,
 ) -> Outcome
     ensures serving { result.status ≢ BadArguments }
+    ensures memory { result.memory ≡ None }
     ensures ran { (from : _) × (result.image ≡ disks.Unserved from)
         × SameDisk (⟦<ImageDisk<HostFile> as Disk>⟧.state disk) (⟦<ImageDisk<HostFile> as Disk>⟧.state from)
         × IsLeftAlone (⟦<ImageDisk<HostFile> as Disk>⟧.state disk) (⟦<ImageDisk<HostFile> as Disk>⟧.state from)
-        × IsOnSource (H.facts host.now) (⟦<RunDisks as Seen>⟧.views) conversion.now.new.now
-        (other_form conversion.now.form) (unseen_in supposed) (⟦<ImageDisk<HostFile> as Disk>⟧.state disk)
+        × IsOnSource (H.facts host.now) (⟦<Run as Seen>⟧.views) conversion.now.new.now
+        (other_form conversion.now.form) (unseen_in leave.supposed) leave (⟦<ImageDisk<HostFile> as Disk>⟧.state disk)
         (⟦<ImageDisk<HostFile> as Disk>⟧.state from) (W.contents writer.old) (W.contents writer.new) result.new
         result.status }
 {
     match taken(alloc, disk) {
-        Ok(source) => write_new(host, alloc, source, conversion, supposed, writer, errors),
+        Ok(source) => write_new(host, alloc, source, conversion, leave, writer, errors),
         Err((error, disk)) => {
             let fault = ImageFault {
                 refusal: Refusal::Start(error),
                 host: failure_of(disk.file()),
             };
-            unconverted(fault, conversion.path, Disks::Unserved(disk), writer, errors)
+            unconverted(
+                fault,
+                conversion.path,
+                Disks::Unserved(disk),
+                leave,
+                writer,
+                errors,
+            )
         }
     }
 }
@@ -155,23 +171,23 @@ fn new_target<H: Host, E: Write>(
     new: &str,
     form: Form,
     blocks: u32,
-    supposed: Supposition,
+    leave: MakingLeave,
     errors: &mut E,
-) -> Result<(ImageDisk<HostFile>, RemovalRight), Denied>
-    ensures made { IfOk result (λ made. IsNewDisk (H.facts host.now) (⟦<RunDisks as Seen>⟧.views) new.now form blocks
-        (unseen_in supposed) made.0) }
+) -> Result<(ImageDisk<HostFile>, RemovalRight), NotMade>
+    ensures made { IfOk result (λ made. IsNewDisk (H.facts host.now) (⟦<Run as Seen>⟧.views) new.now form blocks
+        (unseen_in leave.supposed) made.0) }
     ensures began { IfOk result
-        (λ made. BeganAs form (unseen_in supposed) (⟦<ImageDisk<HostFile> as Disk>⟧.state made.0)) }
+        (λ made. BeganAs form (unseen_in leave.supposed) (⟦<ImageDisk<HostFile> as Disk>⟧.state made.0)) }
     ensures counted { IfOk result (λ made. (⟦<ImageDisk<HostFile> as Disk>⟧.state made.0).failures ≡ 0) }
-    ensures denied { IfErr result (λ denied. IsNotMade (H.facts host.now) (⟦<RunDisks as Seen>⟧.views) new.now form
-        blocks (unseen_in supposed) denied.0 denied.1) }
+    ensures denied { IfErr result (λ denied. IsNotMade (H.facts host.now) (⟦<Run as Seen>⟧.views) new.now form
+        blocks (unseen_in leave.supposed) denied.0 denied.1) }
 {
-    let (file, right) = match new_file(host, new) {
+    let (made, supposed) = match new_file(host, new, leave) {
         Ok(made) => made,
         Err(fault) => return Err((fault, Disks::None)),
     };
-    match zeros_in(host, file, new, form, blocks, supposed, errors) {
-        Ok(disk) => Ok((disk, right)),
+    match zeros_in(host, made.file, new, form, blocks, supposed, errors) {
+        Ok(disk) => Ok((disk, made.right)),
         Err(denied) => {
             tell_incomplete(new, errors);
             Err(denied)
@@ -185,24 +201,25 @@ fn write_new<H: Host, W: Write, E: Write>(
     alloc: Global,
     source: ImageDisk<HostFile>,
     conversion: &Conversion<'_>,
-    supposed: Supposition,
+    leave: MakingLeave,
     writer: &mut W,
     errors: &mut E,
 ) -> Outcome
     ensures serving { result.status ≢ BadArguments }
+    ensures memory { result.memory ≡ None }
     ensures ran { (from : _) × (result.image ≡ disks.Unserved from)
         × SameDisk (⟦<ImageDisk<HostFile> as Disk>⟧.state source) (⟦<ImageDisk<HostFile> as Disk>⟧.state from)
         × ((was : _)
         → SameDisk (⟦<ImageDisk<HostFile> as Disk>⟧.state was) (⟦<ImageDisk<HostFile> as Disk>⟧.state source)
         → IsLeftAlone (⟦<ImageDisk<HostFile> as Disk>⟧.state was) (⟦<ImageDisk<HostFile> as Disk>⟧.state source)
         → IsLeftAlone (⟦<ImageDisk<HostFile> as Disk>⟧.state was) (⟦<ImageDisk<HostFile> as Disk>⟧.state from))
-        × IsOnCopy (H.facts host.now) (⟦<RunDisks as Seen>⟧.views) conversion.now.new.now
-        (other_form conversion.now.form) (unseen_in supposed) (⟦<ImageDisk<HostFile> as Disk>⟧.state source)
+        × IsOnCopy (H.facts host.now) (⟦<Run as Seen>⟧.views) conversion.now.new.now
+        (other_form conversion.now.form) (unseen_in leave.supposed) (⟦<ImageDisk<HostFile> as Disk>⟧.state source)
         (⟦<ImageDisk<HostFile> as Disk>⟧.state from) (W.contents writer.old) (W.contents writer.new) result.new
         result.status }
 {
     let form = conversion.form.other();
-    match new_target(host, conversion.new, form, source.blocks(), supposed, errors) {
+    match new_target(host, conversion.new, form, source.blocks(), leave, errors) {
         Ok((target, right)) => {
             copy_to(alloc, source, target, right, conversion, writer, errors)
         }
@@ -210,6 +227,7 @@ fn write_new<H: Host, W: Write, E: Write>(
             status: refuse_image(fault, conversion.new, writer, errors),
             image: Disks::Unserved(source),
             new: disks,
+            memory: None,
         },
     }
 }
@@ -227,11 +245,12 @@ fn copy_to<W: Write, E: Write>(
     requires { (⟦<ImageDisk<HostFile> as Disk>⟧.state source).size
         ≡ (⟦<ImageDisk<HostFile> as Disk>⟧.state target).size }
     ensures serving { result.status ≢ BadArguments }
+    ensures memory { result.memory ≡ None }
     ensures ran { (from : _) × (to : _) × (result.image ≡ disks.Unserved from)
         × SameDisk (⟦<ImageDisk<HostFile> as Disk>⟧.state source) (⟦<ImageDisk<HostFile> as Disk>⟧.state from)
         × IsLeftAlone (⟦<ImageDisk<HostFile> as Disk>⟧.state source) (⟦<ImageDisk<HostFile> as Disk>⟧.state from)
         × SameDisk (⟦<ImageDisk<HostFile> as Disk>⟧.state target) (⟦<ImageDisk<HostFile> as Disk>⟧.state to)
-        × IsCopyRun (⟦<RunDisks as Seen>⟧.views) (⟦<ImageDisk<HostFile> as Disk>⟧.state source)
+        × IsCopyRun (⟦<Run as Seen>⟧.views) (⟦<ImageDisk<HostFile> as Disk>⟧.state source)
         (⟦<ImageDisk<HostFile> as Disk>⟧.state from) (⟦<ImageDisk<HostFile> as Disk>⟧.state target) to
         (W.contents writer.old) (W.contents writer.new) result.new result.status }
 {
@@ -242,6 +261,7 @@ fn copy_to<W: Write, E: Write>(
             status: tell_converted(source.blocks(), writer),
             image: Disks::Unserved(source),
             new: Disks::Made(target, right),
+            memory: None,
         },
         Err(error) => uncopied(error, source, target, conversion, writer, errors),
     }
@@ -259,6 +279,7 @@ fn uncopied<W: Write, E: Write>(
     ensures serving { result.status ≢ BadArguments }
     ensures image { result.image ≡ disks.Unserved source }
     ensures new { result.new ≡ disks.Unserved target }
+    ensures memory { result.memory ≡ None }
     ensures explained { (fault : Faults) × IsCopyFault error fault
         × IsExplained (W.contents writer.old) (W.contents writer.new) result.status fault }
 {
@@ -283,6 +304,7 @@ fn uncopied<W: Write, E: Write>(
         status: refuse_image(fault, path, writer, errors),
         image: Disks::Unserved(source),
         new: Disks::Unserved(target),
+        memory: None,
     }
 }
 

@@ -1,13 +1,13 @@
 use crate::RemovalRight;
 
-/// What is left of the disk of an image, or of its file, when a run has ended. `M` is a disk in memory, `F` a file, `D` the
-/// disk in a file, and `I` the same disk with some of its blocks kept in memory.
+/// What is left of the disk of an image, or of its file, when a run has ended. `L` is the leave to open or to make the
+/// file, `F` a file, `D` the disk in a file, and `I` the same disk with some of its blocks kept in memory.
 #[derive(Drop)]
-pub enum Disks<M, F, D, I> {
-    /// Nothing was opened or made, or it was given up before a disk was made of it.
+pub enum Disks<L, F, D, I> {
+    /// No file was asked for.
+    Unasked(L),
+    /// A file was asked for, and there was none, or it was given up before a disk was made of it.
     None,
-    /// The volume in memory.
-    Memory(M),
     /// A file that is no image.
     NoImage(F),
     /// The disk of an image of which no service was made.

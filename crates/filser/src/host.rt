@@ -25,21 +25,24 @@ pub trait Host {
 
     ghost facts: { Self → HostFacts Self.File };
 
-    /// Opens the file at a path, to read it and to write to it.
+    /// Opens the file at a path, to read it and to write to it, and gives back what is supposed of it.
     ///
     /// # Errors
     ///
-    /// The system's.
-    fn open(&self, path: &str) -> io::Result<Self::File>
-        ensures { (facts self.now).opened path.now result };
+    /// The system's. The leave is used up.
+    fn open(&self, path: &str, leave: OpeningLeave) -> Result<(Self::File, Supposition), io::Error>
+        ensures opened { IfOk result (λ opened. (facts self.now).opened path.now (Ok opened.0)
+            × (unseen_in opened.1 ≡ unseen_in leave.supposed)) }
+        ensures refused { IfErr result (λ error. (facts self.now).opened path.now (Err error)) };
 
-    /// Makes a file at a path where there is none. The other value is the right to remove it.
+    /// Makes a file at a path where there is none, and gives back what is supposed of it and the right to remove it.
     ///
     /// # Errors
     ///
-    /// The system's: `AlreadyExists` if something has that name, which is left alone.
-    fn create(&self, path: &str) -> Result<(Self::File, RemovalRight), io::Error>
-        ensures made { IfOk result (λ made. (facts self.now).created path.now (Ok made.0)) }
+    /// The system's: `AlreadyExists` if something has that name, which is left alone. The leave is used up.
+    fn create(&self, path: &str, leave: MakingLeave) -> Result<(NewFile<Self::File>, Supposition), io::Error>
+        ensures made { IfOk result (λ made. (facts self.now).created path.now (Ok made.0.file)
+            × (unseen_in made.1 ≡ unseen_in leave.supposed)) }
         ensures refused { IfErr result (λ error. (facts self.now).created path.now (Err error)) };
 
     /// Fills a file that was made with as many blocks of zeros, in this form, and waits until they are on the device. So
@@ -98,6 +101,28 @@ pub trait Host {
         requires { (file : Self.File) × (facts self.now).created path.now (Ok file) };
 }
 
+/// The leave to open one file, with what is supposed of that file that no call on it shows. A run has it once, so that
+/// it can open one file alone.
+#[derive(Drop)]
+pub struct OpeningLeave {
+    pub(crate) supposed: Supposition,
+    _once: (),
+}
+
+/// The leave to make one file, with what is supposed of it once it is filled. A run has it once.
+#[derive(Drop)]
+pub struct MakingLeave {
+    pub(crate) supposed: Supposition,
+    _once: (),
+}
+
+/// A file that was made, and the right to remove it.
+#[derive(Drop)]
+pub struct NewFile<F: Drop> {
+    pub(crate) file: F,
+    pub(crate) right: RemovalRight,
+}
+
 /// The right to remove a file that was made. Whoever has made one has it once.
 #[derive(Drop)]
 pub struct RemovalRight {
@@ -112,9 +137,17 @@ pub struct SystemHost<'a, F: Files<File = File>> {
 }
 
 impl<'a, F: Files<File = File>> SystemHost<'a, F> {
-    /// The host whose files these are.
-    pub fn new(files: &'a F) -> Self {
-        SystemHost { files }
+    /// The host whose files these are, with the leave to open one file and to make one. Nothing is known of either.
+    pub fn new(files: &'a F) -> (Self, OpeningLeave, MakingLeave) {
+        let opening = OpeningLeave {
+            supposed: Supposition::any(),
+            _once: (),
+        };
+        let making = MakingLeave {
+            supposed: Supposition::any(),
+            _once: (),
+        };
+        (SystemHost { files }, opening, making)
     }
 }
 
@@ -148,16 +181,18 @@ impl<F: Files<File = File>> Host for SystemHost<'_, F> {
       supposed = λ file u. Unit {0};
     } };
 
-    fn open(&self, path: &str) -> io::Result<File> {
-        OpenOptions::new()
+    fn open(&self, path: &str, leave: OpeningLeave) -> Result<(File, Supposition), io::Error> {
+        let file = OpenOptions::new()
             .read(true)
             .write(true)
-            .open(self.files, path)
+            .open(self.files, path)?;
+        Ok((file, leave.supposed))
     }
 
-    fn create(&self, path: &str) -> Result<(File, RemovalRight), io::Error> {
+    fn create(&self, path: &str, leave: MakingLeave) -> Result<(NewFile<File>, Supposition), io::Error> {
         let file = File::create_new(self.files, path)?;
-        Ok((file, RemovalRight { _once: () }))
+        let right = RemovalRight { _once: () };
+        Ok((NewFile { file, right }, leave.supposed))
     }
 
     fn fill(&self, _path: &str, file: &File, form: Form, blocks: u32) -> io::Result<()> {

@@ -14,7 +14,10 @@ ghost use Rattle.filser.specs.declared.fault.HostFault.TheVariants.{InUse, Syste
 
 use crate::fault::report;
 use crate::streams::{is_stream, stream_of};
-use crate::{Disks, Host, HostFault, Image, ImageFault, Refusal, RemovalRight, RunDisks, Seen};
+use crate::{
+    Disks, Host, HostFault, Image, ImageDisks, ImageFault, MakingLeave, NewDisks, NewFile, OpeningLeave,
+    Refusal, RemovalRight, Run, Seen,
+};
 use blockcache::Cached;
 use blockdisk::{Disk, NoMemory};
 use commands::Volume;
@@ -28,8 +31,11 @@ use volume::VolumeError;
 /// How many blocks of an image are kept in memory while it is served.
 const KEPT_BLOCKS: usize = 256;
 
-/// Why an image isn't served or made, and what is left of its disk.
-pub(crate) type Denied = (ImageFault, RunDisks);
+/// Why an image isn't served, and what is left of its disk.
+pub(crate) type Denied = (ImageFault, ImageDisks);
+
+/// Why an image isn't made, and what is left of its disk.
+pub(crate) type NotMade = (ImageFault, NewDisks);
 
 /// Why the first call failed that did on a file, for people.
 pub(crate) fn failure_of(file: &HostFile) -> Option<HostFault>
@@ -106,14 +112,15 @@ fn own<H: Host, E: Write>(
 fn open_file<H: Host, E: Write>(
     host: &H,
     path: &str,
+    leave: OpeningLeave,
     errors: &mut E,
-) -> Result<H::File, ImageFault>
-    ensures opened { IfOk result (λ file. (H.facts host.now).opened path.now (Ok file)
-        × IsOwn (H.facts host.now) file) }
+) -> Result<(H::File, Supposition), ImageFault>
+    ensures opened { IfOk result (λ opened. (H.facts host.now).opened path.now (Ok opened.0)
+        × IsOwn (H.facts host.now) opened.0 × (unseen_in opened.1 ≡ unseen_in leave.supposed)) }
     ensures refused { IfErr result (IsUnopened (H.facts host.now) path.now) }
 {
-    match host.open(path) {
-        Ok(file) => own(host, file, path, errors),
+    match host.open(path, leave) {
+        Ok((file, supposed)) => Ok((own(host, file, path, errors)?, supposed)),
         Err(error) => Err(ImageFault::from(HostFault::System(error))),
     }
 }
@@ -165,19 +172,19 @@ pub(crate) fn open_disk<H: Host, E: Write>(
     host: &H,
     path: &str,
     form: Form,
-    supposed: Supposition,
+    leave: OpeningLeave,
     errors: &mut E,
 ) -> Result<ImageDisk<HostFile>, Denied>
-    ensures opened { IfOk result (λ disk. IsOpened (H.facts host.now) path.now (unseen_in supposed)) }
+    ensures opened { IfOk result (λ disk. IsOpened (H.facts host.now) path.now (unseen_in leave.supposed)) }
     ensures began { IfOk result
-        (λ disk. BeganAs form (unseen_in supposed) (⟦<ImageDisk<HostFile> as Disk>⟧.state disk)) }
+        (λ disk. BeganAs form (unseen_in leave.supposed) (⟦<ImageDisk<HostFile> as Disk>⟧.state disk)) }
     ensures counted { IfOk result (λ disk. (⟦<ImageDisk<HostFile> as Disk>⟧.state disk).failures ≡ 0) }
-    ensures denied { IfErr result (λ denied. IsDenied (H.facts host.now) (⟦<RunDisks as Seen>⟧.views) path.now form
-        (unseen_in supposed) denied.0 denied.1) }
+    ensures denied { IfErr result (λ denied. IsDenied (H.facts host.now) (⟦<Run as Seen>⟧.views) path.now form
+        (unseen_in leave.supposed) denied.0 denied.1) }
     ensures undone { IfErr result (λ denied. HasNoDisk denied.1) }
 {
-    let file = match open_file(host, path, errors) {
-        Ok(file) => file,
+    let (file, supposed) = match open_file(host, path, leave, errors) {
+        Ok(opened) => opened,
         Err(fault) => return Err((fault, Disks::None)),
     };
     match disk_in(host, file, form, supposed) {
@@ -217,17 +224,17 @@ pub(crate) fn open_image<H: Host, E: Write>(
     alloc: Global,
     path: &str,
     form: Form,
-    supposed: Supposition,
+    leave: OpeningLeave,
     errors: &mut E,
 ) -> Result<Image, Denied>
-    ensures opened { IfOk result (λ image. IsOpened (H.facts host.now) path.now (unseen_in supposed)) }
+    ensures opened { IfOk result (λ image. IsOpened (H.facts host.now) path.now (unseen_in leave.supposed)) }
     ensures began { IfOk result
-        (λ image. BeganAs form (unseen_in supposed) (⟦<Cached<ImageDisk<HostFile>> as Disk>⟧.state image)) }
+        (λ image. BeganAs form (unseen_in leave.supposed) (⟦<Cached<ImageDisk<HostFile>> as Disk>⟧.state image)) }
     ensures counted { IfOk result (λ image. (⟦<Cached<ImageDisk<HostFile>> as Disk>⟧.state image).failures ≡ 0) }
-    ensures denied { IfErr result (λ denied. IsDenied (H.facts host.now) (⟦<RunDisks as Seen>⟧.views) path.now form
-        (unseen_in supposed) denied.0 denied.1) }
+    ensures denied { IfErr result (λ denied. IsDenied (H.facts host.now) (⟦<Run as Seen>⟧.views) path.now form
+        (unseen_in leave.supposed) denied.0 denied.1) }
 {
-    let disk = open_disk(host, path, form, supposed, errors)?;
+    let disk = open_disk(host, path, form, leave, errors)?;
     keep_blocks(alloc, disk)
 }
 
@@ -236,11 +243,16 @@ pub(crate) fn open_image<H: Host, E: Write>(
 /// # Errors
 ///
 /// `Exists` where something has that name, `Device` where it can't be made.
-pub(crate) fn new_file<H: Host>(host: &H, path: &str) -> Result<(H::File, RemovalRight), ImageFault>
-    ensures made { IfOk result (λ made. (H.facts host.now).created path.now (Ok made.0)) }
+pub(crate) fn new_file<H: Host>(
+    host: &H,
+    path: &str,
+    leave: MakingLeave,
+) -> Result<(NewFile<H::File>, Supposition), ImageFault>
+    ensures made { IfOk result (λ made. (H.facts host.now).created path.now (Ok made.0.file)
+        × (unseen_in made.1 ≡ unseen_in leave.supposed)) }
     ensures refused { IfErr result (IsUnmade (H.facts host.now) path.now) }
 {
-    match host.create(path) {
+    match host.create(path, leave) {
         Ok(made) => Ok(made),
         Err(error) if error.kind() == ErrorKind::AlreadyExists => Err(ImageFault {
             refusal: Refusal::Exists,
@@ -280,7 +292,7 @@ fn filled<H: Host, E: Write>(
 /// # Errors
 ///
 /// `WrongLength` where the host has given it another number.
-fn as_long(disk: ImageDisk<HostFile>, blocks: u32) -> Result<ImageDisk<HostFile>, Denied>
+fn as_long(disk: ImageDisk<HostFile>, blocks: u32) -> Result<ImageDisk<HostFile>, NotMade>
     ensures same { IfOk result (λ long. (long ≡ disk)
         × ((⟦<ImageDisk<HostFile> as Disk>⟧.state long).size ≡ blocks)) }
     ensures denied { IfErr result (λ denied. (denied.1 ≡ disks.Unserved disk)
@@ -310,14 +322,14 @@ pub(crate) fn zeros_in<H: Host, E: Write>(
     blocks: u32,
     supposed: Supposition,
     errors: &mut E,
-) -> Result<ImageDisk<HostFile>, Denied>
+) -> Result<ImageDisk<HostFile>, NotMade>
     requires { (H.facts host.now).created path.now (Ok file) }
-    ensures made { IfOk result (λ disk. IsNewDisk (H.facts host.now) (⟦<RunDisks as Seen>⟧.views) path.now form
+    ensures made { IfOk result (λ disk. IsNewDisk (H.facts host.now) (⟦<Run as Seen>⟧.views) path.now form
         blocks (unseen_in supposed) disk) }
     ensures began { IfOk result
         (λ disk. BeganAs form (unseen_in supposed) (⟦<ImageDisk<HostFile> as Disk>⟧.state disk)) }
     ensures counted { IfOk result (λ disk. (⟦<ImageDisk<HostFile> as Disk>⟧.state disk).failures ≡ 0) }
-    ensures denied { IfErr result (λ denied. IsNotMade (H.facts host.now) (⟦<RunDisks as Seen>⟧.views) path.now form
+    ensures denied { IfErr result (λ denied. IsNotMade (H.facts host.now) (⟦<Run as Seen>⟧.views) path.now form
         blocks (unseen_in supposed) denied.0 denied.1) }
 {
     let file = match filled(host, file, path, form, blocks, errors) {
@@ -335,7 +347,7 @@ pub(crate) fn zeros_in<H: Host, E: Write>(
 /// # Errors
 ///
 /// `NotVolume` where the disk has a number of blocks that is no volume's, `Device` where the device failed.
-fn volume_on(disk: ImageDisk<HostFile>, blocks: u32) -> Result<ImageDisk<HostFile>, Denied>
+fn volume_on(disk: ImageDisk<HostFile>, blocks: u32) -> Result<ImageDisk<HostFile>, NotMade>
     requires { (⟦<ImageDisk<HostFile> as Disk>⟧.state disk).failures ≡ 0 }
     ensures empty { IfOk result (λ made. IsEmptyVolume (⟦<ImageDisk<HostFile> as Disk>⟧.state made)) }
     ensures same { IfOk result (λ made. SameDisk (⟦<ImageDisk<HostFile> as Disk>⟧.state disk)
@@ -370,12 +382,12 @@ fn volume_in<H: Host, E: Write>(
     blocks: u32,
     supposed: Supposition,
     errors: &mut E,
-) -> Result<ImageDisk<HostFile>, Denied>
+) -> Result<ImageDisk<HostFile>, NotMade>
     requires { (H.facts host.now).created path.now (Ok file) }
-    ensures made { IfOk result (λ disk. IsNewDisk (H.facts host.now) (⟦<RunDisks as Seen>⟧.views) path.now form
+    ensures made { IfOk result (λ disk. IsNewDisk (H.facts host.now) (⟦<Run as Seen>⟧.views) path.now form
         blocks (unseen_in supposed) disk) }
     ensures empty { IfOk result (λ disk. IsEmptyVolume (⟦<ImageDisk<HostFile> as Disk>⟧.state disk)) }
-    ensures denied { IfErr result (λ denied. IsNotMade (H.facts host.now) (⟦<RunDisks as Seen>⟧.views) path.now form
+    ensures denied { IfErr result (λ denied. IsNotMade (H.facts host.now) (⟦<Run as Seen>⟧.views) path.now form
         blocks (unseen_in supposed) denied.0 denied.1) }
 {
     let disk = zeros_in(host, file, path, form, blocks, supposed, errors)?;
@@ -394,23 +406,23 @@ pub(crate) fn make_image<H: Host, E: Write>(
     path: &str,
     form: Form,
     blocks: u32,
-    supposed: Supposition,
+    leave: MakingLeave,
     errors: &mut E,
-) -> Result<(ImageDisk<HostFile>, RemovalRight), Denied>
-    ensures made { IfOk result (λ made. IsNewDisk (H.facts host.now) (⟦<RunDisks as Seen>⟧.views) path.now form
-        blocks (unseen_in supposed) made.0) }
+) -> Result<(ImageDisk<HostFile>, RemovalRight), NotMade>
+    ensures made { IfOk result (λ made. IsNewDisk (H.facts host.now) (⟦<Run as Seen>⟧.views) path.now form
+        blocks (unseen_in leave.supposed) made.0) }
     ensures empty { IfOk result (λ made. IsEmptyVolume (⟦<ImageDisk<HostFile> as Disk>⟧.state made.0)) }
-    ensures denied { IfErr result (λ denied. IsNotMade (H.facts host.now) (⟦<RunDisks as Seen>⟧.views) path.now form
-        blocks (unseen_in supposed) denied.0 denied.1) }
+    ensures denied { IfErr result (λ denied. IsNotMade (H.facts host.now) (⟦<Run as Seen>⟧.views) path.now form
+        blocks (unseen_in leave.supposed) denied.0 denied.1) }
 {
-    let (file, right) = match new_file(host, path) {
+    let (made, supposed) = match new_file(host, path, leave) {
         Ok(made) => made,
         Err(fault) => return Err((fault, Disks::None)),
     };
-    match volume_in(host, file, path, form, blocks, supposed, errors) {
-        Ok(disk) => Ok((disk, right)),
+    match volume_in(host, made.file, path, form, blocks, supposed, errors) {
+        Ok(disk) => Ok((disk, made.right)),
         Err(denied) => {
-            let _ = host.remove(path, right);
+            let _ = host.remove(path, made.right);
             Err(denied)
         }
     }

@@ -1,20 +1,16 @@
-ghost use Rattle.std.specs.Prelude.{◌≡◌};
-
 use std::io::{self, Read};
 
 /// A reader that knows the line that it is in, and why it failed.
 #[derive(Drop)]
-pub(crate) struct LineReader<'a, R: Read> {
-    reader: &'a mut R,
+pub struct LineReader<R: Read> {
+    reader: R,
     line: u64,
     fault: Option<io::Error>,
 }
 
-impl<'a, R: Read> LineReader<'a, R> {
+impl<R: Read> LineReader<R> {
     /// The lines of this reader, from the first one on.
-    pub(crate) fn new(reader: &'a mut R) -> Self
-        ensures { R.remaining result.reader.now ≡ R.remaining reader.old }
-    {
+    pub fn new(reader: R) -> Self {
         LineReader {
             reader,
             line: 1,
@@ -36,8 +32,8 @@ fn ends_in(bytes: &[u8]) -> u64 {
     bytes.iter().filter(|byte| **byte == b'\n').count() as u64
 }
 
-impl<R: Read> Read for LineReader<'_, R> {
-    ghost remaining = { λ lines. R.remaining lines.reader.now };
+impl<R: Read> Read for LineReader<R> {
+    ghost remaining = { λ lines. R.remaining lines.reader };
 
     fn read(&mut self, buf: &mut [u8]) -> io::Result<usize> {
         let count = self.reader.read(buf);

@@ -48,16 +48,16 @@ pub use asked::Request;
 pub use disks::Disks;
 pub use error::RequestError;
 pub use fault::{HostFault, ImageFault};
-pub use host::{Host, RemovalRight, SystemHost};
+pub use host::{Host, MakingLeave, NewFile, OpeningLeave, RemovalRight, SystemHost};
 pub use identity::FileId;
-use imagefile::Supposition;
+pub use lines::LineReader;
 pub use message::Message;
-pub use outcome::{Beginnings, Run};
+pub use outcome::{Leaves, Run};
 pub use program::work;
 pub use progress::Telling;
 pub use reading::request;
 pub use refusal::Refusal;
-pub use seen::{Image, RunDisks, Seen};
+pub use seen::{Image, ImageDisks, NewDisks, Seen};
 pub use status::Status;
 use std::env;
 use std::io::{self, ErrorKind, IsTerminal};
@@ -96,18 +96,15 @@ fn run(rt: &HostRuntime) -> io::Result<u8> {
     } else {
         Telling::Silent
     };
-    let supposed = Beginnings {
-        image: Supposition::any(),
-        new: Supposition::any(),
-    };
+    let (host, image, new) = SystemHost::new(rt);
     let run = work(
-        &SystemHost::new(rt),
+        &host,
         alloc,
         texts.as_slice(),
         &missing,
         telling,
-        supposed,
-        &mut rt.reader(),
+        Leaves { image, new },
+        &mut LineReader::new(rt.reader()),
         &mut output,
         &mut errors,
     );

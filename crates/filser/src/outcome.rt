@@ -1,33 +1,37 @@
-use crate::{RunDisks, Status};
-use imagefile::Supposition;
+use crate::{ImageDisks, MakingLeave, NewDisks, OpeningLeave, Status};
+use blockdisk::MemDisk;
 
-/// What is supposed of the files of a run that no call on them shows.
+/// What a run may ask the host for: one file that is there, and one that it makes.
 #[derive(Drop)]
-pub struct Beginnings {
-    /// Of the image that is there.
-    pub image: Supposition,
-    /// Of the image that is made.
-    pub new: Supposition,
+pub struct Leaves {
+    /// To open the image that is there.
+    pub image: OpeningLeave,
+    /// To make a new one.
+    pub new: MakingLeave,
 }
 
-/// How a run ended, and what is left of the images that it worked on.
+/// How a run ended, and what is left of what it worked on.
 #[derive(Drop)]
 pub(crate) struct Outcome {
     /// How it ended.
     pub(crate) status: Status,
-    /// Of the image that is there, or of the volume in memory.
-    pub(crate) image: RunDisks,
+    /// Of the image that is there.
+    pub(crate) image: ImageDisks,
     /// Of the image that is made.
-    pub(crate) new: RunDisks,
+    pub(crate) new: NewDisks,
+    /// The volume in memory.
+    pub(crate) memory: Option<MemDisk>,
 }
 
-/// The exit status of a run of the program, and what is left of the images that it worked on.
+/// The exit status of a run of the program, and what is left of what it worked on.
 #[derive(Drop)]
 pub struct Run {
     /// The exit status: 0 to 4.
     pub code: u8,
-    /// Of the image that is there, or of the volume in memory.
-    pub image: RunDisks,
+    /// Of the image that is there.
+    pub image: ImageDisks,
     /// Of the image that is made.
-    pub new: RunDisks,
+    pub new: NewDisks,
+    /// The volume in memory.
+    pub memory: Option<MemDisk>,
 }

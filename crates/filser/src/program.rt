@@ -1,4 +1,4 @@
-ghost use Rattle.std.specs.Prelude.{◌≡◌, ◌≢◌, ◌⊎◌, ◌≤◌, ℕ, List, [], map, true, Option, Some, IfSome, MatchOption};
+ghost use Rattle.std.specs.Prelude.{◌≡◌, ◌≢◌, ◌⊎◌, ◌≤◌, ℕ, List, [], map, true, Option, None, Some, IfSome, MatchOption};
 ghost use Rattle.std.specs.Prelude.{MatchResult};
 ghost use Rattle.std.specs.Io.KnownBytes.{Keeps};
 ghost use Rattle.clap.specs.Words.{fault_of, kind_of, subcommand_of};
@@ -13,7 +13,7 @@ ghost use Rattle.filser.specs.Requests.{Asks, InRange, image_named};
 ghost use Rattle.filser.specs.Runs.{IsApart, IsHandled, IsRequestRun, WasRun};
 ghost use Rattle.filser.specs.Statuses.{status_code};
 ghost use Rattle.filser.specs.Streams.{IsStreamAt};
-ghost use Rattle.filser.specs.declared.disks.Disks.TheVariants.{None};
+ghost use Rattle.filser.specs.declared.disks.Disks.TheVariants.{Unasked};
 ghost use Rattle.filser.specs.declared.asked.Request.{Request as Asked};
 ghost use Rattle.filser.specs.declared.error.RequestError.TheVariants.{BadArgument, NoMemory, Usage};
 ghost use Rattle.filser.specs.declared.status.Status.{Status as Statuses};
@@ -27,11 +27,12 @@ use crate::outcome::Outcome;
 use crate::serving::{say, serve_fresh, serve_image};
 use crate::streams::stream_at;
 use crate::{
-    Beginnings, Disks, Host, HostFault, ImageFault, MissingStreams, Request, RequestError, Run, RunDisks, Seen,
-    Status, Telling, request,
+    Disks, Host, HostFault, ImageDisks, ImageFault, Leaves, MakingLeave, MissingStreams, NewDisks,
+    OpeningLeave, Request, RequestError, Run, Seen, Status, Telling, request,
 };
+use blockdisk::MemDisk;
 use clap::Error;
-use imagefile::{Form, Supposition};
+use imagefile::Form;
 use std::alloc::Global;
 use std::io::{self, Read, Write};
 
@@ -48,8 +49,8 @@ pub fn work<H: Host, R: Read, W: Write, E: Write>(
     words: &[&str],
     missing: &MissingStreams,
     telling: Telling,
-    supposed: Beginnings,
-    reader: &mut R,
+    leaves: Leaves,
+    reader: &mut LineReader<R>,
     writer: &mut W,
     errors: &mut E,
 ) -> Run
@@ -62,18 +63,24 @@ pub fn work<H: Host, R: Read, W: Write, E: Write>(
         → fault_of command_line (map (λ w. w.now) words.now) ≡ [] → result.code ≢ 2 }
     // What was done with the images, what was printed, and the status of that, unless the end of the text can't be
     // written.
-    ensures ran { (status : Statuses) × (left : Option (List ℕ)) × (full : Option (List ℕ))
+    ensures ran { (status : Statuses) × (full : Option (List ℕ))
         × ((result.code ≡ status_code status) ⊎ (result.code ≡ 4)) × Keeps full (W.contents writer.new)
-        × WasRun (H.facts host.now) (⟦<RunDisks as Seen>⟧.views) missing.now (unseen_in supposed.image)
-        (unseen_in supposed.new) (fault_of command_line (map (λ w. w.now) words.now))
-        (subcommand_of command_line (map (λ w. w.now) words.now)) (R.remaining reader.old) left
-        (W.contents writer.old) full result.image result.new status }
+        × WasRun (H.facts host.now) (⟦<Run as Seen>⟧.views) missing.now (record {
+          opening = leaves.image;
+          making = leaves.new;
+          u = unseen_in leaves.image.supposed;
+          v = unseen_in leaves.new.supposed;
+          image = result.image;
+          new = result.new;
+          memory = result.memory;
+        }) (fault_of command_line (map (λ w. w.now) words.now))
+        (subcommand_of command_line (map (λ w. w.now) words.now)) (R.remaining reader.old.reader) (R.remaining reader.new.reader)
+        (W.contents writer.old) full status }
 {
-    let mut lines = LineReader::new(reader);
     let outcome = answer(
-        host, alloc, words, missing, telling, supposed, &mut lines, writer, errors,
+        host, alloc, words, missing, telling, leaves, reader, writer, errors,
     );
-    if let Some((line, fault)) = lines.fault() {
+    if let Some((line, fault)) = reader.fault() {
         report(
             errors,
             "standard input",
@@ -84,6 +91,7 @@ pub fn work<H: Host, R: Read, W: Write, E: Write>(
         code: exit_code(outcome.status, writer.flush()),
         image: outcome.image,
         new: outcome.new,
+        memory: outcome.memory,
     }
 }
 
@@ -97,14 +105,20 @@ fn exit_code(status: Status, flushed: io::Result<()>) -> u8
     }
 }
 
-/// A run that worked on no image.
-fn without_disks(status: Status) -> Outcome
-    ensures { result ≡ record { status = status; image = None; new = None } }
+/// A run that asked nothing of the host.
+fn without_disks(status: Status, leaves: Leaves) -> Outcome
+    ensures { result ≡ record {
+      status = status;
+      image = Unasked leaves.image;
+      new = Unasked leaves.new;
+      memory = None;
+    } }
 {
     Outcome {
         status,
-        image: Disks::None,
-        new: Disks::None,
+        image: Disks::Unasked(leaves.image),
+        new: Disks::Unasked(leaves.new),
+        memory: None,
     }
 }
 
@@ -115,7 +129,7 @@ fn answer<H: Host, R: Read, W: Write, E: Write>(
     words: &[&str],
     missing: &MissingStreams,
     telling: Telling,
-    supposed: Beginnings,
+    leaves: Leaves,
     reader: &mut R,
     writer: &mut W,
     errors: &mut E,
@@ -126,16 +140,23 @@ fn answer<H: Host, R: Read, W: Write, E: Write>(
         → (result.status ≡ Done) ⊎ (result.status ≡ Fault) }
     ensures asked { (r : Asked) → Asks (subcommand_of command_line (map (λ w. w.now) words.now)) r
         → fault_of command_line (map (λ w. w.now) words.now) ≡ [] → result.status ≢ BadArguments }
-    ensures ran { WasRun (H.facts host.now) (⟦<RunDisks as Seen>⟧.views) missing.now (unseen_in supposed.image)
-        (unseen_in supposed.new) (fault_of command_line (map (λ w. w.now) words.now))
+    ensures ran { WasRun (H.facts host.now) (⟦<Run as Seen>⟧.views) missing.now (record {
+          opening = leaves.image;
+          making = leaves.new;
+          u = unseen_in leaves.image.supposed;
+          v = unseen_in leaves.new.supposed;
+          image = result.image;
+          new = result.new;
+          memory = result.memory;
+        }) (fault_of command_line (map (λ w. w.now) words.now))
         (subcommand_of command_line (map (λ w. w.now) words.now)) (R.remaining reader.old) (R.remaining reader.new)
-        (W.contents writer.old) (W.contents writer.new) result.image result.new result.status }
+        (W.contents writer.old) (W.contents writer.new) result.status }
 {
     match request(alloc, words) {
         Ok(asked) => start(
-            host, alloc, &asked, missing, telling, supposed, reader, writer, errors,
+            host, alloc, &asked, missing, telling, leaves, reader, writer, errors,
         ),
-        Err(error) => without_disks(refuse(&error, writer, errors)),
+        Err(error) => without_disks(refuse(&error, writer, errors), leaves),
     }
 }
 
@@ -146,26 +167,33 @@ fn start<H: Host, R: Read, W: Write, E: Write>(
     asked: &Request<'_>,
     missing: &MissingStreams,
     telling: Telling,
-    supposed: Beginnings,
+    leaves: Leaves,
     reader: &mut R,
     writer: &mut W,
     errors: &mut E,
 ) -> Outcome
     requires { InRange asked.now }
     ensures serving { result.status ≢ BadArguments }
-    ensures ran { IsHandled (H.facts host.now) (⟦<RunDisks as Seen>⟧.views) missing.now (unseen_in supposed.image)
-        (unseen_in supposed.new) asked.now (R.remaining reader.old) (R.remaining reader.new) (W.contents writer.old)
-        (W.contents writer.new) result.image result.new result.status }
+    ensures ran { IsHandled (H.facts host.now) (⟦<Run as Seen>⟧.views) missing.now (record {
+          opening = leaves.image;
+          making = leaves.new;
+          u = unseen_in leaves.image.supposed;
+          v = unseen_in leaves.new.supposed;
+          image = result.image;
+          new = result.new;
+          memory = result.memory;
+        }) asked.now (R.remaining reader.old) (R.remaining reader.new) (W.contents writer.old) (W.contents writer.new)
+        result.status }
 {
     if let Some((path, stream)) = stream_named(host, asked) {
         let fault = ImageFault::from(stream);
-        return without_disks(refuse_image(fault, path, writer, errors));
+        return without_disks(refuse_image(fault, path, writer, errors), leaves);
     }
     if missing.are_needed() {
         report(errors, "standard input or output", &"it is closed");
-        return without_disks(Status::Fault);
+        return without_disks(Status::Fault, leaves);
     }
-    perform(host, alloc, asked, telling, supposed, reader, writer, errors)
+    perform(host, alloc, asked, telling, leaves, reader, writer, errors)
 }
 
 /// The path of the image that is named, and the standard stream that leads to it, where one does.
@@ -185,39 +213,44 @@ fn perform<H: Host, R: Read, W: Write, E: Write>(
     alloc: Global,
     asked: &Request<'_>,
     telling: Telling,
-    supposed: Beginnings,
+    leaves: Leaves,
     reader: &mut R,
     writer: &mut W,
     errors: &mut E,
 ) -> Outcome
     requires { InRange asked.now }
     ensures serving { result.status ≢ BadArguments }
-    ensures ran { IsRequestRun (H.facts host.now) (⟦<RunDisks as Seen>⟧.views) (unseen_in supposed.image)
-        (unseen_in supposed.new) asked.now (R.remaining reader.old) (R.remaining reader.new) (W.contents writer.old)
-        (W.contents writer.new) result.image result.new result.status }
+    ensures ran { IsRequestRun (H.facts host.now) (⟦<Run as Seen>⟧.views) (record {
+          opening = leaves.image;
+          making = leaves.new;
+          u = unseen_in leaves.image.supposed;
+          v = unseen_in leaves.new.supposed;
+          image = result.image;
+          new = result.new;
+          memory = result.memory;
+        }) asked.now (R.remaining reader.old) (R.remaining reader.new) (W.contents writer.old) (W.contents writer.new)
+        result.status }
 {
     match *asked {
-        Request::Fresh => on_image(serve_fresh(alloc, reader, writer)),
-        Request::Init(path, blocks, form) => on_new(init_image(
-            host,
-            path,
-            form,
-            blocks,
-            supposed.new,
-            writer,
-            errors,
-        )),
-        Request::Work(path, form, task) => on_image(serve_image(
-            host,
-            alloc,
-            path,
-            form,
-            supposed.image,
-            task,
-            reader,
-            writer,
-            errors,
-        )),
+        Request::Fresh => on_memory(serve_fresh(alloc, reader, writer), leaves),
+        Request::Init(path, blocks, form) => {
+            let made = init_image(host, path, form, blocks, leaves.new, writer, errors);
+            on_new(made, leaves.image)
+        }
+        Request::Work(path, form, task) => {
+            let served = serve_image(
+                host,
+                alloc,
+                path,
+                form,
+                leaves.image,
+                task,
+                reader,
+                writer,
+                errors,
+            );
+            on_image(served, leaves.new)
+        }
         Request::Convert(path, new, form) => {
             let conversion = Conversion {
                 path,
@@ -225,30 +258,49 @@ fn perform<H: Host, R: Read, W: Write, E: Write>(
                 new,
                 telling,
             };
-            convert_image(host, alloc, &conversion, supposed, writer, errors)
+            convert_image(host, alloc, &conversion, leaves, writer, errors)
         }
     }
 }
 
-/// A run that made no image.
-fn on_image(served: (Status, RunDisks)) -> Outcome
-    ensures { result ≡ record { status = served.0; image = served.1; new = None } }
+/// A run on a volume in memory alone.
+fn on_memory(served: (Status, Option<MemDisk>), leaves: Leaves) -> Outcome
+    ensures { result ≡ record {
+      status = served.0;
+      image = Unasked leaves.image;
+      new = Unasked leaves.new;
+      memory = served.1;
+    } }
+{
+    Outcome {
+        status: served.0,
+        image: Disks::Unasked(leaves.image),
+        new: Disks::Unasked(leaves.new),
+        memory: served.1,
+    }
+}
+
+/// A run on an image that is there alone.
+fn on_image(served: (Status, ImageDisks), leave: MakingLeave) -> Outcome
+    ensures { result ≡ record { status = served.0; image = served.1; new = Unasked leave; memory = None } }
 {
     Outcome {
         status: served.0,
         image: served.1,
-        new: Disks::None,
+        new: Disks::Unasked(leave),
+        memory: None,
     }
 }
 
-/// A run that worked on no image that is there.
-fn on_new(made: (Status, RunDisks)) -> Outcome
-    ensures { result ≡ record { status = made.0; image = None; new = made.1 } }
+/// A run that made an image alone.
+fn on_new(made: (Status, NewDisks), leave: OpeningLeave) -> Outcome
+    ensures { result ≡ record { status = made.0; image = Unasked leave; new = made.1; memory = None } }
 {
     Outcome {
         status: made.0,
-        image: Disks::None,
+        image: Disks::Unasked(leave),
         new: made.1,
+        memory: None,
     }
 }
 
@@ -258,15 +310,15 @@ fn init_image<H: Host, W: Write, E: Write>(
     path: &str,
     form: Form,
     blocks: u32,
-    supposed: Supposition,
+    leave: MakingLeave,
     writer: &mut W,
     errors: &mut E,
-) -> (Status, RunDisks)
+) -> (Status, NewDisks)
     ensures serving { result.0 ≢ BadArguments }
-    ensures ran { IsOnNew (H.facts host.now) (⟦<RunDisks as Seen>⟧.views) path.now form blocks (unseen_in supposed)
+    ensures ran { IsOnNew (H.facts host.now) (⟦<Run as Seen>⟧.views) path.now form blocks (unseen_in leave.supposed)
         (W.contents writer.old) (W.contents writer.new) result.1 result.0 }
 {
-    match make_image(host, path, form, blocks, supposed, errors) {
+    match make_image(host, path, form, blocks, leave, errors) {
         Ok((disk, right)) => (Status::Done, Disks::Made(disk, right)),
         Err((fault, disks)) => (refuse_image(fault, path, writer, errors), disks),
     }

@@ -1,6 +1,6 @@
 ghost use Rattle.filser.specs.Views.{Views};
 
-use crate::Disks;
+use crate::{Disks, MakingLeave, OpeningLeave, Run};
 use blockcache::Cached;
 use blockdisk::{Disk, MemDisk};
 use imagefile::{Durable, HostFile, ImageDisk};
@@ -8,8 +8,11 @@ use imagefile::{Durable, HostFile, ImageDisk};
 /// An image of the host's that is served in place, with some of its blocks kept in memory.
 pub type Image = Cached<ImageDisk<HostFile>>;
 
-/// What is left of the disks of a run of the program.
-pub type RunDisks = Disks<MemDisk, HostFile, ImageDisk<HostFile>, Image>;
+/// What is left of the image that is there.
+pub type ImageDisks = Disks<OpeningLeave, HostFile, ImageDisk<HostFile>, Image>;
+
+/// What is left of the image that is made.
+pub type NewDisks = Disks<MakingLeave, HostFile, ImageDisk<HostFile>, Image>;
 
 /// Disks that contracts see as their states.
 pub trait Seen {
@@ -28,7 +31,7 @@ pub trait Seen {
     ghost views: { Views Self.Memory Self.File Self.Disk Self.Image };
 }
 
-impl Seen for RunDisks {
+impl Seen for Run {
     type Memory = MemDisk;
 
     type File = HostFile;

@@ -11,10 +11,10 @@ ghost use Rattle.filser.specs.declared.status.Status.TheVariants.{BadArguments};
 use crate::image::{open_image, tell_failure};
 use crate::message::print_line;
 use crate::program::refuse_image;
-use crate::{Disks, Host, Refusal, RunDisks, Seen, Status, Task};
+use crate::{Disks, Host, ImageDisks, OpeningLeave, Refusal, Run, Seen, Status, Task};
 use blockdisk::{Disk, MemDisk};
 use commands::{Monitor, SessionError, Tally, Volume, check, get, list, put, script, session};
-use imagefile::{Form, Supposition};
+use imagefile::Form;
 use std::alloc::Global;
 use std::io::{Read, Write};
 use words36::Moment;
@@ -138,18 +138,18 @@ pub(crate) fn serve_image<H: Host, R: Read, W: Write, E: Write>(
     alloc: Global,
     path: &str,
     form: Form,
-    supposed: Supposition,
+    leave: OpeningLeave,
     task: Task,
     reader: &mut R,
     writer: &mut W,
     errors: &mut E,
-) -> (Status, RunDisks)
+) -> (Status, ImageDisks)
     ensures serving { result.0 ≢ BadArguments }
-    ensures ran { IsOnImage (H.facts host.now) (⟦<RunDisks as Seen>⟧.views) path.now form (unseen_in supposed) task
+    ensures ran { IsOnImage (H.facts host.now) (⟦<Run as Seen>⟧.views) path.now form (unseen_in leave.supposed) task
         (R.remaining reader.old) (R.remaining reader.new) (W.contents writer.old) (W.contents writer.new) result.1
         result.0 }
 {
-    match open_image(host, alloc, path, form, supposed, errors) {
+    match open_image(host, alloc, path, form, leave, errors) {
         Ok(image) => {
             let (status, image) = serve(alloc, image, task, reader, writer);
             tell_failure(errors, path, &image);
@@ -164,19 +164,19 @@ pub(crate) fn serve_fresh<R: Read, W: Write>(
     alloc: Global,
     reader: &mut R,
     writer: &mut W,
-) -> (Status, RunDisks)
+) -> (Status, Option<MemDisk>)
     ensures serving { result.0 ≢ BadArguments }
-    ensures ran { IsOnFresh (⟦<RunDisks as Seen>⟧.views) (R.remaining reader.old) (R.remaining reader.new)
+    ensures ran { IsOnFresh (⟦<Run as Seen>⟧.views) (R.remaining reader.old) (R.remaining reader.new)
         (W.contents writer.old) (W.contents writer.new) result.1 result.0 }
 {
     let Ok(mut disk) = MemDisk::new(alloc, FRESH_BLOCKS, FRESH_CALLS) else {
-        return (Status::Fault, Disks::None);
+        return (Status::Fault, None);
     };
     match Volume::init(&mut disk) {
         Ok(()) => {
             let (status, disk) = serve(alloc, disk, Task::Run(no_moment()), reader, writer);
-            (status, Disks::Memory(disk))
+            (status, Some(disk))
         }
-        Err(error) => (say(writer, Refusal::Start(error)), Disks::Memory(disk)),
+        Err(error) => (say(writer, Refusal::Start(error)), Some(disk)),
     }
 }

@@ -23,8 +23,7 @@ returns-in-Err-clause-ran g c = rw c.without_disks.ensures (record {
   is = inr (
     c.in-Err.error,
     refl,
-    refl,
-    refl,
+    record { image = refl; new = refl; memory = refl },
     c.refuse.ensures.ends,
     prints_only (fault_of command_line (map (λ w. w.now) c.args.words.now)) c.in-Err.error _ _ c.in-Err.ensures.usage
         c.refuse.ensures.unprinted c.refuse.ensures.mistake,

@@ -1,11 +1,17 @@
 use Rattle.std.proofs.Common.{refl}
 use Rattle.filser.proofs.program.perform.Goals as goal
 
+pub returns-in-Fresh-clause-ran : goal.returns-in-Fresh-clause-ran
+returns-in-Fresh-clause-ran g c = rw (c.in-Fresh.is, c.on_memory.ensures) (c.serve_fresh.ensures.ran, refl, refl)
+
 pub returns-in-Init-clause-ran : goal.returns-in-Init-clause-ran
-returns-in-Init-clause-ran g c = rw (c.in-Init.is, c.on_new.ensures) (refl, refl, c.init_image.ensures.ran)
+returns-in-Init-clause-ran g c =
+    rw (c.in-Init.is, c.on_new.ensures) (refl, c.init_image-made.ensures.ran, refl, refl)
 
 pub returns-in-Work-clause-ran : goal.returns-in-Work-clause-ran
-returns-in-Work-clause-ran g c = rw (c.in-Work.is, c.on_image-in-Work.ensures) (c.serve_image.ensures.ran, refl)
+returns-in-Work-clause-ran g c =
+    rw (c.in-Work.is, c.on_image.ensures) (c.serve_image-served.ensures.ran, refl, refl)
 
 pub returns-in-Convert-clause-ran : goal.returns-in-Convert-clause-ran
-returns-in-Convert-clause-ran g c = rw c.in-Convert.is (refl, c.convert_image.ensures.ran)
+returns-in-Convert-clause-ran g c =
+    rw c.in-Convert.is (refl, c.convert_image.ensures.ran, c.convert_image.ensures.memory)

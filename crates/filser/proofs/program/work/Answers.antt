@@ -1,4 +1,3 @@
-use Rattle.std.proofs.Common.{sym}
 use Rattle.filser.proofs.ExitCodes.{code_is, code_mistaken, code_asked}
 use Rattle.filser.proofs.program.work.Goals as goal
 
@@ -15,9 +14,8 @@ returns-clause-asked g c r asks none = code_asked c.answer-outcome.result.status
 pub returns-clause-ran : goal.returns-clause-ran
 returns-clause-ran g c = (
   c.answer-outcome.result.status,
-  g.R.Read.remaining c.answer-outcome.new.reader.reader.now,
   g.W.Write.contents c.answer-outcome.new.writer,
   code_is c.flush.result c.answer-outcome.result.status c.exit_code.result c.exit_code.ensures,
   c.flush.ensures.bytes,
-  rw (sym c.new-lines.ensures) c.answer-outcome.ensures.ran,
+  c.answer-outcome.ensures.ran,
 )
