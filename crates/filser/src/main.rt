@@ -7,13 +7,18 @@
 //!    that kind; `BadArgument` only where the words are taken and ask for nothing. (`usage`, `bad`)
 //! 4. Why a run ends before a line is served is shown as the definition has it, byte by byte, and the
 //!    status of such a run is the definition's. (`specs/Refusals.antt`)
-//! 5. `work` is a whole run: it ends, takes nothing but what it is handed, and answers a status from 0 to
-//!    4. `main` holds the numbers of the standard streams that are missing, asks whether the standard error is a
-//!    terminal, hands `work` the streams and the host's files, and does nothing else.
-//! 6. No file with the number of a standard stream is taken for an image. (`open_file`)
-//!
-//! 7. Whatever is done on an image is done by one function, `serve`: it starts a service on the image's disk, or says
-//!    why there is none, and hands the disk back. (`served`)
+//! 5. `work` is a whole run: it ends, takes nothing but what it is handed, and answers a status from 0 to 4. `main`
+//!    holds the numbers of the standard streams that are missing, asks whether the standard error is a terminal, hands
+//!    `work` the streams and the host's files, drops what is left of the images, and does nothing else.
+//! 6. Files are reached through `Host` alone: generic code can't truncate one, write to one except through its disk, or
+//!    remove one that it didn't make. What was asked of the host can be shown only by asking. (`HostFacts`)
+//! 7. The file of an image was opened at its path, has the number of no standard stream, and is locked if the system
+//!    has locks for it. (`IsOpened`) The disk that is served is that file's from before its first call. (`IsOnImage`)
+//! 8. Every task on an image is done by one function, `serve`: it starts a service on the disk, or says why there is
+//!    none, and hands the disk back. (`IsTaskRun`)
+//! 9. A refusal has its cause (`IsDenied`, `IsNotMade`), and its line is printed whole, or a beginning of it if the
+//!    writer fails. (`IsExplained`, `IsLine`)
+//! 10. A run hands back the images that it worked on, so that its contract says what became of them. (`WasRun`)
 //!
 //! What an image stands for, and what a line does, is not known here.
 #![tactic(auto)]

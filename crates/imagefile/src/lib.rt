@@ -8,7 +8,7 @@
 //!    failures are those that the file's bytes spell, and it is honest while the file is.
 //! 3. A file is refused exactly where its length is not a multiple of a block's or it has 2^32 blocks or
 //!    more, or where it fails; nothing is written, and the file is handed back. (`block_count`, `new`) The disk
-//!    of an open file holds what that began with. (`open_file`)
+//!    of an open file holds what that began with. (`open_file`, `BeganAs`)
 //! 4. `MemFile` is a `Durable` with no assumption, and each of its calls leaves exactly what is stated.
 //! 5. `HostFile` is a `Durable` over any system's calls, and honest while they are: an answer may end that,
 //!    and none brings it back. What a call answered is right wherever the file is honest after it, so that
