@@ -22,7 +22,7 @@ pub record Machine : Type 1 where
   pub disk : DiskState
   pub serves : Service → Type 0
 
--- On every disk: the failure count rose by one if this is the reply to an event that the disk failed, and stayed if not.
+-- On every disk: the failure count rose by one if the disk failed in the event that is answered so, and stayed if not.
 abbrev pub CountsFailure : Reply → ℕ → ℕ → Type 0
 CountsFailure reply before after =
     (reply ≡ Device → after ≡ one_more before) × ((reply ≡ Device → ⊥) → after ≡ before)

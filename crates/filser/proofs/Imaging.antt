@@ -1,6 +1,6 @@
 -- What becomes of images and their disks.
-use Rattle.std.proofs.Common.{◌≡◌, ◌⊎◌, inl, inr, ⊎_elim, ℕ, List, Option, Some, Result, Ok, Err, OnOk, refl, sym, subst}
-use Rattle.std.proofs.Common.{◌∙◌, ◌+◌, ◌-◌, ◌*◌, ◌^◌, min, true, is_some, IfOk, ap, length, replicate, arith}
+use Rattle.std.proofs.Common.{◌≡◌, ◌⊎◌, inl, inr, ⊎_elim, ℕ, List, Option, Some, Result, Ok, Err, OnOk, refl}
+use Rattle.std.proofs.Common.{sym, subst, ◌∙◌, ◌+◌, ◌-◌, ◌*◌, ◌^◌, min, true, is_some, IfOk, ap, length, replicate, arith}
 use Rattle.std.proofs.lemmas.List.{length-replicate}
 use Rattle.std.specs.Prelude.{IsErrOf, option_map, None as Nothing}
 use Rattle.std.specs.declared.io.Error.{Error}
@@ -92,7 +92,8 @@ same_ok (Err error) disk P Q same p = tt
 -- A volume in memory.
 
 sixty_four : (calls : ℕ) (old : MemoryDisk) → old ≡ zeroed 64 calls → length old.blocks ≡ 64
-sixty_four calls old is = ap (λ (m : MemoryDisk). length m.blocks) is ∙ length-replicate 64 (Some (replicate {A = ℕ} 128 0))
+sixty_four calls old is =
+    ap (λ (m : MemoryDisk). length m.blocks) is ∙ length-replicate 64 (Some (replicate {A = ℕ} 128 0))
 
 pub fresh_disk : (calls : ℕ) (old new : MemoryDisk) → old ≡ zeroed 64 calls → length new.blocks ≡ length old.blocks
     → AtRest (memory_state new) (λ c. Stands (length old.blocks) c empty) → NoneOpen (memory_state new)
@@ -105,8 +106,8 @@ fresh_disk calls old new is same rests settled sound = record {
   failures = sound ∙ ap (λ (m : MemoryDisk). m.failures) is;
 }
 
-pub fresh_refused : {T : Type 0} (calls : ℕ) (old : MemoryDisk) (failed : ℕ) (error : VolumeError) → old ≡ zeroed 64 calls
-    → (error ≡ NotVolume) ⊎ (error ≡ Device)
+pub fresh_refused : {T : Type 0} (calls : ℕ) (old : MemoryDisk) (failed : ℕ) (error : VolumeError)
+    → old ≡ zeroed 64 calls → (error ≡ NotVolume) ⊎ (error ≡ Device)
     → (IsErrOf {T = T} {E = VolumeError} (Err error) NotVolume → IsVolumeSize (length old.blocks) → ⊥)
     → (IsErrOf {T = T} {E = VolumeError} (Err error) Device → failed ≡ one_more old.failures)
     → (failed ≡ 1) × (error ≡ Device)
@@ -205,8 +206,8 @@ alone_on a b c size was p q = record {
 
 -- A task on an image.
 
-pub served_image : {H I : Type 0} (facts : HostFacts H) (state : I → DiskState) (path : List ℕ) (form : Form) (u : Unseen)
-    (task : Task) (source left sink full : Option (List ℕ)) (status : Status) (image end : I)
+pub served_image : {H I : Type 0} (facts : HostFacts H) (state : I → DiskState) (path : List ℕ) (form : Form)
+    (u : Unseen) (task : Task) (source left sink full : Option (List ℕ)) (status : Status) (image end : I)
     → IsOpened facts path u → BeganAs form u (state image) → (state image).failures ≡ 0
     → (state end).size ≡ (state image).size → ((state end).honest → (state image).honest)
     → IsTaskRun state (state image) task source left sink full end status

@@ -1,5 +1,6 @@
 -- What holds since a disk was made holds since nothing was asked of its file.
-use Rattle.std.proofs.Common.{◌≡◌, ◌⊎◌, inl, inr, ⊎_elim, ℕ, List, [], Option, Result, sym, subst, ◌∙◌, ◌+◌, ◌-◌, ◌^◌, min}
+use Rattle.std.proofs.Common.{◌≡◌, ◌⊎◌, inl, inr, ⊎_elim, ℕ, List, [], Option, Result, sym, subst, ◌∙◌}
+use Rattle.std.proofs.Common.{◌+◌, ◌-◌, ◌^◌, min}
 use Rattle.blockdisk.specs.Disk.{Contents, DiskState, MayLeave, LeavesOnly, Still}
 use Rattle.blockdisk.specs.Laws.{same_contents, still_on, leaves_on, leaves_still, leaves_weaker}
 use Rattle.changeset.specs.Crashes.{IsRecovered}
@@ -24,7 +25,8 @@ use Rattle.filser.specs.declared.status.Status.{Status}
 
 -- a crash at the beginning leaves what it may leave there
 begun_only_now : (form : Form) (blocks : ℕ) (u : Unseen) (c : Contents)
-    → (begun_image form blocks u).left_since (begun_image form blocks u).clock c → MayLeave (begun_image form blocks u) c
+    → (begun_image form blocks u).left_since (begun_image form blocks u).clock c
+    → MayLeave (begun_image form blocks u) c
 begun_only_now form blocks u c left =
     image_only_now form blocks (recorded u []) c (λ r was. recorded_only_now u [] r was) left
 
@@ -44,7 +46,8 @@ module _ (form : Form) (u : Unseen) (d : DiskState) (began : BeganAs form u d) (
   like_since : d.honest → (c : Contents) → StandsLikeBefore d c → StandsLikeBefore begun c
   like_since h c like = (like.0, (began.still h).crash like.0 like.1, like.2)
 
-  crash_since : (e : DiskState) → d.honest → LeavesOnly d e (StandsLikeBefore d) → LeavesOnly begun e (StandsLikeBefore begun)
+  crash_since : (e : DiskState) → d.honest → LeavesOnly d e (StandsLikeBefore d)
+      → LeavesOnly begun e (StandsLikeBefore begun)
   crash_since e h leaves = leaves_since e (StandsLikeBefore d) (StandsLikeBefore begun) h leaves (like_since h)
       (λ c may. (c, may, λ files stands. stands))
 

@@ -72,7 +72,8 @@ HasNoDisk (Unserved disk) = ⊥
 HasNoDisk (Served image) = ⊥
 HasNoDisk (Made disk right) = ⊥
 
--- What became of it: it was served, by asking its disk alone since the file was opened; or not, for a reason that stands.
+-- What became of it: it was served, by asking its disk alone since the file was opened; or not, for a reason that
+-- stands.
 abbrev pub IsOnImage : {H L M F D I : Type 0} → HostFacts H → Views M F D I → List ℕ → Form → Unseen → Task
     → Option (List ℕ) → Option (List ℕ) → Option (List ℕ) → Option (List ℕ) → Disks L F D I → Status → Type 0
 IsOnImage {I = I} facts views path form u task source left sink full disks status =
@@ -171,8 +172,8 @@ IsCopyFault (Source error) fault = (fault.refusal ≡ Start error)
 IsCopyFault Target fault = IsDeviceFault fault
 
 -- The copy stands for the same files, whatever a crash leaves of it, and nothing but the recovery was written to the
--- image that is there. A copy that had been cut short would have the home copies that `new` had, or all else as the copy
--- has it.
+-- image that is there. A copy that had been cut short would have the home copies that `new` had, or all else as the
+-- copy has it.
 pub record IsCopied (mid from new to : DiskState) : Type 0 where
   pub files : Files StoredFile
   pub stood : Stands mid.size mid.contents files
@@ -193,7 +194,7 @@ IsCopyRun views mid from target to sink full copy status =
     × (IsFaultOf mid from fault ⊎ (IsDeviceFault fault × ((views.disk to).failures ≡ one_more target.failures)))
     × IsExplained sink full status fault))
 
--- What became of the new one, where `mid` is the disk of the other one when it was to be made: it is there; or the other
+-- What became of the new one, if `mid` is the disk of the other one when it was to be made: it is there; or the other
 -- one couldn't be read again; or there is none, for a reason that stands.
 abbrev pub IsOnCopy : {H L M F D I : Type 0} → HostFacts H → Views M F D I → List ℕ → Form → Unseen → DiskState
     → DiskState → Option (List ℕ) → Option (List ℕ) → Disks L F D I → Status → Type 0

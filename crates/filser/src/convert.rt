@@ -46,8 +46,8 @@ pub(crate) struct Conversion<'a> {
 }
 
 /// Writes what is on an image to a new one of the other form, and prints how many blocks they have. Nothing else is
-/// written to the one that is there than its recovery. A new one that can't be finished is left, and people are told that
-/// it is incomplete; where `telling` says so, they are told before how far it is.
+/// written to the one that is there than its recovery. A new one that can't be finished is left, and people are told
+/// that it is incomplete; where `telling` says so, they are told before how far it is.
 pub(crate) fn convert_image<H: Host, W: Write, E: Write>(
     host: &H,
     alloc: Global,

@@ -49,8 +49,9 @@ pub trait Host {
             × (unseen_in made.1 ≡ unseen_in leave.supposed)) }
         ensures refused { IfErr result (λ error. (facts self.now).created path.now (Err error)) };
 
-    /// Fills a file that was made with as many blocks of zeros, in this form, and waits until they are on the device. So
-    /// a file system that has no room for an image refuses it now, and not when somebody's file is written.
+    /// Fills a file that was made with as many blocks of zeros, in this form, and waits until they, and the name of the
+    /// file, are on the device. So a file system that has no room for an image refuses it now, and not when somebody's
+    /// file is written.
     ///
     /// # Errors
     ///

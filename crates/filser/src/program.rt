@@ -1,5 +1,5 @@
-ghost use Rattle.std.specs.Prelude.{◌≡◌, ◌≢◌, ◌⊎◌, ◌≤◌, ℕ, List, [], map, true, Option, None, Some, IfSome, MatchOption};
-ghost use Rattle.std.specs.Prelude.{MatchResult};
+ghost use Rattle.std.specs.Prelude.{◌≡◌, ◌≢◌, ◌⊎◌, ◌≤◌, ℕ, List, [], map, true, Option, None, Some, IfSome};
+ghost use Rattle.std.specs.Prelude.{MatchOption, MatchResult};
 ghost use Rattle.std.specs.Io.KnownBytes.{Keeps};
 ghost use Rattle.clap.specs.Words.{fault_of, kind_of, subcommand_of};
 ghost use Rattle.clap.specs.declared.error.Error.{Error as Errors};
@@ -36,10 +36,10 @@ use imagefile::Form;
 use std::alloc::Global;
 use std::io::{self, Read, Write};
 
-/// A whole run of the program: reads the words, the first of which is its name, does what they ask for over
-/// the files of the host, and answers the exit status, 0 to 4, with what is left of the images. Texts go to `writer`. To
-/// `errors` go those on wrong arguments, why the host didn't give what was asked of an image, and the line that the input
-/// broke off in; and, where `telling` says so, how far a conversion is.
+/// A whole run of the program: reads the words, the first of which is its name, does what they ask for over the files of
+/// the host, and answers the exit status, 0 to 4, with what is left of the images. Texts go to `writer`. To `errors` go
+/// those on wrong arguments, why the host didn't give what was asked of an image, and the line that the input broke off
+/// in; and, if `telling` says so, how far a conversion is.
 ///
 /// Where several faults stand, the first of these is met: the arguments, a new file that is there, a file
 /// that can't be opened or made or that another process has, its size, the start, the input.
@@ -74,8 +74,8 @@ pub fn work<H: Host, R: Read, W: Write, E: Write>(
           new = result.new;
           memory = result.memory;
         }) (fault_of command_line (map (λ w. w.now) words.now))
-        (subcommand_of command_line (map (λ w. w.now) words.now)) (R.remaining reader.old.reader) (R.remaining reader.new.reader)
-        (W.contents writer.old) full status }
+        (subcommand_of command_line (map (λ w. w.now) words.now)) (R.remaining reader.old.reader)
+        (R.remaining reader.new.reader) (W.contents writer.old) full status }
 {
     let outcome = answer(
         host, alloc, words, missing, telling, leaves, reader, writer, errors,

@@ -130,9 +130,9 @@ fn serve<D: Disk + Drop, R: Read, W: Write>(
     }
 }
 
-/// Does a task on the image of this form at a path. Nothing of the host is known beforehand, so that this is said for
-/// whatever may be supposed of the file: if its calls were answered, up to the end, as by a file that began so and keeps to
-/// the model, what it began with is what was served, and whatever a crash left since then stands for it.
+/// Does a task on the image of this form at a path. Nothing of the host is known beforehand, so this holds for whatever
+/// may be supposed of the file: if its calls were answered, up to the end, as by a file that began so and keeps to the
+/// model, what it began with is what was served, and whatever a crash left since then stands for it.
 pub(crate) fn serve_image<H: Host, R: Read, W: Write, E: Write>(
     host: &H,
     alloc: Global,
