@@ -32,12 +32,6 @@ impl Model for ChangeSet {
     ghost invariant = { λ set. AreDistinct set.puts.items };
 }
 
-impl Default for ChangeSet {
-    fn default() -> Self {
-        ChangeSet::new()
-    }
-}
-
 impl ChangeSet {
     /// A change of no blocks.
     pub fn new() -> Self

@@ -129,3 +129,9 @@ pub ok_either : {A E : Type 0} (H P Q : A → Type 0) (r : Result A E) → IfOk 
     → IfOk r (λ a. H a → P a ⊎ Q a)
 ok_either H P Q (Ok a) either = λ h. ⊎_elim (λ p. inl (p h)) (λ q. inr (q h)) either
 ok_either H P Q (Err e) either = tt
+
+-- what is known whatever was answered stands beside what holds at Ok
+pub ok_and : {A E : Type 0} (K : Type 0) (H P : A → Type 0) (r : Result A E) → K → IfOk r (λ a. H a → P a)
+    → IfOk r (λ a. H a → K × P a)
+ok_and K H P (Ok a) known ok = λ h. (known, ok h)
+ok_and K H P (Err e) known ok = tt

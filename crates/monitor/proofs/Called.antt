@@ -7,9 +7,12 @@ use Rattle.blockdisk.specs.Laws.{same_disk_start}
 use Rattle.meaning.specs.Runs.{Service, Answers}
 use Rattle.meaning.specs.declared.call.Event.TheVariants.{Call as Calls}
 use Rattle.meaning.specs.declared.call.Reply.{Reply}
+use Rattle.meaning.specs.declared.call.Reply.TheVariants.{Done, Value, Refused, Stopped, NoChannel, AddressCheck, NoJob}
 use Rattle.meaning.specs.declared.call.Reply.TheVariants.{DateRange, NoMemory, Device, Failed}
 use Rattle.volume.specs.Live.{VolumeCore}
+use Rattle.monitor.specs.Events.{IsIdle, IsDecided}
 use Rattle.monitor.specs.Serving.{pack_of, Serves, AreKeyed, AreReading}
+use Rattle.monitor.specs.States.{MonitorState}
 use Rattle.meaning.specs.declared.call.Call.{Call}
 use Rattle.monitor.specs.declared.job.Job.{Job}
 use Rattle.monitor.proofs.Answering.{row, late, contrary}
@@ -29,6 +32,10 @@ called_late d map failed jobs n call moment serves past keyed reading =
     row d map map failed jobs jobs keyed reading (leaves_none map) (pack_of d) (Calls n call moment) DateRange
     (λ serial files w. late d jobs n call moment serial files w past) serves
 
+-- The monitor of these parts.
+abbrev pub all_of : {D : Type 0} → D → VolumeCore → Bool → List (Option Job) → MonitorState D
+all_of disk core failed jobs = record { disk = disk; map = core; failed = failed; jobs = jobs }
+
 -- A call that leaves the disk alone.
 
 pub quiet_failed : (failed failed' : Bool) (reply : Reply) → failed ≡ false → failed' ≡ failed
@@ -42,9 +49,43 @@ pub quiet_same : {D : Type 0} (state : D → DiskState) (old new : D) → new �
 quiet_same state old new same = subst (λ disk. SameDisk (state old) (state disk)) (sym same)
     (same_disk_start (state old))
 
+-- What holds of each answer that is decided holds of this one.
+pub by_decided : (P : Reply → Type 0) (reply : Reply) → IsDecided reply → P NoChannel → P AddressCheck → P NoJob
+    → P DateRange → P reply
+by_decided P Done is channel address job date = absurd is
+by_decided P (Value word) is channel address job date = absurd is
+by_decided P (Refused code) is channel address job date = absurd is
+by_decided P (Stopped status) is channel address job date = absurd is
+by_decided P NoChannel is channel address job date = channel
+by_decided P AddressCheck is channel address job date = address
+by_decided P NoJob is channel address job date = job
+by_decided P NoMemory is channel address job date = absurd is
+by_decided P Device is channel address job date = absurd is
+by_decided P Failed is channel address job date = absurd is
+by_decided P DateRange is channel address job date = date
+
+-- An answer that is decided leaves the disk alone.
+pub decided_idle : (reply : Reply) → IsDecided reply → IsIdle reply
+decided_idle reply is = by_decided IsIdle reply is tt tt tt tt
+
+-- A call whose answer is decided doesn't fail.
+pub decided_serves : (failed failed' : Bool) (reply : Reply) → failed ≡ false → IsTrue failed'
+    ↔ ((reply ≡ Device) ⊎ (reply ≡ Failed)) → IsDecided reply → failed' ≡ failed
+decided_serves failed false reply alive fails is = sym alive
+decided_serves failed true reply alive fails is = ⊎_elim (λ e. absurd (subst IsDecided e is))
+    (λ e. absurd (subst IsDecided e is)) (fails.0 refl)
+
 -- A call that finds no memory doesn't fail.
 pub still_serves : (failed failed' : Bool) (reply : Reply) → failed ≡ false → IsTrue failed'
     ↔ ((reply ≡ Device) ⊎ (reply ≡ Failed)) → reply ≡ NoMemory → failed' ≡ failed
 still_serves failed false reply alive fails none = sym alive
 still_serves failed true reply alive fails none = ⊎_elim (λ e. let wrong = sym none ∙ e in
     cc) (λ e. let wrong = sym none ∙ e in cc) (fails.0 refl)
+
+-- What leaves each part as it was leaves the whole monitor.
+pub all_same : {D : Type 0} (disk' disk : D) (core' core : VolumeCore) (failed' failed : Bool) → failed ≡ false
+    → (jobs' jobs : List (Option Job))
+    → (disk' ≡ disk) × (core' ≡ core) × (failed' ≡ false) × (jobs' ≡ jobs)
+    → all_of disk' core' failed' jobs' ≡ all_of disk core failed jobs
+all_same disk' disk core' core failed' failed alive jobs' jobs same =
+    λ i. all_of (same.0 i) (same.1 i) ((same.2 ∙ sym alive) i) (same.3 i)

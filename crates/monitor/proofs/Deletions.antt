@@ -241,6 +241,7 @@ module _ {D : Type 0} (state : D → DiskState) (only_now : (disk : D) (contents
         light = λ light. absurd light;
         kept = λ kept. absurd kept;
         memory = λ none. cc none;
+        decided = λ is. absurd is;
         refused = λ code none. cc none;
         failed = (λ broken. absurd (contrary serves' broken), ⊎_elim (λ error. cc error) (λ error. cc error));
         blamed = λ honest error. cc error;
@@ -259,7 +260,7 @@ module _ {D : Type 0} (state : D → DiskState) (only_now : (disk : D) (contents
       quiet_serves state only_now disk disk' c c' failed failed' job job' (Rename number e) moment
       (replies.Refused (number_of code)) alive (still.0, is.still fine) (λ x. cc x, λ x. cc x)
       (subst ArePlaced core placed) (λ light. absurd light) (λ kept. absurd kept) (λ none. cc none)
-      (λ k at. ap (with_code job e) (same_code at)) jobs n among
+      (λ k at. ap (with_code job e) (same_code at)) (λ is. absurd is) jobs n among
       (subst (λ (x : VolumeCore). AreKeyed x.pending (slice_set jobs n (Some job'))) core
       (job_keyed c.pending jobs n (Some job') among.keyed (ap sides_in (sym among.there))))
       (subst (λ (x : VolumeCore). AreReading x.live (slice_set jobs n (Some job'))) core
@@ -285,6 +286,7 @@ module _ {D : Type 0} (state : D → DiskState) (only_now : (disk : D) (contents
     light = λ light. absurd light;
     kept = λ kept. absurd kept;
     memory = λ none. cc none;
+    decided = λ is. absurd is;
     refused = λ code at. cc at;
     failed = (λ t. inl refl, λ t. is.device error);
     blamed = λ honest at. cc at;

@@ -1,8 +1,8 @@
 -- Words that are put into a job's core at once are put as one after the other.
 use Rattle.std.proofs.Common.{◌≡◌, ◌+◌, ◌<◌, ◌≤◌, ℕ, Bool, true, false, List, [], ◌∷◌, Option, Some, refl}
 use Rattle.std.proofs.Common.{sym, ap, subst}
-use Rattle.std.proofs.Common.{◌∙◌, length, arith, slice_set, length-set}
-use Rattle.std.specs.Prelude.{nat_lt, IsTrue, IsFalse}
+use Rattle.std.proofs.Common.{length, arith, slice_set, length-set}
+use Rattle.std.specs.Prelude.{IsTrue, IsFalse}
 use Rattle.std.proofs.lemmas.Bool.Decides.{nat_tests}
 use Rattle.blockdisk.specs.Disk.{DiskState}
 use Rattle.meaning.specs.Cores.{after_writes, placed}

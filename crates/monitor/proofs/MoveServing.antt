@@ -273,6 +273,7 @@ module _ {D : Type 0} (state : D → DiskState) (only_now : (disk : D) (contents
         light = λ light. absurd light;
         kept = λ kept. absurd kept;
         memory = λ none. cc none;
+        decided = λ is. absurd is;
         refused = λ code refused. cc refused;
         failed = quiet_failed false failed' replies.Done refl works (λ e. cc e, λ e. cc e);
         blamed = λ honest' e. cc e;
@@ -314,6 +315,7 @@ module _ {D : Type 0} (state : D → DiskState) (only_now : (disk : D) (contents
           light = λ light. absurd light;
           kept = λ kept. absurd kept;
           memory = λ none. cc none;
+          decided = λ is. absurd is;
           refused = λ code refused. cc refused;
           failed = (λ t. inl refl, λ e. is);
           blamed = λ honest' e. cc e;
@@ -339,6 +341,7 @@ module _ {D : Type 0} (state : D → DiskState) (only_now : (disk : D) (contents
           light = λ light. absurd light;
           kept = λ kept. absurd kept;
           memory = λ none. cc none;
+          decided = λ is. absurd is;
           refused = λ code refused. cc refused;
           failed = (λ t. inr refl, λ e. is);
           blamed = λ honest' e. says.given_up refl honest';

@@ -17,7 +17,7 @@ use Rattle.volume.specs.declared.pending.PendingVersion.{PendingVersion}
 use Rattle.monitor.specs.Calls.{IsLight, KeepsCore}
 use Rattle.monitor.specs.Closing.{left_open}
 use Rattle.monitor.specs.Dropping.{OnlyDrops}
-use Rattle.monitor.specs.Events.{IsIdle}
+use Rattle.monitor.specs.Events.{IsIdle, IsDecided}
 use Rattle.monitor.specs.Publishing.{PublishesBy, IsPublishRow, CrashesAsRow, StillStands}
 use Rattle.monitor.specs.Promises.{IsAmong, IsServing, ServesJob}
 use Rattle.monitor.specs.Refusals.{refused_with}
@@ -27,7 +27,7 @@ use Rattle.monitor.specs.declared.channel.Channel.{Channel}
 use Rattle.monitor.specs.declared.output.Output.{Output}
 use Rattle.monitor.specs.declared.job.Job.{Job}
 use Rattle.monitor.proofs.Answering.{on_disk}
-use Rattle.monitor.proofs.Called.{quiet_failed, quiet_same, still_serves}
+use Rattle.monitor.proofs.Called.{quiet_failed, quiet_same, still_serves, by_decided, decided_idle, decided_serves}
 use Rattle.monitor.proofs.Closings.{dropping_keyed, dropping_reading, dropping_answered, row_answered, row_crashes}
 use Rattle.monitor.proofs.Closings.{publishing_failed, publishing_blamed, publishing_counted, publishing_served}
 use Rattle.monitor.proofs.Placing.{placed_left}
@@ -62,6 +62,7 @@ module _ {D : Type 0} (state : D → DiskState) (only_now : (disk : D) (contents
       (placed : ArePlaced core') (room : IsLight call (Some job) → reply ≡ NoMemory → ⊥) (kept : KeepsCore call
       → core' ≡ core) (memory : reply ≡ NoMemory → (core' ≡ core) × (job' ≡ job))
       (refused : (code : ℕ) → reply ≡ Refused code → job' ≡ refused_with call job code)
+      (decided : IsDecided reply → (core' ≡ core) × (job' ≡ job))
       (jobs : List (Option Job)) (n : ℕ) (among : IsAmong core jobs n job) where
     abbrev pub jobs' : List (Option Job)
     jobs' = slice_set jobs n (Some job')
@@ -90,6 +91,12 @@ module _ {D : Type 0} (state : D → DiskState) (only_now : (disk : D) (contents
         untouched.1 ∙ alive,
         unchanged jobs jobs' n job job' among.there refl (memory none).1,
       );
+      decided = λ is. (
+        untouched.0,
+        (decided is).0,
+        untouched.1 ∙ alive,
+        unchanged jobs jobs' n job job' among.there refl (decided is).1,
+      );
       refused = λ code is.
           record { job = job; there = among.there; jobs_are = ap (λ j. slice_set jobs n (Some j)) (refused code is) };
       failed = quiet_failed failed failed' reply alive untouched.1 only;
@@ -106,14 +113,14 @@ module _ {D : Type 0} (state : D → DiskState) (only_now : (disk : D) (contents
       → ((pending : List (Option PendingVersion)) → KeepsSides pending pending job job')
       → ((live : List (Option LiveVersion)) → KeepsReading live live job job') → (reply ≡ Failed → ⊥)
       × (reply ≡ Device → ⊥) × (reply ≡ NoMemory → ⊥)
-      → ((code : ℕ) → reply ≡ Refused code → job' ≡ refused_with call job code)
+      → ((code : ℕ) → reply ≡ Refused code → job' ≡ refused_with call job code) → (IsDecided reply → job' ≡ job)
       → ServesJob state disk disk core core failed job job' call moment reply
   alone_serves disk core failed job job' call moment reply alive placed timely row keeps reads
-      only refused jobs n among =
+      only refused decided jobs n among =
       let set = slice_set jobs n (Some job') in
       quiet_serves disk disk core core failed failed job job' call moment reply alive (refl, refl)
       (only.0, only.1) placed (λ light. only.2) (λ kept. refl) (λ none. absurd (only.2 none)) refused
-      jobs n among
+      (λ is. (refl, decided is)) jobs n among
       (alone_keyed (state disk) core false jobs n call moment refl timely set job job' among.keyed among.there refl
       (keeps core.pending))
       (alone_reading (state disk) core false jobs n call moment refl timely set job job' among.reading among.there refl
@@ -127,14 +134,15 @@ module _ {D : Type 0} (state : D → DiskState) (only_now : (disk : D) (contents
       → ArePlaced core → moment.date ≤ 4095 → IsRow job job' call reply → KeepsSides core.pending core'.pending job job'
       → KeepsReading core.live core'.live job job'
       → OnlyDrops core core' → (reply ≡ Failed → ⊥) × (reply ≡ Device → ⊥) × (reply ≡ NoMemory → ⊥)
-      → ((code : ℕ) → reply ≡ Refused code → ⊥) → (KeepsCore call → ⊥)
+      → ((code : ℕ) → reply ≡ Refused code → ⊥) → (IsDecided reply → (core' ≡ core) × (job' ≡ job))
+      → (KeepsCore call → ⊥)
       → ServesJob state disk disk' core core' failed' job job' call moment reply
   dropping_serves disk disk' core core' failed failed' job job' call moment reply alive untouched placed
-      timely row keeps reads leaves only refused changes jobs n among =
+      timely row keeps reads leaves only refused decided changes jobs n among =
       let set = slice_set jobs n (Some job') in
       quiet_serves disk disk' core core' failed failed' job job' call moment reply alive untouched (only.0, only.1)
       (placed_left core core' leaves placed) (λ light. only.2) (λ kept. absurd (changes kept))
-      (λ none. absurd (only.2 none)) (λ code is. absurd (refused code is)) jobs n among
+      (λ none. absurd (only.2 none)) (λ code is. absurd (refused code is)) decided jobs n among
       (dropping_keyed (state disk) core core' false jobs set n job job' call moment refl timely among.there
       refl keeps reads among.keyed)
       (dropping_reading (state disk) core core' false jobs set n job job' call moment refl timely among.there
@@ -161,6 +169,7 @@ module _ {D : Type 0} (state : D → DiskState) (only_now : (disk : D) (contents
     light = λ light. (λ e. cc e, refl);
     kept = λ kept. refl;
     memory = λ e. cc e;
+    decided = λ is. (refl, refl, alive, same);
     refused = λ code e. cc e;
     failed = quiet_failed failed failed NoJob alive refl (λ e. cc e, λ e. cc e);
     blamed = λ honest e. cc e;
@@ -214,6 +223,15 @@ module _ {D : Type 0} (state : D → DiskState) (only_now : (disk : D) (contents
               same.0,
               same.1,
               still_serves false failed' reply refl fails none,
+              unchanged jobs set n job job' among.there refl left,
+            );
+        decided = λ decided.
+            let same = idle (decided_idle reply decided) in
+            let left = kept (λ e. subst IsDecided e decided)
+            ∙ by_decided (λ r. left_open job number channel r ≡ job) reply decided refl refl refl refl in (
+              same.0,
+              same.1,
+              decided_serves false failed' reply refl fails decided,
               unchanged jobs set n job job' among.there refl left,
             );
         refused = λ code refused.

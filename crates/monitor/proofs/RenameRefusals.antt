@@ -113,7 +113,7 @@ module _ {D : Type 0} (state : D → DiskState) (only_now : (disk : D) (contents
   serves_refused =
       quiet_serves state only_now disk disk c c failed failed job job' (Rename number e) moment
       (Refused (number_of code)) alive (refl, refl) (λ x. cc x, λ x. cc x) placed (λ light. absurd light)
-      (λ kept. absurd kept) (λ none. cc none) (λ k at. ap (with_code job e) (same_code at))
+      (λ kept. absurd kept) (λ none. cc none) (λ k at. ap (with_code job e) (same_code at)) (λ is. absurd is)
       jobs n among keyed reading
       (λ honest. in_state d c false jobs (λ old. (new : Service) × Serves d c false jobs' new
       × Answers (pack_of d) old (Calls n (Rename number e) moment) (Refused (number_of code)) new) refl
@@ -145,4 +145,4 @@ out_of_order state only_now disk c failed job after number e moment reply alive 
     placed timely row
     (λ pending. keeps_core pending pending job (with_code job e 5).core refl)
     (λ live. reading_core live job (with_code job e 5).core) (λ x. cc x, λ x. cc x, λ x. cc x)
-    (λ k at. ap (with_code job e) (same_code at))))
+    (λ k at. ap (with_code job e) (same_code at)) (λ is. absurd is)))

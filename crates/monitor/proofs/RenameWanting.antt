@@ -79,7 +79,7 @@ module _ {D : Type 0} (state : D → DiskState) (only_now : (disk : D) (contents
       (reads_same core.live job) in
       quiet_serves state only_now disk disk core core false false job job call moment replies.NoMemory refl (refl, refl)
       (λ x. cc x, λ x. cc x) placed (λ light. absurd light) (λ kept. absurd kept) (λ none. (refl, refl))
-      (λ k same. cc same) jobs n among keyed reading
+      (λ k same. cc same) (λ is. absurd is) jobs n among keyed reading
       (λ honest. in_state d core false jobs (λ old. (new : Service) × Serves d core false set new
       × Answers (pack_of d) old (Calls n call moment) replies.NoMemory new) refl
       (λ s is. (

@@ -40,6 +40,20 @@ IsIdle Device = ⊥
 IsIdle Failed = ⊥
 IsIdle DateRange = Unit {0}
 
+-- an answer that is decided before anything changes: by the date, the job, the channel, or the addresses in core
+abbrev pub IsDecided : Reply → Type 0
+IsDecided Done = ⊥
+IsDecided (Value word) = ⊥
+IsDecided (Refused code) = ⊥
+IsDecided (Stopped status) = ⊥
+IsDecided NoChannel = Unit {0}
+IsDecided AddressCheck = Unit {0}
+IsDecided NoJob = Unit {0}
+IsDecided NoMemory = ⊥
+IsDecided Device = ⊥
+IsDecided Failed = ⊥
+IsDecided DateRange = Unit {0}
+
 -- What is said of the call that an event is, by the job that makes it and the moment.
 abbrev pub OfCall : Event → (ℕ → Call → Moment → Type 0) → Type 0
 OfCall (Login job ppn words) P = Unit {0}

@@ -11,7 +11,7 @@ use Rattle.meaning.specs.declared.call.Reply.TheVariants.{NoMemory, Device, Fail
 use Rattle.volume.specs.Live.{VolumeCore}
 use Rattle.volume.specs.Rest.{IsSoundCore}
 use Rattle.monitor.specs.Calls.{IsLight, KeepsCore}
-use Rattle.monitor.specs.Events.{CallCrashes, IsIdle}
+use Rattle.monitor.specs.Events.{CallCrashes, IsIdle, IsDecided}
 use Rattle.monitor.specs.Refusals.{IsRefused}
 use Rattle.monitor.specs.Serving.{pack_of, Serves, AreKeyed, ArePlaced, AreReading}
 use Rattle.monitor.specs.declared.job.Job.{Job}
@@ -52,6 +52,7 @@ pub record IsServing {D : Type 0} (state : D → DiskState) (disk disk' : D) (co
   pub light : IsLight call (slot jobs n) → (reply ≡ NoMemory → ⊥) × (disk' ≡ disk)
   pub kept : KeepsCore call → core' ≡ core
   pub memory : reply ≡ NoMemory → (disk' ≡ disk) × (core' ≡ core) × (failed' ≡ false) × (jobs' ≡ jobs)
+  pub decided : IsDecided reply → (disk' ≡ disk) × (core' ≡ core) × (failed' ≡ false) × (jobs' ≡ jobs)
   pub refused : (code : ℕ) → reply ≡ Refused code → IsRefused call n code jobs jobs'
   -- It fails with the volume, and blames the device where that failed.
   pub failed : IsTrue failed' ↔ ((reply ≡ Device) ⊎ (reply ≡ Failed))

@@ -8,7 +8,7 @@ ghost use Rattle.meaning.specs.declared.call.Call.TheVariants.{In};
 ghost use Rattle.meaning.specs.declared.call.Event.TheVariants.{Call as Calls};
 ghost use Rattle.meaning.specs.declared.call.Reply.TheVariants.{NoMemory, Failed, Device, DateRange, Refused};
 ghost use Rattle.monitor.specs.Calls.{IsLight, KeepsCore};
-ghost use Rattle.monitor.specs.Events.{IsIdle};
+ghost use Rattle.monitor.specs.Events.{IsIdle, IsDecided};
 ghost use Rattle.monitor.specs.Moments.{read_of};
 ghost use Rattle.monitor.specs.Promises.{IsCallReady, IsServing, ServesJob};
 ghost use Rattle.monitor.specs.Refusals.{IsRefused};
@@ -108,9 +108,9 @@ impl<D: Disk> Monitor<D> {
     ///
     /// The answer is that of the call; `DateRange` where the moment's date is above 4095, which layout 1 can't hold;
     /// `NoJob` where no job of that number is logged in; `NoChannel` where the channel isn't open, or where OPEN
-    /// names one above 15; `NoMemory` where core can't grow, with everything as before; `Device` where the device
-    /// failed, and then `Failed` to every call. A later start finds the files from before the call or those after
-    /// it.
+    /// names one above 15; `AddressCheck` if core lacks an address that it needs; `NoMemory` if core can't grow. After
+    /// each of these everything is as before. `Device` if the device failed, and then `Failed` to every call. A later
+    /// start finds the files from before the call or those after it.
     #[inline(never)] // words that are put and looked at don't pay for its place on the stack
     pub fn call(&mut self, alloc: Global, job: u32, call: &Call, moment: Moment) -> Reply
         ensures answered { (D.state self.new.disk).honest → (old : Service)
@@ -146,6 +146,8 @@ impl<D: Disk> Monitor<D> {
         ensures light { IsLight call.now (slot self.old.jobs job) → (result ≡ NoMemory → ⊥)
             × (self.new.disk ≡ self.old.disk) }
         ensures memory { result ≡ NoMemory → self.new ≡ self.old }
+        // On every disk an answer about the date, the job, the channel or addresses leaves everything as it was.
+        ensures decided { IsDecided result → self.new ≡ self.old }
         // It fails with the device, and is Failed from then on; else only a broken promise of the disk makes it so.
         ensures failed { IsTrue self.new.failed ↔ ((result ≡ Device) ⊎ (result ≡ Failed)) }
         ensures broken { self.old.failed ≡ true → (result ≡ Failed) × (self.new ≡ self.old) }

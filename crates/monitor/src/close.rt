@@ -7,7 +7,7 @@ ghost use Rattle.meaning.specs.declared.call.Reply.TheVariants.{NoMemory, Device
 ghost use Rattle.volume.specs.Live.{VolumeCore, pending_at, slot as version_at};
 ghost use Rattle.monitor.specs.Closing.{both_closed, rings_closed, closed_in, left_open};
 ghost use Rattle.monitor.specs.Dropping.{OnlyDrops};
-ghost use Rattle.monitor.specs.Events.{IsIdle};
+ghost use Rattle.monitor.specs.Events.{IsIdle, IsDecided};
 ghost use Rattle.monitor.specs.Promises.{IsCallReady, ServesAlways};
 ghost use Rattle.monitor.specs.Publishing.{last_at, PublishesBy};
 ghost use Rattle.monitor.specs.Readers.{readers_of};
@@ -139,6 +139,7 @@ fn close<D: Disk>(volume: &mut Volume<D>, job: &mut Job, number: u32, bits: u32)
     ensures leaves { OnlyDrops volume.old.core volume.new.core }
     ensures only { (result ≡ Failed → ⊥) × (result ≡ Device → ⊥) × (result ≡ NoMemory → ⊥) }
     ensures refused { (code : ℕ) → result ≡ Refused code → ⊥ }
+    ensures decided { IsDecided result → (volume.new.core ≡ volume.old.core) × (job.new ≡ job.old) }
 {
     let Some(channel) = job.channel(number) else {
         return Reply::NoChannel;

@@ -18,6 +18,7 @@ ghost use Rattle.volume.specs.Rest.{IsSoundCore, RestsAt};
 ghost use Rattle.volume.specs.declared.pending.Kind.{Kind as VersionKind};
 ghost use Rattle.volume.specs.declared.pending.PendingVersion.{PendingVersion};
 ghost use Rattle.volume.specs.Claims.{claims};
+ghost use Rattle.monitor.specs.Events.{IsDecided};
 ghost use Rattle.monitor.specs.Finding.{found_in, begun_as, allowed, kind_for, protection_for, file_begun, IsKnown};
 ghost use Rattle.monitor.specs.Finding.{IsAnswer, IsPrimeAt, begin_answer_at};
 ghost use Rattle.monitor.specs.Entering.{entered_kind, IsEntering, IsEnterAnswer};
@@ -364,6 +365,7 @@ fn enter<D: Disk>(
         → (under : UnderKeys) → IsEnterAnswer (pack_of (D.state volume.old.disk)) s (job_of under job.old)
         (job_of under job.new) (channel_at (job_of under job.old) number) address result }
     ensures refused { (code : ℕ) → result ≡ Refused code → job.new ≡ with_code job.old address code }
+    ensures decided { IsDecided result → job.new ≡ job.old }
 {
     let Some(channel) = job.channel(number) else {
         return Reply::NoChannel;

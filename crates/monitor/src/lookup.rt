@@ -15,6 +15,7 @@ ghost use Rattle.volume.specs.Places.{prime_at};
 ghost use Rattle.volume.specs.Queries.{IsShown};
 ghost use Rattle.volume.specs.Rest.{IsSoundCore, RestsAt};
 ghost use Rattle.volume.specs.declared.live.LiveVersion.{LiveVersion};
+ghost use Rattle.monitor.specs.Events.{IsDecided};
 ghost use Rattle.monitor.specs.Finding.{IsKnown};
 ghost use Rattle.monitor.specs.Inputs.{HasShortFacts, IsReadAnswer, IsLookupAnswer, IsLookupRefusal};
 ghost use Rattle.monitor.specs.LookingUp.{IsLookingUp, IsLookedUp, IsLookupRow};
@@ -224,6 +225,7 @@ fn lookup<D: Disk>(volume: &mut Volume<D>, job: &mut Job, number: u32, address: 
         → (under : UnderKeys) → IsLookupRow s (job_of under job.old) (job_of under job.new)
         (channel_at (job_of under job.old) number) address result }
     ensures refused { (code : ℕ) → result ≡ Refused code → job.new ≡ with_code job.old address code }
+    ensures decided { IsDecided result → job.new ≡ job.old }
 {
     let Some(channel) = job.channel(number) else {
         return Reply::NoChannel;

@@ -7,6 +7,7 @@ ghost use Rattle.meaning.specs.declared.call.Reply.TheVariants.{NoMemory, Failed
 ghost use Rattle.volume.specs.declared.live.LiveVersion.{LiveVersion};
 ghost use Rattle.volume.specs.declared.pending.PendingVersion.{PendingVersion};
 ghost use Rattle.retrieval.specs.Modes.{mode_number};
+ghost use Rattle.monitor.specs.Events.{IsDecided};
 ghost use Rattle.monitor.specs.Rows.{IsRow, KeepsSides, KeepsReading, improper_at, opened_at, rings_opened};
 
 use crate::channel::Channel;
@@ -127,6 +128,7 @@ pub fn open(job: &mut Job, number: u32, address: u32) -> Reply
     ensures reads { (live : List (Option LiveVersion)) → KeepsReading live live job.old job.new }
     ensures only { (result ≡ Failed → ⊥) × (result ≡ Device → ⊥) × (result ≡ NoMemory → ⊥) }
     ensures refused { (code : ℕ) → result ≡ Refused code → job.new ≡ job.old }
+    ensures decided { IsDecided result → job.new ≡ job.old }
 {
     if number as usize >= CHANNELS {
         return Reply::NoChannel;

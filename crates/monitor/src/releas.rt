@@ -5,6 +5,7 @@ ghost use Rattle.meaning.specs.declared.call.Call.TheVariants.{Releas};
 ghost use Rattle.meaning.specs.declared.call.Reply.TheVariants.{NoMemory, Device, Failed, Refused};
 ghost use Rattle.volume.specs.Live.{slot as version_at};
 ghost use Rattle.monitor.specs.Dropping.{OnlyDrops};
+ghost use Rattle.monitor.specs.Events.{IsDecided};
 ghost use Rattle.monitor.specs.Promises.{IsCallReady, ServesAlways};
 ghost use Rattle.monitor.specs.Readers.{readers_of};
 ghost use Rattle.monitor.specs.Rows.{IsRow, KeepsSides, KeepsReading, publishes_at};
@@ -48,6 +49,7 @@ fn release<D: Disk>(volume: &mut Volume<D>, job: &mut Job, number: u32) -> Reply
     ensures leaves { OnlyDrops volume.old.core volume.new.core }
     ensures only { (result ≡ Failed → ⊥) × (result ≡ Device → ⊥) × (result ≡ NoMemory → ⊥) }
     ensures refused { (code : ℕ) → result ≡ Refused code → ⊥ }
+    ensures decided { IsDecided result → (volume.new.core ≡ volume.old.core) × (job.new ≡ job.old) }
 {
     let Some(channel) = job.channel(number) else {
         return Reply::NoChannel;

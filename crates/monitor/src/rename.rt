@@ -17,6 +17,7 @@ ghost use Rattle.monitor.specs.Arriving.{allowed_arrival, arrival_answer};
 ghost use Rattle.monitor.specs.Changing.{may_become, allowed_change, asked_protection, change_answer, IsChangeAnswer};
 ghost use Rattle.monitor.specs.Changing.{with_input_closed, CloseAfter, changed_reply, changed_job};
 ghost use Rattle.monitor.specs.Dropping.{Closes};
+ghost use Rattle.monitor.specs.Events.{IsDecided};
 ghost use Rattle.monitor.specs.Finding.{found_in, IsKnown};
 ghost use Rattle.monitor.specs.Promises.{IsCallReady, ServesAlways};
 ghost use Rattle.monitor.specs.Readers.{readers_of};
@@ -68,6 +69,7 @@ fn rename_nothing(job: &mut Job, number: u32, address: u32) -> Reply
     ensures reads { (live : List (Option LiveVersion)) → KeepsReading live live job.old job.new }
     ensures only { (result ≡ Failed → ⊥) × (result ≡ Device → ⊥) × (result ≡ NoMemory → ⊥) }
     ensures refused { (code : ℕ) → result ≡ Refused code → job.new ≡ with_code job.old address code }
+    ensures decided { IsDecided result → job.new ≡ job.old }
 {
     let Some(_channel) = job.channel(number) else {
         return Reply::NoChannel;

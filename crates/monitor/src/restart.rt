@@ -1,7 +1,7 @@
-ghost use Rattle.std.specs.Prelude.{◌≡◌, ◌⊎◌, ℕ, List, IfOk, IfErr};
+ghost use Rattle.std.specs.Prelude.{◌≡◌, ◌⊎◌, ℕ, List, IsTrue, IfOk, IfErr};
 ghost use Rattle.blockdisk.specs.Disk.{Contents, MayLeave, LeavesOnly, Between, SameDisk, Still, one_more};
 ghost use Rattle.changeset.specs.Crashes.{IsRecovered};
-ghost use Rattle.meaning.specs.Crashes.{StandsForEither, RunsOn};
+ghost use Rattle.meaning.specs.Crashes.{StandsForEither, RunsOn, may_change};
 ghost use Rattle.meaning.specs.Files.{File, Files};
 ghost use Rattle.meaning.specs.Jobs.{State};
 ghost use Rattle.meaning.specs.Published.{without_serials};
@@ -48,7 +48,8 @@ pub fn start_after_crash<D: Disk, E: Disk>(
         → RunsOn (pack_of (D.state stopped.now)) (D.state stopped.now) t (Serving s) events replies new
         → (starts : List (E × E)) → AreStopped E.state (D.state stopped.now) t starts (E.state left).contents
         → IfErr result (λ refused. (E.state refused.1).honest → (refused.0 ≡ NoMemory) ⊎ (refused.0 ≡ Device)) }
-    // What was left between the moment before an event and the moment after it: the files before it or after it.
+    // What was left between the moment before an event and the moment after it: the files before it, or those after it
+    // if its answer is one that may change files.
     ensures between { (E.state left).size ≡ (D.state stopped.now).size
         → (t u : ℕ) (s : State) (event : Event) (reply : Reply)
         → Between (D.state stopped.now) t u (StandsForEither (pack_of (D.state stopped.now)) s event reply)
@@ -56,8 +57,8 @@ pub fn start_after_crash<D: Disk, E: Disk>(
         → ((D.state stopped.now).left_since u (E.state left).contents → ⊥)
         → IfOk result (λ m. (E.state m.disk).honest
         → ServesFiles (E.state m.disk) m.map m.failed m.jobs (without_serials s.files)
-        ⊎ ServesFiles (E.state m.disk) m.map m.failed m.jobs
-        (without_serials (step (pack_of (D.state stopped.now)) 0 s event).1.files)) }
+        ⊎ (IsTrue (may_change reply) × ServesFiles (E.state m.disk) m.map m.failed m.jobs
+        (without_serials (step (pack_of (D.state stopped.now)) 0 s event).1.files))) }
 
     // It may be stopped itself. Where all that a crash may leave at its beginning stands for the same files, whatever a
     // crash leaves at any moment of it does.

@@ -4,6 +4,7 @@ ghost use Rattle.meaning.specs.Opening.{sets_up};
 ghost use Rattle.meaning.specs.declared.call.Reply.TheVariants.{NoMemory, Failed, Device, Refused};
 ghost use Rattle.volume.specs.declared.live.LiveVersion.{LiveVersion};
 ghost use Rattle.volume.specs.declared.pending.PendingVersion.{PendingVersion};
+ghost use Rattle.monitor.specs.Events.{IsDecided};
 ghost use Rattle.monitor.specs.Rows.{KeepsSides, KeepsReading};
 ghost use Rattle.monitor.specs.Sides.{UnderKeys, channel_of, job_of};
 
@@ -21,6 +22,7 @@ pub fn set_up_ring(job: &mut Job, number: u32, channel: Channel, header: u32, co
     ensures reads { (live : List (Option LiveVersion)) → KeepsReading live live job.old job.new }
     ensures only { (result ≡ Failed → ⊥) × (result ≡ Device → ⊥) × (result ≡ NoMemory → ⊥) }
     ensures refused { (code : ℕ) → result ≡ Refused code → job.new ≡ job.old }
+    ensures decided { IsDecided result → job.new ≡ job.old }
 {
     if !channel.is_buffered() || header == 0 {
         return Reply::Refused(ErrorCode::Sequence.number());

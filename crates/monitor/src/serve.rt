@@ -11,7 +11,7 @@ ghost use Rattle.monitor.specs.Moments.{RunsBy, HoldsStill, last_of, read_of};
 ghost use Rattle.monitor.specs.Runs.{TellsFault, FailsOnce};
 ghost use Rattle.meaning.specs.Step.{job_of};
 ghost use Rattle.monitor.specs.Serving.{pack_of, Serves};
-ghost use Rattle.monitor.specs.Events.{IsIdle, OfCall, IsNoCall, IsLightEvent};
+ghost use Rattle.monitor.specs.Events.{IsIdle, IsDecided, OfCall, IsNoCall, IsLightEvent};
 ghost use Rattle.monitor.specs.Refusals.{IsRefused};
 ghost use Rattle.monitor.specs.Calls.{KeepsCore};
 ghost use Rattle.monitor.specs.declared.job.Job.{Job as JobRecord};
@@ -41,9 +41,11 @@ impl<D: Disk> Monitor<D> {
             → (after : Service) × Serves (D.state self.new.disk) self.new.map self.new.failed self.new.jobs after
             × Answers (pack_of (D.state self.old.disk)) (Serving s) event.now result after
             × ((t : State) → after ≡ Serving t → (m : ℕ) → (m ≡ job_of event.now → ⊥) → job_at t m ≡ job_at s m) }
-        // On every disk: no event of another job changes a job, and one that finds no memory leaves all as it was.
+        // On every disk: no event of another job changes a job. An event that finds no memory, or whose answer is about
+        // the date, the job, the channel or addresses, leaves everything as it was.
         ensures others { (m : ℕ) → (m ≡ job_of event.now → ⊥) → slot self.new.jobs m ≡ slot self.old.jobs m }
         ensures memory { result ≡ replies.NoMemory → self.new ≡ self.old }
+        ensures decided { IsDecided result → self.new ≡ self.old }
         // Which events, and which answers, leave the disk alone; and which events take no memory.
         ensures idle { IsIdle result → self.new.disk ≡ self.old.disk }
         ensures light { IsLightEvent event.now self.old.jobs → (result ≡ replies.NoMemory → ⊥)

@@ -19,6 +19,7 @@ ghost use Rattle.volume.specs.declared.error.CallError.TheVariants.{Failed as Vo
 ghost use Rattle.volume.specs.declared.live.LiveVersion.{LiveVersion};
 ghost use Rattle.volume.specs.declared.pending.PendingVersion.{PendingVersion};
 ghost use Rattle.monitor.specs.Entering.{IsEnterAnswer};
+ghost use Rattle.monitor.specs.Events.{IsDecided};
 ghost use Rattle.monitor.specs.Finding.{begun_as, IsAnswer, IsKnown};
 ghost use Rattle.monitor.specs.Inputs.{named_in, digit_for};
 ghost use Rattle.monitor.specs.Readers.{readers_of};
@@ -266,6 +267,7 @@ pub fn update<D: Disk>(
         → (under : UnderKeys) → IsEnterAnswer (pack_of (D.state volume.old.disk)) s (job_of under job.old)
         (job_of under job.new) (channel_at (job_of under job.old) number) address result }
     ensures refused { (code : ℕ) → result ≡ Refused code → job.new ≡ with_code job.old address code }
+    ensures decided { IsDecided result → job.new ≡ job.old }
 {
     if lies_outside(&job.core, address, 4) {
         return Reply::AddressCheck;

@@ -3,6 +3,7 @@ ghost use Rattle.meaning.specs.declared.call.Call.TheVariants.{Useti};
 ghost use Rattle.meaning.specs.declared.call.Reply.TheVariants.{NoMemory, Failed, Device, Refused};
 ghost use Rattle.volume.specs.declared.live.LiveVersion.{LiveVersion};
 ghost use Rattle.volume.specs.declared.pending.PendingVersion.{PendingVersion};
+ghost use Rattle.monitor.specs.Events.{IsDecided};
 ghost use Rattle.monitor.specs.Rows.{IsRow, KeepsSides, KeepsReading};
 
 use crate::channel::Channel;
@@ -25,6 +26,7 @@ pub fn useti(job: &mut Job, number: u32, block: u32) -> Reply
     ensures reads { (live : List (Option LiveVersion)) → KeepsReading live live job.old job.new }
     ensures only { (result ≡ Failed → ⊥) × (result ≡ Device → ⊥) × (result ≡ NoMemory → ⊥) }
     ensures refused { (code : ℕ) → result ≡ Refused code → job.new ≡ job.old }
+    ensures decided { IsDecided result → job.new ≡ job.old }
 {
     let Some(channel) = job.channel(number) else {
         return Reply::NoChannel;

@@ -1,19 +1,20 @@
 -- Runs as they are kept: one more behind, one found, one parted, all joined.
 use Rattle.std.proofs.Common.{◌≡◌, ℕ, zero, suc, Bool, ◌+◌, ◌-◌, ◌<◌, ◌≤◌, ◌==◌, if◌then◌else◌, List, [], ◌∷◌}
-use Rattle.std.proofs.Common.{◌++◌, length, get_or, take, drop, flat_map, slice_set, Some, Option, refl, sym}
+use Rattle.std.proofs.Common.{◌++◌, length, get_or, take, drop, flat_map, slice_set, Some, Option, refl, sym, ⊎_elim}
 use Rattle.std.proofs.Common.{◌∙◌, ap, subst, arith, append_assoc, length-append, append-nil}
 use Rattle.std.specs.Prelude.{slice_get, slice_index, IfSome}
 use Rattle.std.proofs.lemmas.Bool.{eq-eqb, ne_eqb}
 use Rattle.std.proofs.lemmas.List.{map_more, map_push, map-append, take-append-drop, take_more_set, set_split}
 use Rattle.std.proofs.lemmas.List.{drop_more, take_at, drop_at, length-take-le, set-append_right, get_or-drop}
-use Rattle.std.proofs.lemmas.List.{drop-drop}
+use Rattle.std.proofs.lemmas.List.{drop-drop, take_all, get_or_default}
 use Rattle.std.proofs.lemmas.Option.{slice_get_read, get_or_from_slice_get}
 use Rattle.std.proofs.lemmas.Grind.{flat_map-append}
 use Rattle.meaning.specs.Retrieval.{Run, run_blocks, count_up}
 use Rattle.retrieval.specs.Runs.{pair_of, pairs_of, blocks_of_runs, IsAtOffset, behind, longest_runs, AreKept}
 use Rattle.retrieval.specs.declared.run.Run.{Run as RunValue}
 use Rattle.retrieval.proofs.RunLists.{length-count_up}
-use Rattle.retrieval.proofs.LongestRuns.{longest_behind, behind_last, blocks_of_longest}
+use Rattle.retrieval.proofs.LongestRuns.{longest_behind, behind_last, blocks_of_longest, NoneAdjoins, longest_apart}
+use Rattle.meaning.proofs.SpliceLaws.{below_or_not}
 
 -- A run behind the first so many.
 
@@ -174,6 +175,53 @@ module _ (runs : List RunValue) (i r offset : ℕ) (run : RunValue) (is_in : IsA
       there_below [] k n is = cc
       there_below (x ∷ xs) zero n is = omega arith
       there_below (x ∷ xs) (suc k) n is = let b = there_below xs k n is in omega (arith, b)
+
+-- The run that is found is the longest.
+
+next_apart : (runs : List RunValue) (r : ℕ) (run : RunValue) → NoneAdjoins (pairs_of runs) → run ≡ get_or runs r run
+    → suc r < length runs → suc (run.last - run.first) + run.first ≡ (get_or runs (suc r) run).first → ⊥
+next_apart [] r run apart is below adjoins = omega arith
+next_apart (first ∷ []) r run apart is below adjoins = omega arith
+next_apart (first ∷ second ∷ runs) zero run apart is below adjoins = apart.0
+    (ap (λ (it : RunValue). suc (it.last - it.first) + it.first) (sym is) ∙ adjoins)
+next_apart (first ∷ second ∷ runs) (suc r) run apart is below adjoins =
+    next_apart (second ∷ runs) r run apart.1 is (omega arith) adjoins
+
+module _ (runs : List RunValue) (i r offset : ℕ) (run : RunValue) (is_in : IsAtOffset runs i r offset)
+    (is : run ≡ get_or runs r run) (kept : pairs_of runs ≡ longest_runs (blocks_of_runs runs)) where
+  behind_run : i + (run.last - run.first - offset) + 1 ≡ length (blocks_of_runs (take (r + 1) runs))
+  behind_run =
+      let more = length_more runs r run is_in.below is in
+      let few = offset_of runs i r offset run is_in is in
+      let at = is_in.is in
+      omega arith
+
+  one_behind : i + (run.last - run.first - offset) + 1 < length (blocks_of_runs runs) → r + 1 < length runs
+  one_behind below = ⊎_elim (λ (less : r + 1 < length runs). less)
+      (λ (all : length runs ≤ r + 1). let whole = ap (λ (l : List RunValue). length (blocks_of_runs l))
+      (take_all (r + 1) runs all) in
+      let e = behind_run in absurd (omega arith))
+      (below_or_not (r + 1) (length runs))
+
+  pub none_behind : i + (run.last - run.first - offset) + 1 < length (blocks_of_runs runs)
+      → slice_index (blocks_of_runs runs) (i + (run.last - run.first - offset) + 1) ≡ run.last + 1 → ⊥
+  none_behind below neighbour =
+      let less = one_behind below in
+      let next = get_or runs (r + 1) run in
+      let same : next ≡ get_or runs (r + 1) next = get_or_default runs (r + 1) run next less in
+      let at : IsAtOffset runs (i + (run.last - run.first - offset) + 1) (r + 1) 0 = record {
+        below = less;
+        inside = subst (λ (o : Option RunValue). IfSome o (λ run. 0 ≤ run.last - run.first))
+            (sym (slice_get_read runs (length runs) (r + 1) next refl less same)) (omega arith);
+        is = let e = behind_run in omega arith;
+      } in
+      let first = get_or_from_slice_get (blocks_of_runs runs) (i + (run.last - run.first - offset) + 1)
+      (next.first + 0) 0 (block_in runs (i + (run.last - run.first - offset) + 1) (r + 1) 0 next at same) in
+      let ordered = run.ordered in
+      let e : r + 1 ≡ suc r = omega arith in
+      let same_first = ap (λ (k : ℕ). (get_or runs k run).first) e in
+      next_apart runs r run (subst NoneAdjoins (sym kept) (longest_apart (blocks_of_runs runs))) is (omega arith)
+      (omega arith)
 
 -- One block more behind the last.
 

@@ -91,3 +91,28 @@ pub behind_last : (runs : List Run) (last run : Run) → behind (runs ++ last �
 behind_last [] last run = refl
 behind_last (first ∷ []) last run = refl
 behind_last (first ∷ second ∷ runs) last run = ap (λ (l : List Run). first ∷ l) (behind_last (second ∷ runs) last run)
+
+-- No run adjoins the one before it.
+
+abbrev pub NoneAdjoins : List Run → Type 0
+NoneAdjoins [] = Unit {0}
+NoneAdjoins (run ∷ []) = Unit {0}
+NoneAdjoins (run ∷ next ∷ runs) = (run.0 + run.1 ≡ next.1 → ⊥) × NoneAdjoins (next ∷ runs)
+
+longer_first : (n : ℕ) (run : Run) (runs : List Run) → suc n ≡ run.1 → NoneAdjoins (run ∷ runs)
+    → NoneAdjoins ((suc run.0, n) ∷ runs)
+longer_first n run [] is apart = tt
+longer_first n run (next ∷ runs) is apart = (λ adjoins. apart.0 (omega arith), apart.1)
+
+none_in_front : (n : ℕ) (runs : List Run) → NoneAdjoins runs → NoneAdjoins (in_front n runs)
+none_in_front n [] apart = tt
+none_in_front n (run ∷ runs) apart = by_case (suc n == run.1) refl
+  where
+    by_case : (b : Bool) → (suc n == run.1) ≡ b
+        → NoneAdjoins (if b then (suc run.0, n) ∷ runs else (1, n) ∷ run ∷ runs)
+    by_case true is = longer_first n run runs (eqb-true (suc n) run.1 is) apart
+    by_case false is = (λ adjoins. eqb-false (suc n) run.1 is (omega arith), apart)
+
+pub longest_apart : (ns : List ℕ) → NoneAdjoins (longest_runs ns)
+longest_apart [] = tt
+longest_apart (n ∷ ns) = none_in_front n (longest_runs ns) (longest_apart ns)

@@ -1,5 +1,5 @@
 -- The words of a body that stay in the blocks that are written.
-use Rattle.std.proofs.Common.{◌≡◌, ◌⊎◌, ⊎_elim, inl, inr, ℕ, ◌+◌, ◌-◌, ◌*◌, ◌/◌, ◌%◌, ◌<◌, ◌≤◌, List, ◌++◌, Some}
+use Rattle.std.proofs.Common.{◌≡◌, ◌⊎◌, ⊎_elim, inl, inr, ℕ, ◌+◌, ◌-◌, ◌*◌, ◌/◌, ◌%◌, ◌<◌, ◌≤◌, List, ◌++◌, Some, None}
 use Rattle.std.proofs.Common.{length, min, take, drop, replicate, refl, sym, ◌∙◌, ap, subst, arith}
 use Rattle.std.specs.Prelude.{slice_index, Bool, true, false, if◌then◌else◌, ◌==◌}
 use Rattle.std.proofs.lemmas.Bool.{cases_eq}
@@ -9,7 +9,7 @@ use Rattle.blockdisk.specs.Disk.{Contents}
 use Rattle.meaning.specs.Costs.{blocks_of}
 use Rattle.meaning.specs.Retrieval.{HasBody}
 use Rattle.retrieval.specs.Bodies.{AreWhole}
-use Rattle.retrieval.specs.Placing.{kept_word, IsEdge, Stays}
+use Rattle.retrieval.specs.Placing.{kept_word, IsEdge, IsEdgeBlock, Stays}
 use Rattle.retrieval.proofs.NewBlocks.{same_block, other_block}
 use Rattle.retrieval.proofs.Parts.{HoldsPart, part_of}
 use Rattle.meaning.proofs.SpliceLaws.{below_or_not}
@@ -103,3 +103,25 @@ module _ (block these front : List ℕ) (count n : ℕ) (is : n ≡ min count 12
 pub edge_below : (total at count place had : ℕ) → IsEdge total at count place → had ≡ blocks_of total → place < had
 edge_below total at count place had (inl behind) is = let a = behind.0 in let b = behind.1 in omega arith
 edge_below total at count place had (inr inside) is = let a = inside.0 in let b = inside.1 in omega arith
+
+-- Words stay in one block at most.
+edge_once : (total at count place other : ℕ) → IsEdge total at count place → IsEdge total at count other → place ≡ other
+edge_once total at count place other (inl a) (inl b) = a.2 ∙ sym b.2
+edge_once total at count place other (inr a) (inr b) = a.2 ∙ sym b.2
+edge_once total at count place other (inl a) (inr b) = let e = a.0 in let f = b.0 in absurd (omega arith)
+edge_once total at count place other (inr a) (inl b) = let e = a.0 in let f = b.0 in absurd (omega arith)
+
+pub no_edge : (blocks : List ℕ) (total at count : ℕ) → (total < at * 128 → total % 128 ≡ 0)
+    → (at * 128 + count < total → (at * 128 + count) % 128 ≡ 0) → (n : ℕ) → IsEdgeBlock blocks total at count n → ⊥
+no_edge blocks total at count behind inside n is = ⊎_elim
+    (λ a. let e = behind a.0 in let f = a.1 in omega arith)
+    (λ b. let e = inside b.0 in let f = b.1 in omega arith) is.edge
+
+pub edge_whole : (contents : Contents) (blocks got : List ℕ) (total at count place : ℕ) → IsEdge total at count place
+    → contents (slice_index blocks place) ≡ Some got → (n : ℕ) → IsEdgeBlock blocks total at count n
+    → contents n ≡ None → ⊥
+edge_whole contents blocks got total at count place edge read n is none =
+    let same = edge_once total at count place is.place edge is.edge in
+    let here : slice_index blocks place ≡ n = ap (slice_index blocks) same ∙ is.is in
+    let both : Some got ≡ None = sym read ∙ ap contents here ∙ none in
+    cc

@@ -147,6 +147,21 @@ runs_of_extensions (rib ∷ ribs) runs counted =
     ∙ take-append-drop 126 runs
 
 module _ (c d : Contents) (p : Prime) (at : ℕ) (ribs blocks : List ℕ) (runs part : List Run) where
+  other : times at ribs ≡ 0 → (n : ℕ) → 0 < times n ribs → n ≡ at → ⊥
+  other apart n there e = let f = ap (λ (m : ℕ). times m ribs) e in omega arith
+
+  extended : AreExtensions c (extensions_of ribs part) → part ≡ drop 112 runs → times at ribs ≡ 0
+      → ((n : ℕ) → (n ≡ at → ⊥) → d n ≡ c n) → AreExtensions d (extensions_of ribs (drop 112 runs))
+  extended are part_is apart same = extensions_same c d ribs (drop 112 runs)
+      (λ n there. same n (λ e. other apart n there e))
+      (subst (λ (l : List Run). AreExtensions c (extensions_of ribs l)) part_is are)
+
+  pub extended_on : {E : Type 0} (answer : Result (Unit {0}) E) → AreExtensions c (extensions_of ribs part)
+      → part ≡ drop 112 runs → AreApart (at ∷ ribs) → ((n : ℕ) → (n ≡ at → ⊥) → d n ≡ c n)
+      → OnOk answer (AreExtensions d (extensions_of ribs (drop 112 runs)))
+  extended_on (Ok done) are part_is apart same = extended are part_is apart.0 same
+  extended_on (Err fault) are part_is apart same = tt
+
   pub retrieved : AreExtensions c (extensions_of ribs part) → part ≡ drop 112 runs → times at ribs ≡ 0
       → ((n : ℕ) → (n ≡ at → ⊥) → d n ≡ c n)
       → d at ≡ Some (prime_block p (take 112 runs) (head_or_zero ribs)) → IsPrime 1 p → times 0 ribs ≡ 0
@@ -161,8 +176,7 @@ module _ (c d : Contents) (p : Prime) (at : ℕ) (ribs blocks : List ℕ) (runs 
     few = length-first 112 runs;
     full = λ some. let a = length-extensions_of ribs (drop 112 runs) in
         let f = length-take-le 112 runs (omega arith) in omega arith;
-    extended = extensions_same c d ribs (drop 112 runs) (λ n there. same n (λ e. other n there e))
-        (subst (λ (l : List Run). AreExtensions c (extensions_of ribs l)) part_is are);
+    extended = extended are part_is apart same;
     extensions_are = numbers_of_extensions ribs (drop 112 runs);
     nonzero = nonzero;
     are_runs = all_first IsRun 112 runs fit;
@@ -171,9 +185,6 @@ module _ (c d : Contents) (p : Prime) (at : ℕ) (ribs blocks : List ℕ) (runs 
         ∙ ap (flat_map run_blocks) (take-append-drop 112 runs) ∙ whole;
     enough = enough;
   }
-    where
-      other : (n : ℕ) → 0 < times n ribs → n ≡ at → ⊥
-      other n there e = let f = ap (λ (m : ℕ). times m ribs) e in omega arith
 
   pub retrieved_on : {E : Type 0} (answer : Result (Unit {0}) E) (words : List ℕ)
       → AreExtensions c (extensions_of ribs part) → part ≡ drop 112 runs → AreApart (at ∷ ribs)

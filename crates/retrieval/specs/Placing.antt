@@ -15,6 +15,12 @@ IsEdge length at count place =
     ((length < at * 128) × (0 < length % 128) × (place ≡ length / 128))
     ⊎ ((at * 128 + count < length) × (0 < (at * 128 + count) % 128) × (place ≡ (at * 128 + count) / 128))
 
+-- Block n is the one at that place.
+pub record IsEdgeBlock (blocks : List ℕ) (length at count n : ℕ) : Type 0 where
+  pub place : ℕ
+  pub edge : IsEdge length at count place
+  pub is : slice_index blocks place ≡ n
+
 -- Where so many words are put from block `at` on, these are the words of the body that stay in the blocks from
 -- `first` on that are written.
 abbrev pub Stays : List ℕ → ℕ → ℕ → ℕ → ℕ → List ℕ → Type 0

@@ -203,12 +203,14 @@ impl BlockList {
         }
     }
 
-    /// The block at a place, with those that follow it in its run.
+    /// The block at a place, with all neighbours that follow it in the list.
     pub(crate) fn run_at(&self, i: usize) -> Run
         requires { i < length self.now.blocks }
         ensures within { i + (result.last - result.first) < length self.now.blocks }
         ensures side_by_side { (j : ℕ) → j ≤ result.last - result.first
             → slice_index self.now.blocks (i + j) ≡ result.first + j }
+        ensures longest { i + (result.last - result.first) + 1 < length self.now.blocks
+            → slice_index self.now.blocks (i + (result.last - result.first) + 1) ≡ result.last + 1 → ⊥ }
     {
         match find(&self.runs, i) {
             Some(place) => self.runs[place.run].rest(place.offset),

@@ -1,5 +1,5 @@
 ghost use Rattle.std.specs.Prelude.{◌≡◌, ◌+◌, ◌-◌, ◌*◌, ◌/◌, ◌%◌, ◌<◌, ◌≤◌, ◌++◌, ℕ, List, None, IfOk, IfSome, IfNone};
-ghost use Rattle.std.specs.Prelude.{IsErrOf, length, min, take, drop, slice_index};
+ghost use Rattle.std.specs.Prelude.{OnOk, IsErrOf, length, min, take, drop, slice_index};
 ghost use Rattle.std.specs.List.{AllByRecursion};
 ghost use Rattle.blockdisk.specs.Disk.{Keeps, SameDisk, one_more};
 ghost use Rattle.meaning.specs.Costs.{blocks_of};
@@ -7,7 +7,7 @@ ghost use Rattle.meaning.specs.Faults.{InSpace};
 ghost use Rattle.meaning.specs.Maps.{times};
 ghost use Rattle.meaning.specs.Retrieval.{HasBody};
 ghost use Rattle.retrieval.specs.Bodies.{AreWhole};
-ghost use Rattle.retrieval.specs.Placing.{kept_word, IsEdge, Stays, IsNewBlock};
+ghost use Rattle.retrieval.specs.Placing.{kept_word, IsEdge, IsEdgeBlock, Stays, IsNewBlock};
 ghost use Rattle.retrieval.specs.declared.error.BodyError.TheVariants.{BadData, Device, NoMemory};
 
 use crate::BodyError;
@@ -74,6 +74,11 @@ pub(crate) fn read_kept<D: Disk>(
         → AreWhole (D.state disk.old).contents blocks.now.blocks
         → HasBody (D.state disk.old).contents blocks.now.blocks body
         → IfOk result (λ kept. Stays body (min at (total / 128)) at count kept.place kept.words) }
+    // A damaged block is never kept as words; only a block whose words stay is refused.
+    ensures whole { (D.state disk.new).honest → OnOk result ((n : ℕ) → IsEdgeBlock blocks.now.blocks total at count n
+        → (D.state disk.old).contents n ≡ None → ⊥) }
+    ensures edge { (D.state disk.new).honest → (k : ℕ) → IsErrOf result (BadData k)
+        → IsEdgeBlock blocks.now.blocks total at count k }
     ensures damaged { (D.state disk.new).honest → (k : ℕ) → IsErrOf result (BadData k)
         → (0 < times k blocks.now.blocks) × ((D.state disk.old).contents k ≡ None) }
     ensures memory { IsErrOf result NoMemory → ⊥ }

@@ -16,19 +16,21 @@
 //!    `Mode` is one of the six data modes of files.
 //! 6. `write_version` writes no block but the prime block and the ribs that it took from the table, all
 //!    different, in the free space and free before; at Ok the version stands there, and it is read back
-//!    where its data blocks lie in the free space. (`written`, `read_back`, `taken`, `own`, `apart`,
-//!    `modified`)
+//!    where its data blocks lie in the free space. The prime block and the ribs have the longest runs of these.
+//!    (`written`, `read_back`, `prime_is`, `ribs_are`, `taken`, `own`, `apart`, `modified`)
 //! 7. `get_words` answers the words of a body that stand there from a block on, as many as are asked for
 //!    and are there, or names a data block that is damaged; such a block is never answered as words.
 //!    (`words`, `whole`, `few`, `damaged`)
 //! 8. After `put_words` the blocks hold the body with the words put, zeros before them where it ended
-//!    before; none is written that another version reaches, and the table holds one for the other.
-//!    (`body`, `length`, `counted`, `modified`, `held`)
+//!    before; none is written that another version reaches, and the table holds one for the other. A damaged block
+//!    is refused if words of it stay, and no other is; it is never taken for words.
+//!    (`body`, `length`, `counted`, `modified`, `held`, `whole`, `edge`)
 //! 9. Memory is taken for the lists of runs and of ribs and for the words that are read, and a `Version` whose
 //!    growth is refused stays as it was. `take_retrieval_blocks` and `write_retrieval_blocks` do what
 //!    `write_version` does in a list that was found before, of as many places as `rib_count` says or more.
 //! 10. A `Version` shows a list of blocks and keeps the longest runs of it (`AreKept`), so that a body in one run
 //!    takes as little memory as one of a block.
+//!    `run_at` answers a run that the next block of the list does not continue. (`longest`)
 #![tactic(auto)]
 
 mod block_list;

@@ -10,7 +10,7 @@ ghost use Rattle.meaning.specs.Retrieval.{HasBody, most_blocks};
 ghost use Rattle.meaning.specs.Splices.{splice, length_after};
 ghost use Rattle.alloctab.specs.TableState.{IsTable, uses, used_in_space, holds, space};
 ghost use Rattle.retrieval.specs.Bodies.{AreWhole, IsOwn, AddsFree, KeepsOwn};
-ghost use Rattle.retrieval.specs.Placing.{Stays};
+ghost use Rattle.retrieval.specs.Placing.{IsEdgeBlock, Stays};
 ghost use Rattle.retrieval.specs.Writing.{IsFixed, GrowsBy};
 ghost use Rattle.retrieval.specs.declared.error.BodyError.TheVariants.{BadData, Device, NoMemory};
 
@@ -48,7 +48,11 @@ fn prepare<D: Disk>(
         → AreWhole (D.state disk.old).contents blocks.old.blocks
         → HasBody (D.state disk.old).contents blocks.old.blocks body
         → IfOk result (λ kept. Stays body (min at (total / 128)) at count kept.place kept.words) }
+    ensures whole { (D.state disk.new).honest → OnOk result ((n : ℕ) → IsEdgeBlock blocks.old.blocks total at count n
+        → (D.state disk.old).contents n ≡ None → ⊥) }
     // Which refusal comes when, and what it leaves.
+    ensures edge { (D.state disk.new).honest → (k : ℕ) → IsErrOf result (BadData k)
+        → IsEdgeBlock blocks.old.blocks total at count k }
     ensures damaged { (D.state disk.new).honest → (k : ℕ) → IsErrOf result (BadData k)
         → (0 < times k blocks.old.blocks) × ((D.state disk.old).contents k ≡ None) }
     ensures memory { IsErrOf result NoMemory → disk.new ≡ disk.old }
@@ -113,6 +117,9 @@ fn put_into<D: Disk>(
         → HasBody (D.state disk.old).contents blocks.old.blocks body
         → HasBody (D.state disk.new).contents blocks.new.blocks (splice body block words.now)) }
     ensures counted { OnOk result (length blocks.new.blocks ≡ blocks_of (length_after old block (length words.now))) }
+    ensures whole { (D.state disk.new).honest → OnOk result ((n : ℕ)
+        → IsEdgeBlock blocks.old.blocks old (block - 1) (length words.now) n
+        → (D.state disk.old).contents n ≡ None → ⊥) }
 
     // Whatever the answer.
     ensures inside { AllByRecursion (InSpace (D.state disk.old).size) blocks.new.blocks }
@@ -127,6 +134,8 @@ fn put_into<D: Disk>(
         → Modifies (IsOwn table.old blocks.old.blocks) (D.state disk.old) (D.state disk.new) }
     ensures memory { IsErrOf result NoMemory → (table.new ≡ table.old) × (blocks.new.blocks ≡ blocks.old.blocks)
         × (disk.new ≡ disk.old) }
+    ensures edge { (D.state disk.new).honest → (k : ℕ) → IsErrOf result (BadData k)
+        → IsEdgeBlock blocks.old.blocks old (block - 1) (length words.now) k }
     ensures damaged { (D.state disk.new).honest → (k : ℕ) → IsErrOf result (BadData k)
         → (0 < times k blocks.old.blocks) × ((D.state disk.old).contents k ≡ None) }
     ensures undone { (k : ℕ) → IsErrOf result (BadData k) → (table.new ≡ table.old)
@@ -186,6 +195,10 @@ pub fn put_words<D: Disk>(
         → HasBody (D.state disk.new).contents version.new.blocks (splice body block words.now)) }
     ensures length { OnOk result (version.new.words ≡ length_after version.old.words block (length words.now)) }
     ensures counted { OnOk result (length version.new.blocks ≡ blocks_of version.new.words) }
+    // A damaged block is never taken for words that stay.
+    ensures whole { (D.state disk.new).honest → 0 < length words.now → OnOk result ((n : ℕ)
+        → IsEdgeBlock version.old.blocks version.old.words (block - 1) (length words.now) n
+        → (D.state disk.old).contents n ≡ None → ⊥) }
 
     // Whatever the answer.
     ensures ribs { version.new.ribs ≡ version.old.ribs }
@@ -201,6 +214,9 @@ pub fn put_words<D: Disk>(
         → Modifies (IsOwn table.old version.old.blocks) (D.state disk.old) (D.state disk.new) }
     ensures memory { IsErrOf result NoMemory → (table.new ≡ table.old) × (version.new ≡ version.old)
         × (disk.new ≡ disk.old) }
+    // Only a block whose words stay is refused.
+    ensures edge { (D.state disk.new).honest → (k : ℕ) → IsErrOf result (BadData k)
+        → IsEdgeBlock version.old.blocks version.old.words (block - 1) (length words.now) k }
     ensures damaged { (D.state disk.new).honest → (k : ℕ) → IsErrOf result (BadData k)
         → (0 < times k version.old.blocks) × ((D.state disk.old).contents k ≡ None) }
     ensures left { OnErr result (version.new.words ≡ version.old.words) }

@@ -90,12 +90,14 @@ impl Version {
         self.blocks.at(i)
     }
 
-    /// The data block at a place, counted from 0, with those that follow it side by side.
+    /// The data block at a place, counted from 0, with all neighbours that follow it in the list.
     pub fn run_at(&self, i: usize) -> Run
         requires { i < length self.now.blocks }
         ensures within { i + (result.last - result.first) < length self.now.blocks }
         ensures side_by_side { (j : ℕ) → j ≤ result.last - result.first
             → slice_index self.now.blocks (i + j) ≡ result.first + j }
+        ensures longest { i + (result.last - result.first) + 1 < length self.now.blocks
+            → slice_index self.now.blocks (i + (result.last - result.first) + 1) ≡ result.last + 1 → ⊥ }
     {
         self.blocks.run_at(i)
     }

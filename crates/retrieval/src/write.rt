@@ -1,14 +1,16 @@
-ghost use Rattle.std.specs.Prelude.{◌≡◌, ◌+◌, ◌-◌, ◌/◌, ◌<◌, ◌≤◌, ◌^◌, ◌∷◌, ℕ, map, length, Some, OnOk, IfOk, IsErrOf};
+ghost use Rattle.std.specs.Prelude.{◌≡◌, ◌+◌, ◌-◌, ◌/◌, ◌<◌, ◌≤◌, ◌^◌, ◌∷◌, ℕ, map, length, take, drop, Some, OnOk, IfOk};
+ghost use Rattle.std.specs.Prelude.{IsErrOf};
 ghost use Rattle.std.specs.List.{AllByRecursion};
 ghost use Rattle.blockdisk.specs.Disk.{SameDisk, Modifies, one_more};
 ghost use Rattle.blockdisk.specs.declared.fault.Fault.TheVariants.{Device as DeviceFault, Damaged};
+ghost use Rattle.meaning.specs.Blocks.{head_or_zero};
 ghost use Rattle.meaning.specs.Costs.{blocks_of};
 ghost use Rattle.meaning.specs.Faults.{InSpace};
 ghost use Rattle.meaning.specs.Maps.{times};
 ghost use Rattle.meaning.specs.Regions.{IsVolumeSize};
-ghost use Rattle.meaning.specs.Retrieval.{IsRun, extension_block, AreExtensions, IsRetrieved};
+ghost use Rattle.meaning.specs.Retrieval.{IsRun, prime_block, extension_block, AreExtensions, IsRetrieved};
 ghost use Rattle.alloctab.specs.TableState.{IsTable, IsFree, holds, space, used_in_space, with_held};
-ghost use Rattle.retrieval.specs.Runs.{pairs_of, ribs_of};
+ghost use Rattle.retrieval.specs.Runs.{pairs_of, longest_runs, ribs_of};
 ghost use Rattle.retrieval.specs.Primes.{with_length};
 ghost use Rattle.retrieval.specs.Reading.{IsStandingVersion};
 ghost use Rattle.retrieval.specs.declared.error.RetrievalError.TheVariants.{BadRetrieval, Device, NoMemory};
@@ -137,6 +139,12 @@ pub fn write_retrieval_blocks<D: Disk>(
     ensures written { (D.state disk.new).honest
         → OnOk result (IsRetrieved 1 (D.state disk.new).contents (with_length prime.now version.now.words)
         at version.now.ribs version.now.blocks) }
+    // The prime block has the first of the longest runs of the data blocks, the ribs have the others.
+    ensures prime_is { (D.state disk.new).honest → OnOk result ((D.state disk.new).contents at
+        ≡ Some (prime_block (with_length prime.now version.now.words) (take 112 (longest_runs version.now.blocks))
+        (head_or_zero version.now.ribs))) }
+    ensures ribs_are { (D.state disk.new).honest → OnOk result (AreExtensions (D.state disk.new).contents
+        (extensions_of version.now.ribs (drop 112 (longest_runs version.now.blocks)))) }
     ensures modified { (D.state disk.new).honest
         → Modifies (λ n. 0 < times n (at ∷ version.now.ribs)) (D.state disk.old) (D.state disk.new) }
     ensures same { SameDisk (D.state disk.old) (D.state disk.new) }
@@ -182,6 +190,12 @@ pub fn write_version<D: Disk>(
     ensures read_back { (D.state disk.new).honest → AllByRecursion (InSpace (D.state disk.old).size) version.old.blocks
         → IfOk result (λ n. IsStandingVersion (D.state disk.new).size (D.state disk.new).contents n
         (with_length prime.now version.new.words) version.new.ribs version.new.blocks) }
+    // The prime block has the first of the longest runs of the data blocks, the ribs have the others.
+    ensures prime_is { (D.state disk.new).honest → IfOk result (λ n. (D.state disk.new).contents n
+        ≡ Some (prime_block (with_length prime.now version.new.words) (take 112 (longest_runs version.new.blocks))
+        (head_or_zero version.new.ribs))) }
+    ensures ribs_are { (D.state disk.new).honest → OnOk result (AreExtensions (D.state disk.new).contents
+        (extensions_of version.new.ribs (drop 112 (longest_runs version.new.blocks)))) }
     ensures kept { version.new ≡ record version.old { ribs = version.new.ribs } }
     ensures count { OnOk result (length version.new.ribs ≡ ribs_of version.new.blocks) }
 

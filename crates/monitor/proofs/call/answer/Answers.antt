@@ -12,7 +12,7 @@ returns-in-Open g c = record {
       as_called c.in-Open.is (alone_serves g.D.Disk.state g.met.D.Disk.only_now volume.disk volume.core volume.failed
       c.args.job.now c.open.new.job (Open c.in-Open.channel c.in-Open.address) c.args.moment c.open.result
       c.requires.ready.alive c.requires.ready.placed c.requires.timely said.row said.keeps said.reads said.only
-      said.refused);
+      said.refused said.decided);
 }
 
 pub returns-in-Rename : goal.returns-in-Rename
@@ -28,7 +28,7 @@ returns-in-Useti g c = record {
       as_called c.in-Useti.is (alone_serves g.D.Disk.state g.met.D.Disk.only_now volume.disk volume.core volume.failed
       c.args.job.now c.useti.new.job (Useti c.in-Useti.channel c.in-Useti.block) c.args.moment c.useti.result
       c.requires.ready.alive c.requires.ready.placed c.requires.timely said.row said.keeps said.reads said.only
-      said.refused);
+      said.refused said.decided);
 }
 
 pub returns-in-Useto : goal.returns-in-Useto
@@ -39,7 +39,7 @@ returns-in-Useto g c = record {
       as_called c.in-Useto.is (alone_serves g.D.Disk.state g.met.D.Disk.only_now volume.disk volume.core volume.failed
       c.args.job.now c.useto.new.job (Useto c.in-Useto.channel c.in-Useto.block) c.args.moment c.useto.result
       c.requires.ready.alive c.requires.ready.placed c.requires.timely said.row said.keeps said.reads said.only
-      said.refused);
+      said.refused said.decided);
 }
 
 pub returns-in-DeleteDir : goal.returns-in-DeleteDir
@@ -55,7 +55,7 @@ returns-in-Inbuf g c = record {
       as_called c.in-Inbuf.is (alone_serves g.D.Disk.state g.met.D.Disk.only_now volume.disk volume.core volume.failed
       c.args.job.now c.inbuf.new.job (Inbuf c.in-Inbuf.channel c.in-Inbuf.count) c.args.moment c.inbuf.result
       c.requires.ready.alive c.requires.ready.placed c.requires.timely said.row said.keeps said.reads said.only
-      said.refused);
+      said.refused said.decided);
 }
 
 pub returns-in-Outbuf : goal.returns-in-Outbuf
@@ -66,7 +66,7 @@ returns-in-Outbuf g c = record {
       as_called c.in-Outbuf.is (alone_serves g.D.Disk.state g.met.D.Disk.only_now volume.disk volume.core volume.failed
       c.args.job.now c.outbuf.new.job (Outbuf c.in-Outbuf.channel c.in-Outbuf.count) c.args.moment c.outbuf.result
       c.requires.ready.alive c.requires.ready.placed c.requires.timely said.row said.keeps said.reads said.only
-      said.refused);
+      said.refused said.decided);
 }
 
 pub returns-in-Getsts : goal.returns-in-Getsts
@@ -77,7 +77,7 @@ returns-in-Getsts g c = record {
       as_called c.in-Getsts.is (alone_serves g.D.Disk.state g.met.D.Disk.only_now volume.disk volume.core volume.failed
       job job (Getsts c.in-Getsts.channel) c.args.moment c.getsts.result c.requires.ready.alive c.requires.ready.placed
       c.requires.timely c.getsts.ensures.row (λ pending. keeps_same pending job) (λ live. reads_same live job)
-      c.getsts.ensures.only (λ code is. refl));
+      c.getsts.ensures.only (λ code is. refl) (λ is. refl));
 }
 
 pub returns-in-Lookup : goal.returns-in-Lookup

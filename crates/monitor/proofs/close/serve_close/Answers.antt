@@ -49,5 +49,5 @@ returns-in_default g c = record {
       new.failed c.args.job.now c.close.new.job (Close c.args.channel c.args.bits) moment c.close.result
       ready.alive c.close.ensures.untouched ready.placed timely c.close.ensures.row c.close.ensures.keeps
       c.close.ensures.reads c.close.ensures.leaves c.close.ensures.only
-      c.close.ensures.refused (λ kept. kept);
+      c.close.ensures.refused c.close.ensures.decided (λ kept. kept);
 }

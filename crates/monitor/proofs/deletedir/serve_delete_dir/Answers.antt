@@ -1,10 +1,13 @@
 use Rattle.std.proofs.Common.{◌≡◌, false, Some, refl, subst, ap, slice_set}
 use Rattle.meaning.proofs.SlotLaws.{slot-set_other}
 use Rattle.volume.specs.Rest.{IsSoundCore}
+use Rattle.monitor.proofs.Called.{decided_serves}
 use Rattle.monitor.proofs.DeleteDirAnswers.{never_failed, takes_none, refused_so, fails_by, idle_same, still_placed}
 use Rattle.monitor.proofs.DeleteDirAnswers.{crashes_by, delete_dir_answered}
 use Rattle.monitor.proofs.Dropped.{keeps_keyed}
 use Rattle.monitor.proofs.ReadingJobs.{keeps_reading}
+use Rattle.monitor.proofs.Refusals.{delete_dir_decided}
+use Rattle.monitor.proofs.Slots.{unchanged}
 use Rattle.monitor.proofs.deletedir.serve_delete_dir.Goals as goal
 
 pub returns : goal.returns
@@ -43,6 +46,14 @@ returns g c = record {
         kept = λ kept. absurd kept;
         memory = λ none. absurd (takes_none d old.core (new.disk ≡ old.disk) (new.core ≡ old.core) job job'
             c.args.address reply is.outcome none);
+        decided = λ decided.
+            let left = delete_dir_decided d old.core ((new.disk ≡ old.disk) × (new.core ≡ old.core)) job job'
+            c.args.address reply is.outcome decided in (
+              left.1.0,
+              left.1.1,
+              decided_serves false new.failed reply refl fails decided,
+              unchanged jobs jobs' n job job' among.there refl left.0,
+            );
         refused = λ code refused. record {
           job = job;
           there = among.there;

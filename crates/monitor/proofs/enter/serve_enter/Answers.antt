@@ -1,6 +1,7 @@
 use Rattle.std.proofs.Common.{false, Some, refl, sym, subst, ◌∙◌, slice_set}
 use Rattle.meaning.specs.declared.call.Call.TheVariants.{Enter}
 use Rattle.volume.specs.Rest.{IsSoundCore}
+use Rattle.monitor.specs.Events.{IsDecided}
 use Rattle.monitor.proofs.EnterAnswers.{enters_keyed, enters_reading, enter_answered}
 use Rattle.monitor.proofs.Promised.{quiet_serves}
 use Rattle.monitor.proofs.ReadingJobs.{job_held, few_readers}
@@ -33,7 +34,8 @@ returns-in-Some g c = record {
       c.update.ensures.only (c.update.ensures.placed c.requires.ready.placed) (λ light. absurd light)
       (λ kept. absurd kept)
       (λ none. ((c.update.ensures.kept (λ e. let wrong = sym none ∙ e in cc)).0, c.update.ensures.memory none))
-      c.update.ensures.refused jobs n among
+      c.update.ensures.refused
+      (λ is. ((c.update.ensures.kept (λ e. subst IsDecided e is)).0, c.update.ensures.decided is)) jobs n among
       (updates_keyed (state old.disk) (state new.disk) map map' jobs jobs' n job job' c.args.channel c.args.address
       moment c.in-Some.open c.in-Some.input c.update.result among.there refl among.keyed among.reading
       c.update.ensures.begun c.update.ensures.kept)
@@ -66,7 +68,8 @@ returns-in-None g c = record {
       c.enter.ensures.only (c.enter.ensures.placed c.requires.ready.placed) (λ light. absurd light)
       (λ kept. absurd kept)
       (λ none. ((c.enter.ensures.kept (λ e. let wrong = sym none ∙ e in cc)).0, c.enter.ensures.memory none))
-      c.enter.ensures.refused jobs n among
+      c.enter.ensures.refused
+      (λ is. ((c.enter.ensures.kept (λ e. subst IsDecided e is)).0, c.enter.ensures.decided is)) jobs n among
       (enters_keyed (state old.disk) (state new.disk) map map' jobs jobs' n job job' c.args.channel c.args.address
       moment c.enter.result among.there refl among.keyed among.reading c.enter.ensures.begun c.enter.ensures.kept)
       (enters_reading (state old.disk) (state new.disk) map map' jobs jobs' n job job' c.args.channel c.args.address

@@ -1,6 +1,7 @@
 use Rattle.std.proofs.Common.{false, Some, refl, subst, slice_set}
 use Rattle.meaning.specs.declared.call.Call.TheVariants.{Lookup}
 use Rattle.volume.specs.Rest.{IsSoundCore}
+use Rattle.monitor.specs.Events.{IsDecided}
 use Rattle.monitor.proofs.Knowing.{known}
 use Rattle.monitor.proofs.LookupCalls.{lookup_keyed, lookup_reading, lookup_answered}
 use Rattle.monitor.proofs.Lookups.{placed_still}
@@ -33,7 +34,8 @@ returns g c = record {
       (c.lookup.ensures.only.0, c.lookup.ensures.only.1)
       (placed_still map map' c.lookup.ensures.pending c.lookup.ensures.known c.requires.ready.placed)
       (λ light. c.lookup.ensures.only.2) (λ kept. absurd kept) (λ none. absurd (c.lookup.ensures.only.2 none))
-      c.lookup.ensures.refused jobs n among
+      c.lookup.ensures.refused
+      (λ is. ((c.lookup.ensures.kept (λ e. subst IsDecided e is)).0, c.lookup.ensures.decided is)) jobs n among
       (lookup_keyed (state old.disk) (state new.disk) map map' jobs jobs' n job job' c.args.channel c.args.address
       moment c.lookup.result among.there refl among.keyed among.reading c.lookup.ensures.pending c.lookup.ensures.reads
       c.lookup.ensures.looked c.lookup.ensures.kept)

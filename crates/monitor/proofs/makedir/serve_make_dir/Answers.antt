@@ -2,11 +2,11 @@ use Rattle.std.proofs.Common.{◌≡◌, false, Some, refl, subst, ap, slice_set
 use Rattle.meaning.proofs.SlotLaws.{slot-set_other}
 use Rattle.volume.specs.Rest.{IsSoundCore}
 use Rattle.monitor.specs.DirectoryRows.{IsMakeDir}
-use Rattle.monitor.proofs.Called.{still_serves}
+use Rattle.monitor.proofs.Called.{still_serves, decided_serves}
 use Rattle.monitor.proofs.MakeDirAnswers.{never_failed, fails_by, idle_same, made_keyed, made_reading, crashes_by}
 use Rattle.monitor.proofs.MakeDirAnswers.{make_dir_answered}
 use Rattle.monitor.proofs.Placing.{placed_made}
-use Rattle.monitor.proofs.Refusals.{make_dir_refused}
+use Rattle.monitor.proofs.Refusals.{make_dir_refused, make_dir_decided}
 use Rattle.monitor.proofs.Slots.{unchanged}
 use Rattle.monitor.proofs.makedir.serve_make_dir.Goals as goal
 
@@ -55,6 +55,14 @@ returns g c = record {
               is.1.0,
               is.1.1,
               still_serves false new.failed c.make_dir.result refl fails none,
+              unchanged jobs jobs' n job job' among.there refl is.0,
+            );
+        decided = λ decided.
+            let is = make_dir_decided size map same job job' c.args.address c.make_dir.result c.make_dir.ensures.outcome
+            decided in (
+              is.1.0,
+              is.1.1,
+              decided_serves false new.failed c.make_dir.result refl fails decided,
               unchanged jobs jobs' n job job' among.there refl is.0,
             );
         refused = λ code is. record {

@@ -6,11 +6,11 @@ use Rattle.volume.specs.Rest.{IsSoundCore}
 use Rattle.monitor.specs.Putting.{IsOut}
 use Rattle.monitor.specs.Serving.{IsSide}
 use Rattle.monitor.specs.Sides.{sides_in}
-use Rattle.monitor.proofs.Called.{still_serves}
+use Rattle.monitor.proofs.Called.{still_serves, decided_serves}
 use Rattle.monitor.proofs.Dropped.{job_live}
 use Rattle.monitor.proofs.OutAnswers.{out_keyed, out_reading, out_answered}
 use Rattle.monitor.proofs.OutPlaced.{out_placed, out_blamed, out_idle}
-use Rattle.monitor.proofs.Refusals.{out_refused}
+use Rattle.monitor.proofs.Refusals.{out_refused, out_decided}
 use Rattle.monitor.proofs.SideLists.{each-slot}
 use Rattle.monitor.proofs.Slots.{unchanged}
 use Rattle.monitor.proofs.Untouched.{quiet_crashes}
@@ -70,6 +70,14 @@ returns g c = record {
               is.1.0,
               is.1.1,
               still_serves false new.failed c.out.result refl c.out.ensures.failed none,
+              unchanged jobs jobs' n job job' among.there refl is.0,
+            );
+        decided = λ decided.
+            let is = out_decided (state old.disk) (state new.disk) map map' same job job' c.args.channel
+            c.args.address c.out.result c.out.ensures.outcome decided in (
+              is.1.0,
+              is.1.1,
+              decided_serves false new.failed c.out.result refl c.out.ensures.failed decided,
               unchanged jobs jobs' n job job' among.there refl is.0,
             );
         refused = λ code is. record {

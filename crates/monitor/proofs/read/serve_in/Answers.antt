@@ -2,11 +2,11 @@ use Rattle.std.proofs.Common.{false, Some, refl, sym, subst, ap, slice_set}
 use Rattle.meaning.specs.declared.call.Call.TheVariants.{In}
 use Rattle.meaning.proofs.SlotLaws.{slot-set_other}
 use Rattle.monitor.specs.Serving.{AreKeyed, ArePlaced, AreReading}
-use Rattle.monitor.proofs.Called.{still_serves}
+use Rattle.monitor.proofs.Called.{still_serves, decided_idle, decided_serves}
 use Rattle.monitor.proofs.Dropped.{job_live}
 use Rattle.monitor.proofs.ReadAnswers.{in_keyed, in_reading, in_answered, quiet_read}
 use Rattle.monitor.proofs.ReadingJobs.{job_held}
-use Rattle.monitor.proofs.Refusals.{in_refused}
+use Rattle.monitor.proofs.Refusals.{in_refused, in_decided}
 use Rattle.monitor.proofs.Slots.{unchanged}
 use Rattle.monitor.proofs.Untouched.{quiet_crashes}
 use Rattle.monitor.proofs.read.serve_in.Goals as goal
@@ -62,6 +62,14 @@ returns g c = record {
               still_serves false new.failed c.read.result refl c.read.ensures.failed none,
               unchanged jobs jobs' n job job' among.there refl is.1,
             );
+        decided = λ decided. (
+          c.read.ensures.idle (decided_idle c.read.result decided),
+          core,
+          decided_serves false new.failed c.read.result refl c.read.ensures.failed decided,
+          unchanged jobs jobs' n job job' among.there refl
+              (in_decided (state old.disk) (state new.disk) map job job' c.args.channel c.args.address c.read.result
+              c.read.ensures.outcome decided),
+        );
         refused = λ code is. record {
           job = job;
           there = among.there;

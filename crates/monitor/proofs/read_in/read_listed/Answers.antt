@@ -1,6 +1,5 @@
 use Rattle.std.proofs.Common.{rules, ◌≡◌, ◌<◌, ◌-◌, min, take, refl, ap, ◌∙◌}
 use Rattle.meaning.specs.Splices.{block_start, words_from}
-use Rattle.meaning.specs.Cores.{after_writes, dealt}
 use Rattle.meaning.specs.CommandLists.{word_count}
 use Rattle.monitor.proofs.Inputs.{no_area, none_dealt, all_dealt, as_many, no_more, ends_before, version_there}
 use Rattle.monitor.proofs.read_in.read_listed.Goals as goal

@@ -29,5 +29,5 @@ returns-in-None g c = record {
       new.failed c.args.job.now c.release.new.job (Releas c.args.channel) moment c.release.result
       ready.alive c.release.ensures.untouched ready.placed timely c.release.ensures.row c.release.ensures.keeps
       c.release.ensures.reads c.release.ensures.leaves c.release.ensures.only
-      c.release.ensures.refused (λ kept. kept);
+      c.release.ensures.refused c.release.ensures.decided (λ kept. kept);
 }

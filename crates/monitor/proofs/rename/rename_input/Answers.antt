@@ -1,4 +1,4 @@
-use Rattle.std.proofs.Common.{sym, ap, ◌∙◌}
+use Rattle.std.proofs.Common.{refl, sym, ap, ◌∙◌}
 use Rattle.meaning.specs.declared.call.Call.TheVariants.{Rename}
 use Rattle.meaning.specs.declared.call.Reply.TheVariants.{AddressCheck}
 use Rattle.meaning.proofs.PlaceLaws.{some_is}
@@ -21,7 +21,7 @@ returns-then-lies_outside g c = record {
       (rename_outside job c.args.number c.args.address c.args.channel c.requires.there
       (sym c.lies_outside.ensures.value ∙ c.if-lies_outside.true))
       (λ pending. keeps_same pending job) (λ live. reading_core live job job.core) (λ x. cc x, λ x. cc x, λ x. cc x)
-      (λ code x. cc x);
+      (λ code x. cc x) (λ is. refl);
 }
 
 pub returns-then-is_some : goal.returns-then-is_some

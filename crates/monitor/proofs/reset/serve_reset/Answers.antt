@@ -45,7 +45,7 @@ returns g c = record {
       Reset moment Done c.requires.ready.alive c.close_channels.ensures.untouched
       (λ e. cc e, λ e. cc e) (placed_left map map' c.close_channels.ensures.closed.leaves c.requires.ready.placed)
       (λ light e. cc e) (λ kept. absurd kept) (λ e. cc e)
-      (λ code e. cc e) jobs n among keyed reading
+      (λ code e. cc e) (λ is. absurd is) jobs n among keyed reading
       (λ h s serves.
       row (state old.disk) map map' false jobs jobs' keyed reading c.close_channels.ensures.closed.leaves
       (pack_of (state old.disk)) (Calls n Reset moment) Done

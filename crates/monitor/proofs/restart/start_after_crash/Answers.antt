@@ -1,12 +1,14 @@
 use Rattle.std.proofs.Common.{⊎_elim, inl, inr, sym, subst}
+use Rattle.std.specs.Prelude.{IsTrue}
 use Rattle.std.proofs.lemmas.Result.{IfOk-weaker, IfErr-weaker}
+use Rattle.meaning.specs.Crashes.{may_change}
 use Rattle.meaning.specs.Jobs.{State}
 use Rattle.meaning.specs.Published.{without_serials}
 use Rattle.meaning.specs.Runs.{Serving, IsStart}
 use Rattle.meaning.specs.Stands.{Stands}
 use Rattle.meaning.specs.Step.{step}
 use Rattle.monitor.specs.Serving.{pack_of, Serves}
-use Rattle.monitor.proofs.Along.{along, no_fault, stopped_like, stands_again, ok_each, err_both, ok_either}
+use Rattle.monitor.proofs.Along.{along, no_fault, stopped_like, stands_again, ok_each, err_both, ok_either, ok_and}
 use Rattle.monitor.proofs.restart.start_after_crash.Goals as goal
 
 pub returns-clause-found : goal.returns-clause-found
@@ -47,7 +49,9 @@ returns-clause-between g c size t u s event reply between left not_later =
     (c.start.ensures.started (without_serials x.files)
     (subst (λ n. Stands n e.contents (without_serials x.files)) (sym size) is)) in
     ok_either _ _ _ c.start.result (⊎_elim (λ later. absurd (not_later later))
-    (λ either. ⊎_elim (λ is. inl (starts s is)) (λ is. inr (starts after is.1)) either) (between e.contents left))
+    (λ either. ⊎_elim (λ is. inl (starts s is))
+    (λ is. inr (ok_and (IsTrue (may_change reply)) _ _ c.start.result is.0 (starts after is.1))) either)
+    (between e.contents left))
 
 pub returns-clause-again : goal.returns-clause-again
 returns-clause-again g c files all =

@@ -356,3 +356,6 @@ returns-in-Err-clause-few g c =
     let counted = c.requires.counted in
     let long = c.write_places.ensures.long in
     omega arith
+
+pub returns-in-Ok-clause-whole : goal.returns-in-Ok-clause-whole
+returns-in-Ok-clause-whole g c h = c.in_ok-kept.ensures.whole (c.in-Ok.ensures.same.was_honest h)

@@ -1,4 +1,5 @@
 use Rattle.std.proofs.Common.{ℕ, List, subst, sym, ap, ◌∷◌, ◌-◌, ◌<◌, ◌≤◌, ◌^◌, length, take, drop, refl, ◌∙◌, arith}
+use Rattle.std.proofs.Common.{◌≡◌, OnOk, Some}
 use Rattle.std.specs.List.{AllByRecursion}
 use Rattle.std.proofs.lemmas.List.{drop-map}
 use Rattle.blockdisk.specs.Laws.{modifies_wider, modifies_write}
@@ -10,7 +11,7 @@ use Rattle.retrieval.proofs.LongestRuns.{blocks_of_longest}
 use Rattle.retrieval.specs.Writing.{extensions_of}
 use Rattle.meaning.specs.Maps.{times}
 use Rattle.retrieval.specs.Primes.{with_length}
-use Rattle.retrieval.proofs.Writing.{retrieved_on, behind, drop_min, is_in, in_later, is_mode}
+use Rattle.retrieval.proofs.Writing.{retrieved_on, extended_on, behind, drop_min, is_in, in_later, is_mode}
 use Rattle.retrieval.proofs.write.write_retrieval_blocks.Goals as goal
 
 pub write_ribs-requires-clause-fit : goal.write_ribs-requires-clause-fit
@@ -56,6 +57,27 @@ returns-clause-written g c h =
     c.requires.apart (c.write.ensures.writes h).contents c.prime_block-words.ensures
     (c.write.ensures.put h) fits c.requires.nonzero fit
     (blocks_of_longest v.blocks) c.requires.count c.requires.enough
+
+pub returns-clause-prime_is : goal.returns-clause-prime_is
+returns-clause-prime_is g c h =
+    subst (λ (l : List ℕ). OnOk c.write.result ((g.D.Disk.state c.write.new.self).contents c.args.at ≡ Some l))
+    c.prime_block-words.ensures (c.write.ensures.put h)
+
+pub returns-clause-ribs_are : goal.returns-clause-ribs_are
+returns-clause-ribs_are g c h =
+    let now = g.D.Disk.state c.write_ribs.new.disk in
+    let new = g.D.Disk.state c.write.new.self in
+    let v = c.args.version.now in
+    let runs = c.runs-runs.result.now in
+    let count = c.min-here.result in
+    let part = pairs_of (take (length runs - count) (drop count runs)) in
+    extended_on now.contents new.contents (with_length c.args.prime.now v.words) c.args.at v.ribs v.blocks
+    (longest_runs v.blocks) part c.write.result
+    (subst (λ (l : List ℕ). AreExtensions now.contents (extensions_of l part)) c.ribs.ensures
+    (c.in_ok-write_ribs.ensures.written (c.write.ensures.same.was_honest h)))
+    (ap pairs_of (behind runs count ∙ drop_min runs 112 count c.min-here.ensures) ∙ sym (drop-map pair_of 112 runs)
+    ∙ ap (drop 112) c.runs-runs.ensures.are_longest)
+    c.requires.apart (c.write.ensures.writes h).contents
 
 pub returns-clause-modified : goal.returns-clause-modified
 returns-clause-modified g c h =

@@ -11,7 +11,7 @@ use Rattle.meaning.specs.declared.call.Event.TheVariants.{Call as Calls}
 use Rattle.monitor.specs.Serving.{pack_of, Serves}
 use Rattle.monitor.proofs.Apart.{IsApart, IsStill, in_still, apart}
 use Rattle.monitor.proofs.EventCrashes.{untouched_event, call_event}
-use Rattle.monitor.proofs.Called.{IsCalled, called_late}
+use Rattle.monitor.proofs.Called.{IsCalled, called_late, all_same}
 use Rattle.monitor.specs.Refusals.{IsRefused}
 use Rattle.monitor.proofs.monitor.Monitor.call.Goals as goal
 
@@ -61,26 +61,15 @@ returns-clause-crash g c =
 
 pub returns-clause-memory : goal.returns-clause-memory
 returns-clause-memory g c none =
-    let same = c.serve.ensures.serving.memory none in
-    let now : record {
-      disk = c.serve.new.volume.disk;
-      map = c.serve.new.volume.core;
-      failed = c.serve.new.volume.failed;
-      jobs = c.serve.new.jobs;
-    }
-    ≡ record {
-      disk = c.self.inside.volume.disk;
-      map = c.self.inside.volume.core;
-      failed = c.self.inside.volume.failed;
-      jobs = c.self.inside.jobs;
-    }
-    = λ i. record {
-      disk = same.0 i;
-      map = same.1 i;
-      failed = (same.2 ∙ sym (sym c.has_failed.ensures.value ∙ c.if-has_failed.false)) i;
-      jobs = same.3 i;
-    } in
-    now ∙ c.self.view_is
+    all_same c.serve.new.volume.disk c.self.inside.volume.disk c.serve.new.volume.core c.self.inside.volume.core
+    c.serve.new.volume.failed c.self.inside.volume.failed (sym c.has_failed.ensures.value ∙ c.if-has_failed.false)
+    c.serve.new.jobs c.self.inside.jobs (c.serve.ensures.serving.memory none) ∙ c.self.view_is
+
+pub returns-clause-decided : goal.returns-clause-decided
+returns-clause-decided g c decided =
+    all_same c.serve.new.volume.disk c.self.inside.volume.disk c.serve.new.volume.core c.self.inside.volume.core
+    c.serve.new.volume.failed c.self.inside.volume.failed (sym c.has_failed.ensures.value ∙ c.if-has_failed.false)
+    c.serve.new.jobs c.self.inside.jobs (c.serve.ensures.serving.decided decided) ∙ c.self.view_is
 
 pub returns-clause-still : goal.returns-clause-still
 returns-clause-still g c =

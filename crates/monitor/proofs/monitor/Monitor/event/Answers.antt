@@ -1,9 +1,9 @@
-use Rattle.std.proofs.Common.{refl, sym, ap, subst}
+use Rattle.std.proofs.Common.{refl, sym, ap, subst, ◌∙◌}
 use Rattle.blockdisk.specs.Disk.{LeavesOnly}
 use Rattle.meaning.specs.Crashes.{StandsForEither}
 use Rattle.meaning.specs.Runs.{Service, Serving, Answers}
 use Rattle.monitor.specs.Serving.{pack_of, Serves}
-use Rattle.monitor.specs.Events.{IsNoCall, IsLightEvent}
+use Rattle.monitor.specs.Events.{IsDecided, IsNoCall, IsLightEvent}
 use Rattle.monitor.proofs.Apart.{leaves_others}
 use Rattle.monitor.proofs.EventCrashes.{untouched_event, of_other}
 use Rattle.monitor.proofs.ServedEvents.{call_answered}
@@ -102,6 +102,16 @@ returns-in-Login-clause-idle g c idle = ap (λ m. m.disk) c.login.ensures.kept
 
 pub returns-in-Deposit-clause-idle : goal.returns-in-Deposit-clause-idle
 returns-in-Deposit-clause-idle g c idle = ap (λ m. m.disk) c.deposit.ensures.kept
+
+pub returns-in-Login-clause-decided : goal.returns-in-Login-clause-decided
+returns-in-Login-clause-decided g c decided =
+    let left = c.login.ensures.refused (λ e. subst IsDecided e decided) in
+    c.login.ensures.kept ∙ (λ i. record c.args.self.now { map = left.1 i; jobs = left.0 i })
+
+pub returns-in-Deposit-clause-decided : goal.returns-in-Deposit-clause-decided
+returns-in-Deposit-clause-decided g c decided =
+    let left = c.deposit.ensures.refused (λ e. subst IsDecided e decided) in
+    c.deposit.ensures.kept ∙ (λ i. record c.args.self.now { jobs = left i })
 
 pub returns-in-Login-clause-light : goal.returns-in-Login-clause-light
 returns-in-Login-clause-light g c light = absurd (subst (λ e. IsLightEvent e c.args.self.now.jobs) c.in-Login.is light)

@@ -1,4 +1,4 @@
-use Rattle.std.proofs.Common.{◌≡◌, ◌+◌, ◌<◌, ℕ, subst, sym, ◌∙◌, slice_index}
+use Rattle.std.proofs.Common.{◌+◌, ◌<◌, ℕ, subst, sym, ◌∙◌, slice_index}
 use Rattle.std.specs.Prelude.{IfSome}
 use Rattle.meaning.specs.Runs.{Service, Answers}
 use Rattle.meaning.specs.declared.call.Event.TheVariants.{Examine}
