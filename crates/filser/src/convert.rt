@@ -22,8 +22,8 @@ use crate::outcome::Outcome;
 use crate::program::refuse_image;
 use crate::progress::Watched;
 use crate::{
-    Disks, Host, ImageDisks, ImageFault, Leaves, MakingLeave, Message, Refusal, RemovalRight, Run, Seen,
-    Status, Telling,
+    Disks, Host, ImageDisks, ImageFault, Leaves, MakingLeave, Message, Refusal, RemovalRight, Run,
+    Seen, Status, Telling,
 };
 use blockdisk::Disk;
 use commands::Volume;
@@ -220,9 +220,7 @@ fn write_new<H: Host, W: Write, E: Write>(
 {
     let form = conversion.form.other();
     match new_target(host, conversion.new, form, source.blocks(), leave, errors) {
-        Ok((target, right)) => {
-            copy_to(alloc, source, target, right, conversion, writer, errors)
-        }
+        Ok((target, right)) => { copy_to(alloc, source, target, right, conversion, writer, errors) }
         Err((fault, disks)) => Outcome {
             status: refuse_image(fault, conversion.new, writer, errors),
             image: Disks::Unserved(source),

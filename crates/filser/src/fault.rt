@@ -41,10 +41,8 @@ impl HostFault {
     {
         match self {
             HostFault::Output | HostFault::Errors | HostFault::Memory => true,
-            HostFault::System(_)
-            | HostFault::InUse
-            | HostFault::Input
-            | HostFault::WrongLength => false,
+            HostFault::System(_) | HostFault::InUse | HostFault::Input | HostFault::WrongLength =>
+                false,
         }
     }
 

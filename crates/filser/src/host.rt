@@ -40,7 +40,11 @@ pub trait Host {
     /// # Errors
     ///
     /// The system's: `AlreadyExists` if something has that name, which is left alone. The leave is used up.
-    fn create(&self, path: &str, leave: MakingLeave) -> Result<(NewFile<Self::File>, Supposition), io::Error>
+    fn create(
+        &self,
+        path: &str,
+        leave: MakingLeave,
+    ) -> Result<(NewFile<Self::File>, Supposition), io::Error>
         ensures made { IfOk result (λ made. (facts self.now).created path.now (Ok made.0.file)
             × (unseen_in made.1 ≡ unseen_in leave.supposed)) }
         ensures refused { IfErr result (λ error. (facts self.now).created path.now (Err error)) };
@@ -189,7 +193,11 @@ impl<F: Files<File = File>> Host for SystemHost<'_, F> {
         Ok((file, leave.supposed))
     }
 
-    fn create(&self, path: &str, leave: MakingLeave) -> Result<(NewFile<File>, Supposition), io::Error> {
+    fn create(
+        &self,
+        path: &str,
+        leave: MakingLeave,
+    ) -> Result<(NewFile<File>, Supposition), io::Error> {
         let file = File::create_new(self.files, path)?;
         let right = RemovalRight { _once: () };
         Ok((NewFile { file, right }, leave.supposed))

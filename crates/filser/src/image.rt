@@ -15,8 +15,8 @@ ghost use Rattle.filser.specs.declared.fault.HostFault.TheVariants.{InUse, Syste
 use crate::fault::report;
 use crate::streams::{is_stream, stream_of};
 use crate::{
-    Disks, Host, HostFault, Image, ImageDisks, ImageFault, MakingLeave, NewDisks, NewFile, OpeningLeave,
-    Refusal, RemovalRight, Run, Seen,
+    Disks, Host, HostFault, Image, ImageDisks, ImageFault, MakingLeave, NewDisks, NewFile,
+    OpeningLeave, Refusal, RemovalRight, Run, Seen,
 };
 use blockcache::Cached;
 use blockdisk::{Disk, NoMemory};

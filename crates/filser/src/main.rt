@@ -11,8 +11,8 @@
 //!    holds the numbers of the standard streams that are missing, asks whether the standard error is a terminal, hands
 //!    `work` the streams and the host's files, drops what is left of the images, and does nothing else.
 //! 6. Files are reached through `Host` alone: generic code can't truncate one, write to one except through its disk, or
-//!    remove one that it didn't make. What was asked of the host can be shown only by asking. (`HostFacts`) A run can
-//!    open one file and make one; a leave that it didn't use is handed back. (`Leaves`, `Unasked`)
+//!    remove one that it didn't make. What was asked of the host can be shown only by asking. (`HostFacts`) A run can open
+//!    one file and make one, and hands back the leave that it didn't use. (`Leaves`)
 //! 7. The file of an image was opened at its path, has the number of no standard stream, and is locked if the system
 //!    has locks for it. (`IsOpened`) The disk that is served is that file's from before its first call. (`IsOnImage`)
 //! 8. Every task on an image is done by one function, `serve`: it starts a service on the disk, or says why there is

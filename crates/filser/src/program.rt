@@ -141,14 +141,14 @@ fn answer<H: Host, R: Read, W: Write, E: Write>(
     ensures asked { (r : Asked) → Asks (subcommand_of command_line (map (λ w. w.now) words.now)) r
         → fault_of command_line (map (λ w. w.now) words.now) ≡ [] → result.status ≢ BadArguments }
     ensures ran { WasRun (H.facts host.now) (⟦<Run as Seen>⟧.views) missing.now (record {
-          opening = leaves.image;
-          making = leaves.new;
-          u = unseen_in leaves.image.supposed;
-          v = unseen_in leaves.new.supposed;
-          image = result.image;
-          new = result.new;
-          memory = result.memory;
-        }) (fault_of command_line (map (λ w. w.now) words.now))
+      opening = leaves.image;
+      making = leaves.new;
+      u = unseen_in leaves.image.supposed;
+      v = unseen_in leaves.new.supposed;
+      image = result.image;
+      new = result.new;
+      memory = result.memory;
+    }) (fault_of command_line (map (λ w. w.now) words.now))
         (subcommand_of command_line (map (λ w. w.now) words.now)) (R.remaining reader.old) (R.remaining reader.new)
         (W.contents writer.old) (W.contents writer.new) result.status }
 {
@@ -175,14 +175,14 @@ fn start<H: Host, R: Read, W: Write, E: Write>(
     requires { InRange asked.now }
     ensures serving { result.status ≢ BadArguments }
     ensures ran { IsHandled (H.facts host.now) (⟦<Run as Seen>⟧.views) missing.now (record {
-          opening = leaves.image;
-          making = leaves.new;
-          u = unseen_in leaves.image.supposed;
-          v = unseen_in leaves.new.supposed;
-          image = result.image;
-          new = result.new;
-          memory = result.memory;
-        }) asked.now (R.remaining reader.old) (R.remaining reader.new) (W.contents writer.old) (W.contents writer.new)
+      opening = leaves.image;
+      making = leaves.new;
+      u = unseen_in leaves.image.supposed;
+      v = unseen_in leaves.new.supposed;
+      image = result.image;
+      new = result.new;
+      memory = result.memory;
+    }) asked.now (R.remaining reader.old) (R.remaining reader.new) (W.contents writer.old) (W.contents writer.new)
         result.status }
 {
     if let Some((path, stream)) = stream_named(host, asked) {
@@ -221,14 +221,14 @@ fn perform<H: Host, R: Read, W: Write, E: Write>(
     requires { InRange asked.now }
     ensures serving { result.status ≢ BadArguments }
     ensures ran { IsRequestRun (H.facts host.now) (⟦<Run as Seen>⟧.views) (record {
-          opening = leaves.image;
-          making = leaves.new;
-          u = unseen_in leaves.image.supposed;
-          v = unseen_in leaves.new.supposed;
-          image = result.image;
-          new = result.new;
-          memory = result.memory;
-        }) asked.now (R.remaining reader.old) (R.remaining reader.new) (W.contents writer.old) (W.contents writer.new)
+      opening = leaves.image;
+      making = leaves.new;
+      u = unseen_in leaves.image.supposed;
+      v = unseen_in leaves.new.supposed;
+      image = result.image;
+      new = result.new;
+      memory = result.memory;
+    }) asked.now (R.remaining reader.old) (R.remaining reader.new) (W.contents writer.old) (W.contents writer.new)
         result.status }
 {
     match *asked {
