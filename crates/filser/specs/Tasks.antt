@@ -16,7 +16,8 @@ use Rattle.filser.specs.declared.task.Task.TheVariants.{Run, Calls, Put, Get, Li
 abbrev pub IsFirstMoment : Moment → Type 0
 IsFirstMoment moment = (moment.date ≡ 0) × (moment.minute ≡ 0)
 
--- The reader had `source` and has `left`, the writer held `sink` and holds `full`.
+-- The reader had `source` and has `left`, the writer held `sink` and holds `full`. What isn't made of the input reads
+-- none of it.
 abbrev pub Attends : {D : Type 0} → (D → DiskState) → Task → Option (List ℕ) → Option (List ℕ) → Option (List ℕ)
     → Option (List ℕ) → MonitorState D → MonitorState D → Result Tally SessionError → Type 0
 Attends state (Run at) source left sink full first last result =
@@ -26,9 +27,9 @@ Attends state (Calls at) source left sink full first last result =
 Attends state (Put file at) source left sink full first last result =
     Delivery source left sink full (machine_over state) first last file.encoding
     (keeps at file.owner file.encoding (own_file file.name)) result
-Attends state (Get file at) source left sink full first last result =
-    Errand sink full (machine_over state) first last (gets at file.owner file.encoding (own_file file.name)) result
-Attends state (ListAll place style) source left sink full first last result =
-    (at : Moment) × IsFirstMoment at × Survey sink full (machine_over state) first last at style place result
-Attends state Check source left sink full first last result =
-    Checked sink full (machine_over state first) result × (last ≡ first)
+Attends state (Get file at) source left sink full first last result = (left ≡ source)
+    × Errand sink full (machine_over state) first last (gets at file.owner file.encoding (own_file file.name)) result
+Attends state (ListAll place style) source left sink full first last result = (left ≡ source)
+    × (at : Moment) × IsFirstMoment at × Survey sink full (machine_over state) first last at style place result
+Attends state Check source left sink full first last result = (left ≡ source)
+    × Checked sink full (machine_over state first) result × (last ≡ first)
