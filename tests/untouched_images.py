@@ -5,8 +5,8 @@ usage: tests/untouched_images.py PROGRAM
 
 Every subcommand is run to its end with ample memory. Subcommands that only read, images that a start refuses, `init`
 over a file that is there, and `convert` of an image leave the bytes of each file as they were; `convert` prints the
-number of blocks and makes an image with the same files. Prints a line for each thing that is not as it should be, and
-one line at the end.
+number of blocks and makes an image with the same files. An image that may only be read can be read. Prints a line for
+each thing that is not as it should be, and one line at the end.
 """
 
 import os
@@ -16,6 +16,7 @@ import tempfile
 
 BLOCK = {1: 1024, 2: 576}
 LIMIT = 60
+NOBODY = 65534
 HELLO = b"HELLO\r\n"
 LISTED = b"HELLO  TXT     1  <057>   1-Jan-1964\nTotal 1 blocks in 1 files [10,20]\n"
 
@@ -54,20 +55,21 @@ class Runs:
             self.failed += 1
             print(what)
 
-    def run(self, words, status, printed, data=b""):
-        """Runs the program, whose status and output have to be these; an output of None may be anything."""
+    def run(self, words, status, printed, data=b"", before=None):
+        """Runs the program, whose status and output have to be these; an output of None may be anything. `before` is
+        done in its process first."""
         done = subprocess.run([self.program, *words], input=data, capture_output=True, cwd=self.folder, check=False,
-                              timeout=LIMIT)
+                              timeout=LIMIT, preexec_fn=before)
         shown = " ".join(words)
         self.judge(done.returncode == status, f"{shown}: status {done.returncode} and not {status}: {done.stderr!r}")
         self.judge(printed is None or done.stdout == printed, f"{shown}: {done.stdout!r} and not {printed!r}")
         return done.stdout
 
-    def leaves(self, words, status, printed, data=b""):
+    def leaves(self, words, status, printed, data=b"", before=None):
         """The same of a run that leaves all files as they were, and makes none."""
-        before = self.files()
-        stdout = self.run(words, status, printed, data)
-        self.judge(self.files() == before, f"{' '.join(words)}: a file has changed")
+        was = self.files()
+        stdout = self.run(words, status, printed, data, before)
+        self.judge(self.files() == was, f"{' '.join(words)}: a file has changed")
         return stdout
 
 
@@ -82,7 +84,8 @@ def whole_runs(runs, form):
     runs.leaves(["list", *named, image], 0, b"")
     runs.run(["run", *named, image], 0, b"Job 1 [10,20]\nOK\n", b"LOGIN [10,20]\nMAKDIR [10,20]\n")
     runs.run(["put", *named, image, "10,20", "HELLO.TXT"], 0, b"OK\n", HELLO)
-    runs.run(["calls", *named, image], 0, b"DONE\nDONE\nDONE\n", b"1 LOGIN 1,2 1000\n1 DEP 200 000010000021\n1 MAKDIR 200\n")
+    runs.run(["calls", *named, image], 0, b"DONE\nDONE\nDONE\n",
+             b"1 LOGIN 1,2 1000\n1 DEP 200 000010000021\n1 MAKDIR 200\n")
     runs.leaves(["get", *named, image, "10,20", "HELLO.TXT"], 0, HELLO)
     runs.leaves(["list", *named, image, "10,20"], 0, LISTED)
     runs.leaves(["list", "--tsv", *named, image], 0, None)
@@ -150,6 +153,26 @@ def refusals(runs):
             runs.leaves([*words, name, *rest], 3, refusal, b"LOGIN [10,20]\n")
 
 
+def as_another():
+    """From now on this process is of somebody who may do with a file what all may."""
+    if os.getuid() == 0:
+        os.setgroups([])
+        os.setgid(NOBODY)
+        os.setuid(NOBODY)
+
+
+def without_leave_to_write(runs):
+    """An image that may only be read can be read, and nothing else is done with it."""
+    os.chmod(runs.folder, 0o755)
+    os.chmod(runs.path("FORM1.IMG"), 0o444)
+    for words, printed in ((["get", "FORM1.IMG", "10,20", "HELLO.TXT"], HELLO),
+                           (["list", "FORM1.IMG", "10,20"], LISTED), (["list", "--tsv", "FORM1.IMG"], None),
+                           (["check", "FORM1.IMG"], None)):
+        runs.leaves(words, 0, printed, before=as_another)
+    for words in (["run", "FORM1.IMG"], ["calls", "FORM1.IMG"], ["put", "FORM1.IMG", "10,20", "A.TXT"]):
+        runs.leaves(words, 4, b"?Device fault\n", HELLO, as_another)
+
+
 def main():
     if len(sys.argv) != 2 or not os.access(sys.argv[1], os.X_OK):
         print("usage: tests/untouched_images.py PROGRAM", file=sys.stderr)
@@ -161,6 +184,7 @@ def main():
             conversions(runs, whole_runs(runs, form), form)
         taken_names(runs)
         refusals(runs)
+        without_leave_to_write(runs)
     print(f"untouched_images: {runs.count - runs.failed} as they should be, {runs.failed} not")
     return 1 if runs.failed else 0
 

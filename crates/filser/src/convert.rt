@@ -22,7 +22,7 @@ use crate::outcome::Outcome;
 use crate::program::refuse_image;
 use crate::progress::Watched;
 use crate::{
-    Disks, Host, ImageDisks, ImageFault, Leaves, MakingLeave, Message, Refusal, RemovalRight, Run,
+    Access, Disks, Host, ImageDisks, ImageFault, Leaves, MakingLeave, Message, Refusal, RemovalRight, Run,
     Seen, Status, Telling,
 };
 use blockdisk::Disk;
@@ -71,7 +71,8 @@ pub(crate) fn convert_image<H: Host, W: Write, E: Write>(
         let image = Disks::Unasked(leaves.image);
         return unconverted(fault, conversion.new, image, leaves.new, writer, errors);
     }
-    match open_disk(host, conversion.path, conversion.form, leaves.image, errors) {
+    let (path, form) = (conversion.path, conversion.form);
+    match open_disk(host, path, form, Access::Read, leaves.image, errors) {
         Ok(disk) => convert_disk(host, alloc, disk, conversion, leaves.new, writer, errors),
         Err((fault, disks)) => {
             unconverted(fault, conversion.path, disks, leaves.new, writer, errors)

@@ -10,9 +10,10 @@ use crate::FileId;
 use blockdisk::Disk;
 use imagefile::{Durable, Form, HostFile, ImageDisk, ImageError, Supposition};
 use std::fs::{self, File, OpenOptions, TryLockError};
-use std::io::{self, Write};
+use std::io::{self, ErrorKind, Write};
 use std::os::fd::{AsRawFd, RawFd};
 use std::os::unix::fs::MetadataExt;
+use std::path::Path;
 use std::rt::Files;
 use words36::BLOCK_BYTES;
 
@@ -25,12 +26,18 @@ pub trait Host {
 
     ghost facts: { Self → HostFacts Self.File };
 
-    /// Opens the file at a path, to read it and to write to it, and gives back what is supposed of it.
+    /// Opens the file at a path, to read it and to write to it, and gives back what is supposed of it. A file that the
+    /// system lets nobody write to is opened all the same, if it is only to be read.
     ///
     /// # Errors
     ///
     /// The system's. The leave is used up.
-    fn open(&self, path: &str, leave: OpeningLeave) -> Result<(Self::File, Supposition), io::Error>
+    fn open(
+        &self,
+        path: &str,
+        access: Access,
+        leave: OpeningLeave,
+    ) -> Result<(Self::File, Supposition), io::Error>
         ensures opened { IfOk result (λ opened. (facts self.now).opened path.now (Ok opened.0)
             × (unseen_in opened.1 ≡ unseen_in leave.supposed)) }
         ensures refused { IfErr result (λ error. (facts self.now).opened path.now (Err error)) };
@@ -106,6 +113,15 @@ pub trait Host {
         requires { (file : Self.File) × (facts self.now).created path.now (Ok file) };
 }
 
+/// What an open file is for.
+#[derive(Clone, Copy, Debug, PartialEq, Eq)]
+pub enum Access {
+    /// It is read. A start writes to an image if a change was cut short.
+    Read,
+    /// It is read and written.
+    Write,
+}
+
 /// The leave to open one file, with what is supposed of that file that no call on it shows. A run has it once, so that
 /// it can open one file alone.
 #[derive(Drop)]
@@ -171,6 +187,38 @@ fn write_zeros(file: &File, form: Form, blocks: u32) -> io::Result<()> {
     file.sync_all()
 }
 
+/// Whether a file may be read, perhaps, but not written.
+fn forbids_writes(error: &io::Error) -> bool {
+    matches!(error.kind(), ErrorKind::PermissionDenied | ErrorKind::ReadOnlyFilesystem)
+}
+
+/// Opens the file at a path, for reading alone where that is all that is wanted and all that the system allows.
+///
+/// # Errors
+///
+/// The system's.
+fn open_as<F: Files<File = File>>(files: &F, path: &str, access: Access) -> io::Result<File> {
+    match OpenOptions::new().read(true).write(true).open(files, path) {
+        Err(error) if access == Access::Read && forbids_writes(&error) => File::open(files, path),
+        opened => opened,
+    }
+}
+
+/// Waits until the entry of a file in its folder is on the device.
+///
+/// # Errors
+///
+/// The system's.
+fn sync_folder<F: Files<File = File>>(files: &F, path: &str) -> io::Result<()> {
+    let parent = Path::new(path).parent();
+    let folder = match &parent {
+        Some(folder) => folder.to_string_lossy(),
+        None => "",
+    };
+    let opened = File::open(files, if folder.is_empty() { "." } else { folder })?;
+    opened.sync_all()
+}
+
 impl<F: Files<File = File>> Host for SystemHost<'_, F> {
     type File = File;
 
@@ -186,11 +234,13 @@ impl<F: Files<File = File>> Host for SystemHost<'_, F> {
       supposed = λ file u. Unit {0};
     } };
 
-    fn open(&self, path: &str, leave: OpeningLeave) -> Result<(File, Supposition), io::Error> {
-        let file = OpenOptions::new()
-            .read(true)
-            .write(true)
-            .open(self.files, path)?;
+    fn open(
+        &self,
+        path: &str,
+        access: Access,
+        leave: OpeningLeave,
+    ) -> Result<(File, Supposition), io::Error> {
+        let file = open_as(self.files, path, access)?;
         Ok((file, leave.supposed))
     }
 
@@ -204,8 +254,9 @@ impl<F: Files<File = File>> Host for SystemHost<'_, F> {
         Ok((NewFile { file, right }, leave.supposed))
     }
 
-    fn fill(&self, _path: &str, file: &File, form: Form, blocks: u32) -> io::Result<()> {
-        write_zeros(file, form, blocks)
+    fn fill(&self, path: &str, file: &File, form: Form, blocks: u32) -> io::Result<()> {
+        write_zeros(file, form, blocks)?;
+        sync_folder(self.files, path)
     }
 
     fn try_lock(&self, file: &File) -> Result<(), TryLockError> {

@@ -15,7 +15,7 @@ ghost use Rattle.filser.specs.declared.fault.HostFault.TheVariants.{InUse, Syste
 use crate::fault::report;
 use crate::streams::{is_stream, stream_of};
 use crate::{
-    Disks, Host, HostFault, Image, ImageDisks, ImageFault, MakingLeave, NewDisks, NewFile,
+    Access, Disks, Host, HostFault, Image, ImageDisks, ImageFault, MakingLeave, NewDisks, NewFile,
     OpeningLeave, Refusal, RemovalRight, Run, Seen,
 };
 use blockcache::Cached;
@@ -112,6 +112,7 @@ fn own<H: Host, E: Write>(
 fn open_file<H: Host, E: Write>(
     host: &H,
     path: &str,
+    access: Access,
     leave: OpeningLeave,
     errors: &mut E,
 ) -> Result<(H::File, Supposition), ImageFault>
@@ -119,7 +120,7 @@ fn open_file<H: Host, E: Write>(
         × IsOwn (H.facts host.now) opened.0 × (unseen_in opened.1 ≡ unseen_in leave.supposed)) }
     ensures refused { IfErr result (IsUnopened (H.facts host.now) path.now) }
 {
-    match host.open(path, leave) {
+    match host.open(path, access, leave) {
         Ok((file, supposed)) => Ok((own(host, file, path, errors)?, supposed)),
         Err(error) => Err(ImageFault::from(HostFault::System(error))),
     }
@@ -172,6 +173,7 @@ pub(crate) fn open_disk<H: Host, E: Write>(
     host: &H,
     path: &str,
     form: Form,
+    access: Access,
     leave: OpeningLeave,
     errors: &mut E,
 ) -> Result<ImageDisk<HostFile>, Denied>
@@ -183,7 +185,7 @@ pub(crate) fn open_disk<H: Host, E: Write>(
         (unseen_in leave.supposed) denied.0 denied.1) }
     ensures undone { IfErr result (λ denied. HasNoDisk denied.1) }
 {
-    let (file, supposed) = match open_file(host, path, leave, errors) {
+    let (file, supposed) = match open_file(host, path, access, leave, errors) {
         Ok(opened) => opened,
         Err(fault) => return Err((fault, Disks::None)),
     };
@@ -224,6 +226,7 @@ pub(crate) fn open_image<H: Host, E: Write>(
     alloc: Global,
     path: &str,
     form: Form,
+    access: Access,
     leave: OpeningLeave,
     errors: &mut E,
 ) -> Result<Image, Denied>
@@ -234,7 +237,7 @@ pub(crate) fn open_image<H: Host, E: Write>(
     ensures denied { IfErr result (λ denied. IsDenied (H.facts host.now) (⟦<Run as Seen>⟧.views) path.now form
         (unseen_in leave.supposed) denied.0 denied.1) }
 {
-    let disk = open_disk(host, path, form, leave, errors)?;
+    let disk = open_disk(host, path, form, access, leave, errors)?;
     keep_blocks(alloc, disk)
 }
 

@@ -49,7 +49,7 @@ pub use asked::Request;
 pub use disks::Disks;
 pub use error::RequestError;
 pub use fault::{HostFault, ImageFault};
-pub use host::{Host, MakingLeave, NewFile, OpeningLeave, RemovalRight, SystemHost};
+pub use host::{Access, Host, MakingLeave, NewFile, OpeningLeave, RemovalRight, SystemHost};
 pub use identity::FileId;
 pub use lines::LineReader;
 pub use message::Message;

@@ -149,7 +149,7 @@ pub(crate) fn serve_image<H: Host, R: Read, W: Write, E: Write>(
         (R.remaining reader.old) (R.remaining reader.new) (W.contents writer.old) (W.contents writer.new) result.1
         result.0 }
 {
-    match open_image(host, alloc, path, form, leave, errors) {
+    match open_image(host, alloc, path, form, task.access(), leave, errors) {
         Ok(image) => {
             let (status, image) = serve(alloc, image, task, reader, writer);
             tell_failure(errors, path, &image);

@@ -1,3 +1,4 @@
+use crate::Access;
 use commands::{Encoding, Style};
 use words36::{FileName, Moment, Ppn};
 
@@ -27,4 +28,14 @@ pub enum Task {
     List(Option<Ppn>, Style),
     /// `check`: print how many blocks it has, and how many are left.
     Check,
+}
+
+impl Task {
+    /// What the file of the image is for: it is only read if no line of the input can change a file.
+    pub fn access(&self) -> Access {
+        match self {
+            Task::Get(_, _) | Task::List(_, _) | Task::Check => Access::Read,
+            Task::Run(_) | Task::Calls(_) | Task::Put(_, _) => Access::Write,
+        }
+    }
 }
