@@ -22,8 +22,8 @@ use crate::outcome::Outcome;
 use crate::program::refuse_image;
 use crate::progress::Watched;
 use crate::{
-    Access, Disks, Host, ImageDisks, ImageFault, Leaves, MakingLeave, Message, Refusal, RemovalRight, Run,
-    Seen, Status, Telling,
+    Access, Disks, Host, ImageDisks, ImageFault, Leaves, MakingLeave, Message, Refusal,
+    RemovalRight, Run, Seen, Status, Telling,
 };
 use blockdisk::Disk;
 use commands::Volume;

@@ -189,7 +189,10 @@ fn write_zeros(file: &File, form: Form, blocks: u32) -> io::Result<()> {
 
 /// Whether a file may be read, perhaps, but not written.
 fn forbids_writes(error: &io::Error) -> bool {
-    matches!(error.kind(), ErrorKind::PermissionDenied | ErrorKind::ReadOnlyFilesystem)
+    matches!(
+        error.kind(),
+        ErrorKind::PermissionDenied | ErrorKind::ReadOnlyFilesystem
+    )
 }
 
 /// Opens the file at a path, for reading alone where that is all that is wanted and all that the system allows.
