@@ -283,8 +283,9 @@ module _ {K V : Type 0} (R : K → K → Ordering) (words : K × V → List ℕ)
         as_bad block is (IsBadWords.empty_later next s before) = IsBadBlock.empty_later next (is
             ∙ ap Some s.words_are) (let f = l.full some in let e = ap length (numbers_of blocks entries) in
             let g = length-map nodes (λ node. node.0) in omega arith)
-        as_bad block is (IsBadWords.key_again next es s twice) = IsBadBlock.key_again next es (is
-            ∙ ap Some s.words_are) (λ once. twice (subst (λ us. EachOnce R (us ++ es)) all once))
+        as_bad block is (IsBadWords.key_again next es s before twice) = IsBadBlock.key_again next es (is
+            ∙ ap Some s.words_are) (subst (EachOnce R) (sym all) before)
+            (λ once. twice (subst (λ us. EachOnce R (us ++ es)) all once))
 
         wrong : (block : List ℕ) × (contents n ≡ Some block) × IsBadWords R words IsEntry target size block entries
             → IsBadBlock R words IsEntry target size contents nodes n

@@ -45,7 +45,7 @@ pub data IsBadWords {K V : Type 0} (R : K → K → Ordering) (words : K × V �
   empty_later : (next : ℕ) → SpellsBlock words IsEntry block next [] → 0 < length before
       → IsBadWords R words IsEntry target size block before
   key_again : (next : ℕ) (entries : List (K × V)) → SpellsBlock words IsEntry block next entries
-      → (EachOnce R (before ++ entries) → ⊥) → IsBadWords R words IsEntry target size block before
+      → EachOnce R before → (EachOnce R (before ++ entries) → ⊥) → IsBadWords R words IsEntry target size block before
 
 -- The words of a block add its entries to those before, and name this block, or 0.
 pub record Adds {K V : Type 0} (R : K → K → Ordering) (words : K × V → List ℕ) (IsEntry : K × V

@@ -89,7 +89,7 @@ module _ {K V : Type 0} {R : K → K → Ordering} (words : K × V → List ℕ)
           some (ap length s.1 ∙ filled.full (some_post post (let e = s.0 in omega arith)))
       refute (empty_later next h p) = let s = same next [] h in let e = ap length s.1 in let f = filled.some p in
           omega arith
-      refute (key_again next others h twice) =
+      refute (key_again next others h before_once twice) =
           let s = same next others h in
           twice (subst (λ xs. EachOnce R (items before ++ xs)) (sym s.1)
           (once_front R (items before ++ es) (items post)

@@ -73,11 +73,16 @@ pub home_stands : (c : Contents) → c 1 ≡ Some home_words → IsHome 64 c (re
 home_stands c home = inl (record { words = home; layout = refl; master_from = lit≤ tt; master_below = lit< tt })
 
 at_master : (c : Contents) → c 1 ≡ Some home_words → IsMasterWalk 64 c 1 [] 15
-at_master c home = record { master = 15; home = home_stands c home; walk = refl }
+at_master c home = record { volume = v1_has_map.volume; master = 15; home = home_stands c home; walk = refl }
 
 module _ (c : Contents) (home : c 1 ≡ Some home_words) (master : c 15 ≡ Some master_block) where
   past_master : IsMasterWalk 64 c 1 master_nodes 0
-  past_master = record { master = 15; home = home_stands c home; walk = (refl, lit< tt, 0, master, refl) }
+  past_master = record {
+    volume = v1_has_map.volume;
+    master = 15;
+    home = home_stands c home;
+    walk = (refl, lit< tt, 0, master, refl);
+  }
 
   directory_named : IsDirectoryNamed 64 c 1 owner 0o775000000000 16
   directory_named = record { nodes = master_nodes; last = 0; walk = past_master; entry = refl }

@@ -77,9 +77,9 @@ pub data IsBadBlock {K V : Type 0} (R : K → K → Ordering) (words : K × V �
   -- it is empty, and isn't the first
   empty_later : (next : ℕ) → contents n ≡ Some (directory_block words next []) → 0 < length before
       → IsBadBlock R words IsEntry target size contents before n
-  -- a key comes twice
+  -- it brings a key for the second time, and is the first block that does
   key_again : (next : ℕ) (entries : List (K × V)) → contents n ≡ Some (directory_block words next entries)
-      → (EachOnce R (items before ++ entries) → ⊥)
+      → EachOnce R (items before) → (EachOnce R (items before ++ entries) → ⊥)
       → IsBadBlock R words IsEntry target size contents before n
 
 -- an entry of the master directory as it should be: besides the PPN a protection, and a quota where the layout has them

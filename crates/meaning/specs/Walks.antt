@@ -7,6 +7,7 @@ use Rattle.std.specs.FinMap.Entries.{find}
 use Rattle.words36.specs.Words.{IsPpn}
 use Rattle.blockdisk.specs.Disk.{Contents}
 use Rattle.meaning.specs.Files.{Place, name_cmp}
+use Rattle.meaning.specs.Regions.{IsVolumeSize}
 use Rattle.meaning.specs.Home.{IsHome}
 use Rattle.meaning.specs.Directories.{Node, items, directory_block, MasterEntry, master_words, FileEntry, file_words}
 use Rattle.meaning.specs.Retrieval.{Prime, Run, IsRun, Extension, prime_block, extension_block, IsPrime}
@@ -25,9 +26,10 @@ LeadsOn contents first (extension ∷ extensions) last =
     (extension.0 ≡ first) × (0 < first) × AllByRecursion IsRun extension.1
     × (next : ℕ) × (contents first ≡ Some (extension_block extension.1 next)) × LeadsOn contents next extensions last
 
--- These blocks of the master directory were walked, and `last` comes next.
+-- On a disk of a size that a volume may have, these blocks of the master directory were walked, and `last` comes next.
 pub record IsMasterWalk (size : ℕ) (contents : Contents) (layout : ℕ) (nodes : List (Node MasterEntry))
     (last : ℕ) : Type 0 where
+  pub volume : IsVolumeSize size
   pub master : ℕ
   pub home : IsHome size contents (record { layout = layout; master = master })
   pub walk : LeadsAlong master_words contents master nodes last

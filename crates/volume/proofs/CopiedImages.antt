@@ -1,7 +1,7 @@
 -- A copy of a volume stands for its files, though it has zeros where a block was damaged: what the files reach isn't.
-use Rattle.std.proofs.Common.{◌≡◌, ◌≢◌, ◌∙◌, ◌⊎◌, ◌+◌, ◌*◌, ◌/◌, ◌<◌, ◌≤◌, ◌++◌, ℕ, Bool, true, false, cond, List, []}
+use Rattle.std.proofs.Common.{◌≡◌, ◌∙◌, ◌+◌, ◌*◌, ◌/◌, ◌<◌, ◌≤◌, ◌++◌, ℕ, Bool, true, false, cond, List, []}
 use Rattle.std.proofs.Common.{◌∷◌}
-use Rattle.std.proofs.Common.{Option, Some, None, IsSome, is_some, slice_index, refl, sym, ap, subst, arith, inl, inr}
+use Rattle.std.proofs.Common.{Option, Some, None, IsSome, slice_index, refl, sym, ap, subst, arith, inl, inr}
 use Rattle.std.proofs.Common.{⊎_elim, ltb}
 use Rattle.std.proofs.Common.{ltb-true, Result, Ok, Err, OnOk}
 use Rattle.std.proofs.lemmas.Bool.{cases_eq, cases_lt}
@@ -11,15 +11,14 @@ use Rattle.blockdisk.specs.Laws.{none_open_leaves}
 use Rattle.meaning.specs.Files.{File, Files, Place}
 use Rattle.meaning.specs.Maps.{get, times}
 use Rattle.meaning.specs.Regions.{IsVolumeSize, table_blocks, table_start}
-use Rattle.meaning.specs.Log.{IsGateOpen, open_gate}
+use Rattle.meaning.specs.Log.{open_gate}
 use Rattle.meaning.specs.Home.{Home, home_block, IsHomeCopy, IsHome}
-use Rattle.meaning.specs.Table.{bit_in, table_bit}
+use Rattle.meaning.specs.Table.{bit_in}
 use Rattle.meaning.specs.Directories.{Node, numbers, IsSpelled, master_words, IsMasterEntry, file_words, IsFileEntry}
 use Rattle.meaning.specs.Retrieval.{Extension, extension_numbers, AreExtensions}
-use Rattle.meaning.specs.Stands.{StoredFile, StoredDirectory, DiskMap, reaches, reaches_in_directory, reaches_in_file}
-use Rattle.meaning.specs.Stands.{blocks_of_file, IsVersion, IsWhole, IsMapped, IsMarked, HasMap, SettledStands}
+use Rattle.meaning.specs.Stands.{StoredFile, StoredDirectory, DiskMap, reaches}
+use Rattle.meaning.specs.Stands.{blocks_of_file, IsVersion, IsWhole, IsMapped, HasMap, SettledStands}
 use Rattle.meaning.specs.Stands.{place_of}
-use Rattle.meaning.proofs.Lists.{times_here}
 use Rattle.meaning.proofs.MapLaws.{some_same}
 use Rattle.meaning.proofs.Chains.{directory_kept}
 use Rattle.meaning.proofs.Versions.{version_kept}

@@ -1,9 +1,9 @@
 -- A copy whose home blocks come last: what a crash leaves of it before it is done.
-use Rattle.std.proofs.Common.{◌≡◌, ◌⊎◌, inl, inr, ℕ, ◌<◌, ◌≤◌, Some, min, ap, ◌∙◌, arith}
-use Rattle.blockdisk.specs.Disk.{Contents, DiskState, LeavesOnly, MayLeave, Modifies, Near, NoneOpen}
+use Rattle.std.proofs.Common.{◌≡◌, ◌⊎◌, inl, inr, ℕ, ◌<◌, ◌≤◌, min, ap, ◌∙◌, arith}
+use Rattle.blockdisk.specs.Disk.{Contents, DiskState, LeavesOnly, Modifies, Near, NoneOpen}
 use Rattle.blockdisk.specs.Laws.{leaves_on, leaves_weaker, modifies_on, modifies_wider, none_open_leaves}
 use Rattle.meaning.proofs.SpliceLaws.{below_or_not}
-use Rattle.volume.specs.Copying.{copied, ArePartlyCopied, HomesComeLast}
+use Rattle.volume.specs.Copying.{ArePartlyCopied, HomesComeLast}
 
 -- a block more of those from `first` on was written
 pub part_modified : (first end n : ℕ) (s s' s'' : DiskState) → first ≤ n → n < end

@@ -4,6 +4,7 @@ use Rattle.std.specs.FinMap.Entries.{find}
 use Rattle.std.specs.List.{AllByRecursion}
 use Rattle.blockdisk.specs.Disk.{Contents}
 use Rattle.meaning.specs.Maps.{times}
+use Rattle.meaning.specs.Regions.{IsVolumeSize}
 use Rattle.meaning.specs.Home.{IsHome}
 use Rattle.meaning.specs.Directories.{Node, MasterEntry, master_words, numbers, items}
 use Rattle.meaning.specs.Stands.{place_of}
@@ -20,15 +21,16 @@ use Rattle.volume.specs.FileReading.{IsOtherPlace}
 use Rattle.volume.specs.FaultsFound.{NamesInSpace, IsFaultOfDirectories, SettledRefuses, IsBadFileOf, IsInChain}
 
 -- A block of the master directory's chain is not as it should be.
-pub master_fault : (size : ℕ) (contents : Contents) (first n : ℕ) → IsHome size contents (home_of_master first)
+pub master_fault : (size : ℕ) (contents : Contents) (first n : ℕ) → IsVolumeSize size
+    → IsHome size contents (home_of_master first)
     → IsBadChain nat_cmp master_words (IsMasterEntryOf 1) (λ e. e.1.1) size contents first n
     → SettledRefuses size contents (BadDirectory n)
-master_fault size contents first n home met = (
+master_fault size contents first n volume home met = (
   met.inside,
   inl (record {
     layout = 1;
     before = met.before;
-    walk = record { master = first; home = home; walk = met.walk };
+    walk = record { volume = volume; master = first; home = home; walk = met.walk };
     inside = met.inside;
     bad = met.bad;
   }),
@@ -36,16 +38,17 @@ master_fault size contents first n home met = (
 
 -- A block of it was reached before.
 pub master_twice : (size : ℕ) (contents : Contents) (reached : List Bool) (first n : ℕ)
-    → IsHome size contents (home_of_master first) → ((k : ℕ) → digit_at reached k ≡ 0) → InSpace size n
+    → IsVolumeSize size → IsHome size contents (home_of_master first)
+    → ((k : ℕ) → digit_at reached k ≡ 0) → InSpace size n
     → IsTwiceInChain master_words contents reached first n
     → SettledRefuses size contents (BlockTwice n)
-master_twice size contents reached first n home fresh inside met = (
+master_twice size contents reached first n volume home fresh inside met = (
   inside,
   record {
     m = record { nodes = met.before; last = n; directories = [] };
     read = record {
       layout = 1;
-      walk = record { master = first; home = home; walk = met.walk };
+      walk = record { volume = volume; master = first; home = home; walk = met.walk };
       once = tt;
       directories = tt;
     };
@@ -55,15 +58,16 @@ master_twice size contents reached first n home fresh inside met = (
 
 -- The master directory was read, and one that it names is at fault.
 pub directories_fault : (size : ℕ) (contents : Contents) (first : ℕ) (nodes : List (Node MasterEntry))
-    (entries : List MasterEntry) (marks : ℕ → ℕ) (error : VolumeError) → IsHome size contents (home_of_master first)
+    (entries : List MasterEntry) (marks : ℕ → ℕ) (error : VolumeError) → IsVolumeSize size
+    → IsHome size contents (home_of_master first)
     → LeadsAlong master_words contents first nodes 0 → items nodes ≡ entries
     → ((n : ℕ) → marks n ≡ times n (numbers nodes))
     → NamesInSpace size error → IsFaultOfDirectories size contents marks entries error
     → SettledRefuses size contents error
-directories_fault size contents first nodes entries marks error home walk all marked = by_error error
+directories_fault size contents first nodes entries marks error volume home walk all marked = by_error error
   where
     master_walk : IsMasterWalk size contents 1 nodes 0
-    master_walk = record { master = first; home = home; walk = walk }
+    master_walk = record { volume = volume; master = first; home = home; walk = walk }
 
     named : (ppn word at : ℕ) → find nat_cmp ppn entries ≡ Some (word, at)
         → IsDirectoryNamed size contents 1 ppn word at

@@ -1,10 +1,9 @@
 -- A publication with its last words: from the words put to the version published.
-use Rattle.std.proofs.Common.{◌≡◌, inl, ℕ, List, length, slice_get, Some, sym, ap, subst, ◌∙◌}
+use Rattle.std.proofs.Common.{◌≡◌, inl, ℕ, length, slice_get, Some, sym, ap, subst, ◌∙◌}
 use Rattle.blockdisk.specs.Disk.{Contents, DiskState, MayLeave, LeavesOnly}
 use Rattle.blockdisk.specs.Laws.{leaves_start, leaves_on, leaves_weaker}
 use Rattle.changeset.specs.Rest.{rest_settles}
 use Rattle.meaning.specs.Costs.{blocks_of}
-use Rattle.meaning.specs.Directories.{FileEntry}
 use Rattle.meaning.specs.Files.{File, Files}
 use Rattle.meaning.specs.Stands.{Stands, SettledStands}
 use Rattle.directory.specs.Edits.{Places}

@@ -23,7 +23,6 @@ use Rattle.meaning.proofs.MapLaws.{some_same, get-insert_same, get-insert_other}
 use Rattle.meaning.proofs.MapLists.{get-map_values, map_values-insert}
 use Rattle.meaning.proofs.MapSums.{times-append, at-le-sum}
 use Rattle.meaning.proofs.MapParts.{found-le-sum}
-use Rattle.meaning.proofs.DiskMaps.{once}
 use Rattle.meaning.proofs.QuietLaws.{each_times}
 use Rattle.meaning.proofs.Versions.{version_kept}
 use Rattle.meaning.proofs.FileChanges.{published}

@@ -1,10 +1,9 @@
 -- The memory that a publication takes, in the directory that is meant.
-use Rattle.std.proofs.Common.{◌≡◌, ℕ, ◌-◌, List, [], ◌∷◌, ◌++◌, map, length, slice_get, slice_set, get_or, None, refl}
-use Rattle.std.proofs.Common.{sym, ap, subst, ◌∙◌, arith, length-append}
+use Rattle.std.proofs.Common.{◌≡◌, ℕ, List, map, length, slice_get, get_or, None}
+use Rattle.std.proofs.Common.{sym, ap, subst, ◌∙◌, arith}
 use Rattle.std.proofs.lemmas.List.{length-map}
 use Rattle.std.specs.Ordering.{nat_cmp}
 use Rattle.std.specs.FinMap.Entries.{find}
-use Rattle.meaning.specs.Directories.{FileEntry}
 use Rattle.meaning.specs.Files.{name_cmp}
 use Rattle.meaning.proofs.MapLaws.{some_same, some_none}
 use Rattle.directory.specs.Chains.{viewed}

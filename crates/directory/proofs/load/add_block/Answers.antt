@@ -72,6 +72,6 @@ returns-in-Err-Again-clause-bad g c k is =
     let count : c.bits-count.result ≡ length es = c.bits-count.ensures.value
     ∙ count_of g.E.Entry.words_of g.met.E.Entry.apart g.E.Entry.IsEntry block next es c.index-block-1.result s in (
       cc,
-      IsBadWords.key_again next es s (c.in-Err-Again.ensures.again (ap Err c.in-Err-Again.field-0-is) next es s
-          (sym count)),
+      IsBadWords.key_again next es s c.requires.good.each_once
+          (c.in-Err-Again.ensures.again (ap Err c.in-Err-Again.field-0-is) next es s (sym count)),
     )

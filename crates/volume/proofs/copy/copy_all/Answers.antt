@@ -1,4 +1,4 @@
-use Rattle.std.proofs.Common.{◌≡◌, subst}
+use Rattle.std.proofs.Common.{subst}
 use Rattle.blockdisk.specs.Disk.{LeavesOnly}
 use Rattle.volume.specs.Copying.{HomesComeLast}
 use Rattle.volume.proofs.CopyOrder.{behind_first, gate_or_end}

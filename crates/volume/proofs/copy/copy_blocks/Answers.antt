@@ -1,4 +1,4 @@
-use Rattle.std.proofs.Common.{◌≡◌, ◌<◌, ◌≤◌, ◌∙◌, refl, arith, rules}
+use Rattle.std.proofs.Common.{◌<◌, ◌≤◌, ◌∙◌, refl, arith, rules}
 use Rattle.blockdisk.specs.Laws.{modifies_start, same_disk_start, same_disk_on, still_start}
 use Rattle.changeset.proofs.Reading.{only_reads_on}
 use Rattle.volume.proofs.CopyOrder.{part_modified}

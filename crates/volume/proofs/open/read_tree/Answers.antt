@@ -32,7 +32,8 @@ returns-in_err-directories-clause-fault g c h home =
     (found_named (IsFaultOfDirectories now.size now.contents marks (map master_view c.entries.result.now))
     (NamesInSpace now.size) (SettledRefuses s.size s.contents) c.read_directories.result
     (λ error met inside. directories_fault s.size s.contents c.args.first (nodes_of chain.blocks chain.entries)
-    chain.entries marks error home (c.in_ok-master.ensures.walk (c.read_directories.ensures.same.was_honest h))
+    chain.entries marks error c.requires.volume home
+    (c.in_ok-master.ensures.walk (c.read_directories.ensures.same.was_honest h))
     (chain_items master_words (IsMasterEntryOf 1) chain c.in_ok-master.ensures.chain)
     (λ n. c.in_ok-master.ensures.marked n ∙ ap (times n) (sym (numbers_of chain.blocks chain.entries)))
     (subst (λ (n : ℕ). NamesInSpace n error) c.load_master.ensures.same.size inside)

@@ -6,8 +6,6 @@ use Rattle.meaning.specs.Splices.{splice, length_after}
 use Rattle.meaning.proofs.MapLaws.{some_same}
 use Rattle.meaning.proofs.SpliceLaws.{length-splice}
 use Rattle.alloctab.specs.TableState.{space}
-use Rattle.directory.specs.Chains.{viewed}
-use Rattle.volume.specs.Cores.{file_view}
 use Rattle.volume.specs.Live.{VolumeCore, slot, pending_at}
 use Rattle.volume.specs.LiveCores.{core_of}
 use Rattle.volume.specs.Publishing.{IsPlaced, IsSupplied}
