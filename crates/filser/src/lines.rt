@@ -1,3 +1,5 @@
+ghost use Rattle.std.specs.Prelude.{◌≡◌, None};
+
 use std::io::{self, Read};
 
 /// A reader that knows the line that it is in, and why it failed.
@@ -10,7 +12,9 @@ pub struct LineReader<R: Read> {
 
 impl<R: Read> LineReader<R> {
     /// The lines of this reader, from the first one on.
-    pub fn new(reader: R) -> Self {
+    pub fn new(reader: R) -> Self
+        ensures { (result.reader ≡ reader) × (result.fault ≡ None) }
+    {
         LineReader {
             reader,
             line: 1,
