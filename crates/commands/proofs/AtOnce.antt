@@ -12,13 +12,15 @@ use Rattle.meaning.specs.declared.call.Reply.{Reply}
 use Rattle.meaning.specs.declared.call.Reply.TheVariants.{Done, Value, Device}
 use Rattle.volume.specs.Live.{VolumeCore}
 use Rattle.monitor.specs.Deposits.{DepositsBy}
-use Rattle.monitor.specs.Serving.{pack_of, Serves}
+use Rattle.meaning.specs.Layouts.{pack_of}
+use Rattle.monitor.specs.Serving.{Serves}
 use Rattle.monitor.specs.States.{MonitorState}
 use Rattle.monitor.specs.declared.job.Job.{Job}
-use Rattle.monitor.proofs.EventCrashes.{untouched_event, state_stands}
+use Rattle.monitor.proofs.EventCrashes.{untouched_event}
 use Rattle.commands.specs.Asking.{HasDone}
 use Rattle.commands.specs.Machines.{Machine, AlwaysStands, GoesBy, IsAnswered, AreShown}
 use Rattle.commands.specs.Monitors.{machine_of}
+use Rattle.commands.proofs.OnePack.{crash_one, led_one, stands_one}
 use Rattle.commands.proofs.GoingLaws.{goes_on, goes_answered, goes_nowhere}
 
 module _ {D : Type 0} (state : D → DiskState) (only_now : (disk : D) (contents : Contents) → (state disk).honest
@@ -31,7 +33,7 @@ module _ {D : Type 0} (state : D → DiskState) (only_now : (disk : D) (contents
   with_jobs jobs = record { disk = disk; map = map; failed = failed; jobs = jobs }
 
   stands : AlwaysStands of
-  stands m honest s serves = state_stands (state m.disk) m.map m.jobs s serves.1
+  stands m honest s serves = stands_one (state m.disk) m.map m.jobs s serves.1
 
   -- an event that leaves the disk alone, of which it is known what it is answered
   answered : (jobs jobs' : List (Option Job)) (event : Event) (reply : Reply)
@@ -42,9 +44,11 @@ module _ {D : Type 0} (state : D → DiskState) (only_now : (disk : D) (contents
   answered jobs jobs' event reply served by = record {
     pack = refl;
     was_honest = λ honest. honest;
-    crash = λ honest s serves. untouched_event state only_now disk disk refl map jobs event reply honest s serves.1;
+    crash = λ honest s serves. crash_one (state disk) (state disk) map jobs s event reply serves.1
+        (untouched_event state only_now disk disk refl map jobs event reply honest s serves.1);
     broken = λ honest serves. still_start (state disk);
-    answers = λ honest. by;
+    answers = λ honest old serves. led_one (state disk) map failed jobs (Serves (state disk) map failed jobs') event reply
+        old serves (by old serves);
     counted = (λ device. absurd (served device), λ other. refl);
   }
 

@@ -1,10 +1,11 @@
 ghost use Rattle.std.specs.Prelude.{◌≡◌, ◌⊎◌, List, IfOk, IfErr};
 ghost use Rattle.meaning.specs.Plans.{Act};
 ghost use Rattle.meaning.specs.Jobs.{State};
+ghost use Rattle.meaning.specs.Layouts.{pack_of};
 ghost use Rattle.meaning.specs.Published.{without_serials};
 ghost use Rattle.meaning.specs.Runs.{Serving};
 ghost use Rattle.monitor.specs.Runs.{ServesFiles, AreStopped};
-ghost use Rattle.monitor.specs.Serving.{pack_of, Serves};
+ghost use Rattle.monitor.specs.Serving.{pack_one, Serves};
 ghost use Rattle.monitor.specs.States.{MonitorState};
 ghost use Rattle.commands.specs.Machines.{GoesBy, IsAlongActs};
 ghost use Rattle.commands.specs.Monitors.{machine_of};
@@ -19,7 +20,8 @@ use std::alloc::Global;
 ///
 /// At whichever moment the crash came, the files are those after some of the acts of the session or the script, none of
 /// them left out, or those after these and the next one, which was running, where its answer is one that may change
-/// files; and no third. At whichever moments the starts before were stopped, the files are the same.
+/// files; and no third. At whichever moments the starts before were stopped, the files are the same, and so is the
+/// layout.
 ///
 /// # Errors
 ///
@@ -36,9 +38,9 @@ pub fn start_after_acts<D: Disk, E: Disk>(
         → Serves (D.state begun.disk) begun.map begun.failed begun.jobs (Serving s)
         → (starts : List (E × E))
         → AreStopped E.state (D.state stopped.now.disk) (D.state begun.disk).clock starts (E.state left).contents
-        → (found : State) × IsAlongActs (pack_of (D.state begun.disk)) (Serving s) acts found
-        × IfOk result (λ m. (E.state m.disk).honest
-        → ServesFiles (E.state m.disk) m.map m.failed m.jobs (without_serials found.files))
+        → (found : State) × IsAlongActs (pack_one (D.state begun.disk)) (Serving s) acts found
+        × IfOk result (λ m. (E.state m.disk).honest → (pack_of (E.state m.disk) ≡ pack_one (D.state begun.disk))
+        × ServesFiles (E.state m.disk) m.map m.failed m.jobs (without_serials found.files))
         × IfErr result (λ refused. (E.state refused.1).honest → (refused.0 ≡ NoMemory) ⊎ (refused.0 ≡ Device)) }
 {
     Monitor::start(alloc, left)

@@ -16,7 +16,9 @@ use Rattle.imagefile.specs.declared.form.Form.{Form}
 use Rattle.meaning.specs.Files.{File, Files}
 use Rattle.meaning.specs.Maps.{empty}
 use Rattle.meaning.specs.Regions.{IsVolumeSize}
+use Rattle.meaning.specs.Layouts.{pack_in, pack_of, StandsOn}
 use Rattle.meaning.specs.Stands.{Stands}
+use Rattle.meaning.proofs.Layouts.{stands_in_any}
 use Rattle.monitor.proofs.Along.{no_fault}
 use Rattle.volume.specs.Copying.{HomesComeLast}
 use Rattle.volume.specs.FaultsFound.{NamesInSpace, Refuses}
@@ -57,9 +59,9 @@ seen found Nothing is p = cc
 -- A new volume.
 
 pub empty_volume : (size : ℕ) (new : DiskState) → new.size ≡ size
-    → (new.honest → AtRest new (λ c. Stands size c empty)) → (new.honest → NoneOpen new) → IsEmptyVolume new
+    → (new.honest → AtRest new (λ c. StandsOn (pack_in 1 size) c empty)) → (new.honest → NoneOpen new) → IsEmptyVolume new
 empty_volume size new same rests settled = record {
-  rests = λ h. subst (λ n. AtRest new (λ c. Stands n c empty)) (sym same) (rests h);
+  rests = λ h. subst (λ n. AtRest new (λ c. StandsOn (pack_in 1 n) c empty)) (sym same) (rests h);
   settled = settled;
 }
 
@@ -96,12 +98,12 @@ sixty_four calls old is =
     ap (λ (m : MemoryDisk). length m.blocks) is ∙ length-replicate 64 (Some (replicate {A = ℕ} 128 0))
 
 pub fresh_disk : (calls : ℕ) (old new : MemoryDisk) → old ≡ zeroed 64 calls → length new.blocks ≡ length old.blocks
-    → AtRest (memory_state new) (λ c. Stands (length old.blocks) c empty) → NoneOpen (memory_state new)
+    → AtRest (memory_state new) (λ c. StandsOn (pack_in 1 (length old.blocks)) c empty) → NoneOpen (memory_state new)
     → new.failures ≡ old.failures → IsFresh (memory_state new)
 fresh_disk calls old new is same rests settled sound = record {
   size = same ∙ sixty_four calls old is;
   honest = tt;
-  rests = subst (λ n. AtRest (memory_state new) (λ c. Stands n c empty)) (sixty_four calls old is) rests;
+  rests = subst (λ n. AtRest (memory_state new) (λ c. StandsOn (pack_in 1 n) c empty)) (sixty_four calls old is) rests;
   settled = settled;
   failures = sound ∙ ap (λ (m : MemoryDisk). m.failures) is;
 }
@@ -143,7 +145,8 @@ refused_by old new error same named failed sound refuses kept crash = record {
   was_honest = same.was_honest;
   why = λ h. record {
     refuses = refuses h;
-    faultless = λ files stands. no_fault old new files stands error (refuses h) (kept h);
+    faultless = λ files stands. no_fault old new stands.2.0.layout files
+        (stands.0, stands.1, (stands.2.0, stands.2.1, stands.2.2, refl)) error (refuses h) (kept h);
     kept = kept h;
     crash = crash h;
   };
@@ -151,22 +154,23 @@ refused_by old new error same named failed sound refuses kept crash = record {
 
 -- A copy.
 
-pub copied_all : (result : Result (Unit {0}) CopyError) (mid from new to : DiskState)
-    → OnOk result ((files : Files File) × Stands mid.size mid.contents files × RestsAt to files)
+pub copied_all : (result : Result (Unit {0}) CopyError) (mid from new to : DiskState) → to.size ≡ mid.size
+    → OnOk result ((files : Files File) × StandsOn (pack_of to) mid.contents files × RestsAt to files)
     → OnOk result (NoneOpen to) → LeavesOnly new to (HomesComeLast mid.size from.contents new)
     → ((files : Files File) → Stands mid.size mid.contents files → OnOk result (RestsAt from files))
     → ((IsErrOf result (Source Device) → ⊥) → Still mid from ⊎ IsRecovered mid.size mid.contents from.contents)
     → OnOk result (IsCopied mid from new to)
-copied_all (Ok value) mid from new to stood settled last rests kept = record {
+copied_all (Ok value) mid from new to size stood settled last rests kept = record {
   files = stood.0;
   stood = stood.1;
-  source = rests stood.0 stood.1;
+  source = rests stood.0 (subst (λ n. Stands n mid.contents stood.0) size
+      (stands_in_any (pack_of to) mid.contents stood.0 stood.1));
   kept = kept (λ e. cc);
   copy = stood.2;
   settled = settled;
   last = last;
 }
-copied_all (Err error) mid from new to stood settled last rests kept = tt
+copied_all (Err error) mid from new to size stood settled last rests kept = tt
 
 same_source : (result : Result (Unit {0}) CopyError) (error other : VolumeError) → IsErrOf result (Source error)
     → IsErrOf result (Source other) → error ≡ other
@@ -199,8 +203,8 @@ alone_on a b c size was p q = record {
       let before = first.now like.0 like.1 in (
         before.0,
         before.1,
-        λ files stands. subst (λ n. Stands n x files) size
-            (like.2 files (subst (λ n. Stands n like.0 files) (sym size) (before.2 files stands))),
+        λ layout files stands. subst (λ n. StandsOn (pack_in layout n) x files) size (like.2 layout files
+            (subst (λ n. StandsOn (pack_in layout n) like.0 files) (sym size) (before.2 layout files stands))),
       ));
 }
 

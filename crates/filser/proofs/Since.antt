@@ -14,6 +14,7 @@ use Rattle.imagefile.specs.declared.form.Form.{Form}
 use Rattle.commands.specs.declared.answer.Tally.{Tally}
 use Rattle.commands.specs.declared.error.SessionError.{SessionError}
 use Rattle.meaning.specs.Files.{File, Files}
+use Rattle.meaning.specs.Layouts.{pack_of, StandsOn}
 use Rattle.meaning.specs.Stands.{Stands}
 use Rattle.volume.specs.Rest.{StandsLikeBefore}
 use Rattle.volume.specs.declared.error.VolumeError.{VolumeError}
@@ -49,7 +50,7 @@ module _ (form : Form) (u : Unseen) (d : DiskState) (began : BeganAs form u d) (
   crash_since : (e : DiskState) → d.honest → LeavesOnly d e (StandsLikeBefore d)
       → LeavesOnly begun e (StandsLikeBefore begun)
   crash_since e h leaves = leaves_since e (StandsLikeBefore d) (StandsLikeBefore begun) h leaves (like_since h)
-      (λ c may. (c, may, λ files stands. stands))
+      (λ c may. (c, may, λ layout files stands. stands))
 
   recovered_since : (now : Contents) → d.honest → IsRecovered d.size d.contents now
       → IsRecovered begun.size begun.contents now
@@ -59,7 +60,7 @@ module _ (form : Form) (u : Unseen) (d : DiskState) (began : BeganAs form u d) (
     started_since : (m : MonitorState D) → d.honest → IsStarted state d m → IsStarted state begun m
     started_since m h p = record {
       files = p.files;
-      stood = subst (λ (c : Contents). Stands d.size c p.files) (same h) p.stood;
+      stood = subst (λ (c : Contents). StandsOn (pack_of (state m.disk)) c p.files) (same h) p.stood;
       serves = p.serves;
       crash = crash_since (state m.disk) h p.crash;
       recovered = recovered_since (state m.disk).contents h p.recovered;
@@ -127,7 +128,7 @@ module _ (form : Form) (u : Unseen) (d : DiskState) (began : BeganAs form u d) (
   pub taken_since : (end : DiskState) → d.honest → IsTaken d end → IsTaken begun end
   taken_since end h p = record {
     files = p.files;
-    stood = subst (λ (c : Contents). Stands d.size c p.files) (same h) p.stood;
+    stood = subst (λ (c : Contents). StandsOn (pack_of end) c p.files) (same h) p.stood;
     rests = p.rests;
     recovered = recovered_since end.contents h p.recovered;
   }

@@ -11,7 +11,7 @@ use Rattle.imagefile.specs.declared.form.Form.{Form}
 use Rattle.meaning.specs.Files.{File as StoredFile, Files}
 use Rattle.meaning.specs.Maps.{empty}
 use Rattle.meaning.specs.Regions.{IsVolumeSize}
-use Rattle.meaning.specs.Stands.{Stands}
+use Rattle.meaning.specs.Layouts.{pack_in, pack_of, StandsOn}
 use Rattle.volume.specs.Copying.{HomesComeLast}
 use Rattle.volume.specs.Rest.{RestsAt, StandsLikeBefore}
 use Rattle.volume.specs.declared.error.CopyError.{CopyError}
@@ -111,9 +111,9 @@ pub record IsNewDisk {H M F D I : Type 0} (facts : HostFacts H) (views : Views M
   pub size : (views.disk disk).size ≡ blocks
   pub whole : IsWhole form u (views.disk disk)
 
--- an empty volume is on it: whatever a crash leaves of it stands for no files
+-- an empty volume of layout 1 is on it: whatever a crash leaves of it stands for no files
 pub record IsEmptyVolume (d : DiskState) : Type 0 where
-  pub rests : d.honest → AtRest d (λ c. Stands d.size c empty)
+  pub rests : d.honest → AtRest d (λ c. StandsOn (pack_in 1 d.size) c empty)
   pub settled : d.honest → NoneOpen d
 
 -- What became of one that was asked for: it is there, and nothing was printed; or there is none, for a reason that
@@ -132,7 +132,7 @@ IsOnNew {D = D} facts views path form blocks u sink full disks status =
 pub record IsFresh (d : DiskState) : Type 0 where
   pub size : d.size ≡ 64
   pub honest : d.honest
-  pub rests : AtRest d (λ c. Stands 64 c empty)
+  pub rests : AtRest d (λ c. StandsOn (pack_in 1 64) c empty)
   pub settled : NoneOpen d
   pub failures : d.failures ≡ 0
 
@@ -153,10 +153,10 @@ pub record IsLeftAlone (begun end : DiskState) : Type 0 where
   pub was_honest : end.honest → begun.honest
   pub crash : end.honest → LeavesOnly begun end (StandsLikeBefore begun)
 
--- It was recovered, and stands for these files.
+-- It was recovered, and stands for these files, in the layout in which it stood for them.
 pub record IsTaken (begun end : DiskState) : Type 0 where
   pub files : Files StoredFile
-  pub stood : Stands begun.size begun.contents files
+  pub stood : StandsOn (pack_of end) begun.contents files
   pub rests : RestsAt end files
   pub recovered : IsRecovered begun.size begun.contents end.contents
 
@@ -171,12 +171,12 @@ IsCopyFault (Source error) fault = (fault.refusal ≡ Start error)
     × ((told : Option Error) × (fault.host ≡ option_map System told))
 IsCopyFault Target fault = IsDeviceFault fault
 
--- The copy stands for the same files, whatever a crash leaves of it, and nothing but the recovery was written to the
--- image that is there. A copy that had been cut short would have the home copies that `new` had, or all else as the
--- copy has it.
+-- The copy stands for the same files in the same layout, whatever a crash leaves of it, and nothing but the recovery
+-- was written to the image that is there. A copy that had been cut short would have the home copies that `new` had, or
+-- all else as the copy has it.
 pub record IsCopied (mid from new to : DiskState) : Type 0 where
   pub files : Files StoredFile
-  pub stood : Stands mid.size mid.contents files
+  pub stood : StandsOn (pack_of to) mid.contents files
   pub source : RestsAt from files
   pub kept : Still mid from ⊎ IsRecovered mid.size mid.contents from.contents
   pub copy : RestsAt to files

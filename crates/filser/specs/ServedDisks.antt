@@ -3,6 +3,7 @@ use Rattle.std.specs.Prelude.{◌≡◌, ◌⊎◌, ℕ, List, Option, Result, O
 use Rattle.blockdisk.specs.Disk.{DiskState, LeavesOnly, NoneOpen, Still, one_more}
 use Rattle.changeset.specs.Crashes.{IsRecovered}
 use Rattle.meaning.specs.Files.{File, Files}
+use Rattle.meaning.specs.Layouts.{pack_of, StandsOn}
 use Rattle.meaning.specs.Stands.{Stands}
 use Rattle.volume.specs.FaultsFound.{NamesInSpace, Refuses}
 use Rattle.volume.specs.Rest.{StandsLikeBefore}
@@ -30,11 +31,11 @@ abbrev pub IsEnding : Status → Result Tally SessionError → Type 0
 IsEnding status (Ok tally) = status_code status ≡ max (if tally.refused then 1 else 0) (if tally.broke then 4 else 0)
 IsEnding status (Err error) = status ≡ Fault
 
--- A start took the disk: it stood for these files, which are served now. Nothing but the recovery was written, and at
+-- A start took the disk: it stood for these files, which are served now, in the same layout. Nothing but the recovery was written, and at
 -- each moment a crash left what stands for the same files.
 pub record IsStarted {D : Type 0} (state : D → DiskState) (begun : DiskState) (m : MonitorState D) : Type 0 where
   pub files : Files File
-  pub stood : Stands begun.size begun.contents files
+  pub stood : StandsOn (pack_of (state m.disk)) begun.contents files
   pub serves : ServesFiles (state m.disk) m.map m.failed m.jobs files
   pub crash : LeavesOnly begun (state m.disk) (StandsLikeBefore begun)
   pub recovered : IsRecovered begun.size begun.contents (state m.disk).contents

@@ -12,6 +12,8 @@ pub mod Versions
 pub mod DiskMaps
 pub mod Settled
 pub mod QuietLaws
+pub mod Layouts
+pub mod HomeChanges
 pub mod Walking
 pub mod Excluded
 pub mod ExcludedFiles
@@ -48,6 +50,7 @@ pub mod ClosingSteps
 pub mod SoundEvents
 pub mod CrashLaws
 pub mod CostRows
+pub mod ChargeRows
 pub mod CostLaws
 pub mod PutLaws
 pub mod BookingLaws

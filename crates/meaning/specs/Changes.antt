@@ -80,6 +80,10 @@ bare_directory protection quota chain = record { protection = protection; quota 
 abbrev pub with_protection : StoredDirectory → ℕ → ℕ → StoredDirectory
 with_protection d protection quota = record { protection = protection; quota = quota; chain = d.chain; files = d.files }
 
+-- the same directories in another layout
+abbrev pub in_layout : DiskMap → ℕ → DiskMap
+in_layout m layout = record { layout = layout; chain = m.chain; directories = m.directories }
+
 -- another file in the same blocks
 abbrev pub in_place_of : StoredFile → File → StoredFile
 in_place_of f file = record { file = file; prime = f.prime; extensions = f.extensions; blocks = f.blocks }

@@ -3,7 +3,7 @@
 -- answer is one that changes no file.
 use Rattle.std.specs.Prelude.{◌≡◌, ℕ, ◌≤◌, ◌⊎◌, Bool, true, false, IsTrue, List, [], ◌∷◌}
 use Rattle.blockdisk.specs.Disk.{Contents, DiskState, MayLeave, Between}
-use Rattle.meaning.specs.Stands.{Stands}
+use Rattle.meaning.specs.Layouts.{StandsOn}
 use Rattle.meaning.specs.Published.{without_serials}
 use Rattle.meaning.specs.Jobs.{State}
 use Rattle.meaning.specs.Room.{Pack}
@@ -14,9 +14,9 @@ use Rattle.meaning.specs.declared.call.Reply.{Reply}
 use Rattle.meaning.specs.declared.call.Reply.TheVariants.{Done, Value, Refused, Stopped, NoChannel, AddressCheck, NoJob}
 use Rattle.meaning.specs.declared.call.Reply.TheVariants.{NoMemory, Device, Failed, DateRange}
 
--- these contents stand for the files of a state
+-- these contents stand for the files of a state, in the layout of the pack
 abbrev pub StandsForState : Pack → State → Contents → Type 0
-StandsForState pack s contents = Stands pack.blocks contents (without_serials s.files)
+StandsForState pack s contents = StandsOn pack contents (without_serials s.files)
 
 -- the answers with which an event may have changed the files: it was done, or a fault of the disk came in between
 abbrev pub may_change : Reply → Bool

@@ -26,6 +26,8 @@ pub mod CommandLists
 pub mod Rings
 pub mod Jobs
 pub mod Room
+pub mod Layouts
+pub mod Charges
 pub mod Outcomes
 pub mod Opening
 pub mod Looking

@@ -1,16 +1,19 @@
-ghost use Rattle.std.specs.Prelude.{◌≡◌, ◌≢◌, ◌+◌, ◌<◌, ◌⊎◌, ◌++◌, ℕ, List, Option, None, Some};
+ghost use Rattle.std.specs.Prelude.{◌≡◌, ◌≢◌, ◌+◌, ◌<◌, ◌≤◌, ◌⊎◌, ◌++◌, ℕ, List, Option, None, Some};
 ghost use Rattle.words36.specs.declared.names.FileName.{FileName};
 ghost use Rattle.blockdisk.specs.Disk.{Contents};
 ghost use Rattle.meaning.specs.Maps.{empty, get, insert, remove, times};
 ghost use Rattle.meaning.specs.Blocks.{AgreeOn, head_or_zero};
 ghost use Rattle.meaning.specs.Files.{File, Place};
 ghost use Rattle.meaning.specs.Table.{table_bit};
-ghost use Rattle.meaning.specs.Retrieval.{IsPrime, first_extension, prime_block, prime_of};
+ghost use Rattle.meaning.specs.Home.{home_block, IsLayout};
+ghost use Rattle.meaning.specs.Retrieval.{date_limit, IsPrime, first_extension, prime_block, prime_of};
 ghost use Rattle.meaning.specs.Stands.{StoredFile, StoredDirectory, DiskMap, blocks_of_file, reaches_in_file};
-ghost use Rattle.meaning.specs.Stands.{reaches_in_directory, reaches, directory_of, files_of, quota_limit, entry_of};
+ghost use Rattle.meaning.specs.Stands.{reaches_in_directory, reaches, directory_of, files_of, home_of, quota_limit};
+ghost use Rattle.meaning.specs.Stands.{entry_of};
 ghost use Rattle.meaning.specs.Stands.{place_of, IsVersion, IsWhole, IsMapped, HasMap};
 ghost use Rattle.meaning.specs.Changes.{ChangesOnly, IsFileChain, IsMasterChain, PutsOnly, TableFollows, WritesFree};
-ghost use Rattle.meaning.specs.Changes.{bare_directory, entries_of, file_put, file_removed, in_place_of, primes_of};
+ghost use Rattle.meaning.specs.Changes.{bare_directory, entries_of, file_put, file_removed, in_layout, in_place_of};
+ghost use Rattle.meaning.specs.Changes.{primes_of};
 ghost use Rattle.meaning.specs.Changes.{reaches_in_found, with_directory, with_file, with_protection};
 ghost use Rattle.meaning.specs.Changes.{without_directory, without_file};
 
@@ -188,4 +191,15 @@ pub fn directories_are_removed()
         → HasMap size new (without_directory m chain ppn) }
     ensures files { (m : DiskMap) (chain : List ℕ) (ppn : ℕ) → files_of (without_directory m chain ppn)
         ≡ remove (files_of m) ppn }
+{}
+
+/// Both home copies are written again for another layout, whose dates and quotas reach at least as far, and every other
+/// block stays: the contents stand for the same files, in that layout.
+pub fn homes_are_raised()
+    ensures stands { (size : ℕ) (old new : Contents) (m : DiskMap) (to : ℕ) → IsLayout to
+        → date_limit m.layout ≤ date_limit to → quota_limit m.layout ≤ quota_limit to → HasMap size old m
+        → new 1 ≡ Some (home_block size (home_of (in_layout m to)))
+        → new 2 ≡ Some (home_block size (home_of (in_layout m to)))
+        → ((n : ℕ) → n ≢ 1 → n ≢ 2 → new n ≡ old n) → HasMap size new (in_layout m to) }
+    ensures files { (m : DiskMap) (to : ℕ) → files_of (in_layout m to) ≡ files_of m }
 {}

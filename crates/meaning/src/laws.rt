@@ -7,13 +7,16 @@ ghost use Rattle.meaning.specs.Directories.{IsDirectory, file_words, IsFileEntry
 ghost use Rattle.meaning.specs.Files.{File, Files, Place, name_cmp};
 ghost use Rattle.meaning.specs.Maps.{FinMap, empty};
 ghost use Rattle.std.specs.Ordering.{nat_cmp};
-ghost use Rattle.meaning.specs.Home.{filser_word};
+ghost use Rattle.meaning.specs.Home.{filser_word, Home, IsHome};
+ghost use Rattle.meaning.specs.Layouts.{layout_of, pack_in, SettledStandsOn, StandsOn};
+ghost use Rattle.meaning.specs.Room.{Pack};
 ghost use Rattle.meaning.specs.Log.{log_word};
 ghost use Rattle.meaning.specs.Quiet.{DifferInFree, SameOutsideLog};
 ghost use Rattle.words36.specs.Sixbit.{sixbit};
 ghost use Rattle.words36.specs.Words.{join};
 ghost use Rattle.meaning.specs.Retrieval.{prime_word, extension_half, Prime, IsRetrieved, HasBody};
-ghost use Rattle.meaning.specs.Stands.{StoredFile, DiskMap, files_of, blocks_of_file, IsVersion, HasMap, Stands};
+ghost use Rattle.meaning.specs.Stands.{StoredFile, DiskMap, files_of, blocks_of_file, IsVersion, HasMap};
+ghost use Rattle.meaning.specs.Stands.{SettledStands, Stands};
 ghost use Rattle.meaning.specs.Table.{table_bit, fixed};
 ghost use Rattle.meaning.specs.Vector.{v1, v1_files, v1_open};
 
@@ -21,6 +24,21 @@ ghost use Rattle.meaning.specs.Vector.{v1, v1_files, v1_open};
 pub fn one_meaning()
     ensures { (size : ℕ) (contents : Contents) (f g : Files File) → Stands size contents f → Stands size contents g
         → f ≡ g }
+{}
+
+/// The layout of contents is that of the home copy that counts, so it stays with the home copies, and contents stand for
+/// files in one layout at most.
+pub fn layouts_are_named()
+    ensures named { (size : ℕ) (contents : Contents) (home : Home) → IsHome size contents home
+        → layout_of size contents ≡ home.layout }
+    ensures kept { (size : ℕ) (contents other : Contents) → contents 1 ≡ other 1 → contents 2 ≡ other 2
+        → layout_of size contents ≡ layout_of size other }
+    ensures one { (pack : Pack) (settled : Contents) (files : Files File) → SettledStandsOn pack settled files
+        → layout_of pack.blocks settled ≡ pack.layout }
+    ensures any { (pack : Pack) (contents : Contents) (files : Files File) → StandsOn pack contents files
+        → Stands pack.blocks contents files }
+    ensures own { (size : ℕ) (settled : Contents) (files : Files File) → SettledStands size settled files
+        → SettledStandsOn (pack_in (layout_of size settled) size) settled files }
 {}
 
 /// Whatever comes to stand in blocks that are free in the settled contents, the contents stand for the

@@ -9,11 +9,10 @@ ghost use Rattle.std.specs.Prelude.{◌≡◌, ◌+◌, ◌<◌, ◌↔◌, IsTr
 ghost use Rattle.meaning.specs.Regions.{IsVolumeSize, table_blocks, log_images, table_start, space_start};
 ghost use Rattle.meaning.specs.Faults.{InSpace};
 ghost use Rattle.meaning.specs.Retrieval.{date_limit};
+ghost use Rattle.meaning.specs.Layouts.{layout_number};
+ghost use Rattle.meaning.specs.declared.layout.Layout.{Layout};
 
 use words36::{BLOCK_WORDS, Word};
-
-/// The layout that a home copy names. There is one so far.
-pub const LAYOUT: u64 = 1;
 
 /// How many blocks a volume has at least.
 pub const SMALLEST_VOLUME: u32 = 64;
@@ -143,9 +142,45 @@ pub fn are_zeros(words: &[Word]) -> bool
     true
 }
 
-/// The last date that a file can have, in a layout.
-pub fn last_date(layout: u64) -> u32
-    ensures { result + 1 ≡ date_limit layout }
-{
-    if layout == LAYOUT { 4095 } else { 32767 }
+/// How an image spells dates and quotas, by the number that its home copies have for it.
+#[derive(Clone, Copy, Debug, PartialEq, Eq)]
+pub enum Layout {
+    /// Layout 1: dates of twelve bits, and no quotas. The only one that opens so far.
+    One,
+    /// Layout 2: dates of fifteen bits, and quotas.
+    Two,
+}
+
+impl Layout {
+    /// The number of the layout in a home copy.
+    pub fn number(self) -> u64
+        ensures { result ≡ layout_number self }
+    {
+        match self {
+            Layout::One => 1,
+            Layout::Two => 2,
+        }
+    }
+
+    /// The layout of a number; `None` if there is none.
+    pub fn from_number(number: u64) -> Option<Layout>
+        ensures some { IfSome result (λ layout. layout_number layout ≡ number) }
+        ensures none { IfNone result ((layout : Layout) → layout_number layout ≡ number → ⊥) }
+    {
+        match number {
+            1 => Some(Layout::One),
+            2 => Some(Layout::Two),
+            _ => None,
+        }
+    }
+
+    /// The last date that a file can have.
+    pub fn last_date(self) -> u32
+        ensures { result + 1 ≡ date_limit (layout_number self) }
+    {
+        match self {
+            Layout::One => 4095,
+            Layout::Two => 32767,
+        }
+    }
 }

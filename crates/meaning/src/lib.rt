@@ -31,7 +31,7 @@ pub use area::Area;
 pub use call::{Call, Event, Reply};
 pub use changes::{
     attributes_change, directories_are_made, directories_are_protected, directories_are_removed,
-    files_are_removed, files_are_renamed, maps_change_by_parts, prime_blocks_are_rewritten,
+    files_are_removed, files_are_renamed, homes_are_raised, maps_change_by_parts, prime_blocks_are_rewritten,
     versions_are_published, versions_are_superseded,
 };
 pub use code::ErrorCode;
@@ -41,7 +41,7 @@ pub use edits::{directory_edits, master_edits};
 pub use encoding::Encoding;
 pub use entry::Entry;
 pub use laws::{
-    bits_are_counted, chains_are_kept, log_is_no_part, maps_fit_their_cost, names_are_sixbit,
+    bits_are_counted, chains_are_kept, layouts_are_named, log_is_no_part, maps_fit_their_cost, names_are_sixbit,
     one_meaning, quiet_writes, vectors_stand, versions_are_kept, versions_fit_their_cost,
 };
 pub use machine::{

@@ -2,7 +2,7 @@
 use Rattle.std.proofs.Common.{◌≡◌, ◌⊎◌, inl, inr, ⊎_elim, ℕ, List, [], ◌∷◌, Result, Ok, Err, IfOk, refl, sym, subst}
 use Rattle.std.proofs.Common.{◌∙◌}
 use Rattle.std.specs.Prelude.{IfErr}
-use Rattle.blockdisk.specs.Disk.{Contents, DiskState, MayLeave, Still, LeavesOnly}
+use Rattle.blockdisk.specs.Disk.{Contents, DiskState, MayLeave, SameDisk, Still, LeavesOnly}
 use Rattle.blockdisk.specs.Laws.{same_contents, leaves_weaker}
 use Rattle.changeset.specs.Crashes.{IsRecovered}
 use Rattle.meaning.specs.Crashes.{StandsForState, StandsForEither, RunsOn}
@@ -12,17 +12,20 @@ use Rattle.meaning.specs.Files.{File, Files}
 use Rattle.meaning.specs.Jobs.{State}
 use Rattle.meaning.specs.Room.{Pack}
 use Rattle.meaning.specs.Runs.{Service, Serving, Broken}
-use Rattle.meaning.specs.Stands.{Stands, SettledStands}
+use Rattle.meaning.specs.Layouts.{pack_in, pack_of, SettledStandsOn, StandsOn}
+use Rattle.meaning.specs.Stands.{Stands}
 use Rattle.meaning.specs.Step.{step}
 use Rattle.meaning.specs.declared.call.Event.{Event}
 use Rattle.meaning.specs.declared.call.Reply.{Reply}
 use Rattle.meaning.proofs.ExcludedFiles.{fault_excludes}
+use Rattle.meaning.proofs.Layouts.{stands_in_any}
 use Rattle.meaning.proofs.Settled.{settled_same}
 use Rattle.volume.specs.FaultsFound.{Refuses}
 use Rattle.volume.specs.declared.error.VolumeError.{VolumeError}
 use Rattle.volume.specs.declared.error.VolumeError.TheVariants.{NotVolume, BadHome, BadLog, BadDirectory, BadRetrieval}
 use Rattle.volume.specs.declared.error.VolumeError.TheVariants.{BlockTwice, TableWrong, Device, NoMemory, Failed}
 use Rattle.volume.specs.declared.error.VolumeError.TheVariants.{BadData}
+use Rattle.volume.proofs.Packs.{stands_in_one}
 use Rattle.volume.proofs.Starting.{stands_ignores_gate}
 use Rattle.volume.specs.Rest.{StandsLikeBefore}
 use Rattle.monitor.specs.Runs.{IsAlong, HasStarted, AreStopped}
@@ -52,51 +55,60 @@ module _ (pack : Pack) (d : DiskState) (only_now : (c : Contents) → d.left_sin
 
 -- Starts that were stopped.
 
--- what the last of them left stands for whatever something stood for that the disk d left since moment t
+-- what the last of them left stands for whatever something stood for that the disk d left since moment t, in the same
+-- layout
 pub stopped_like : {E : Type 0} (state : E → DiskState) (d : DiskState) (t : ℕ) (starts : List (E × E))
     (left : Contents) → AreStopped state d t starts left
-    → (c : Contents) × d.left_since t c × ((files : Files File) → Stands d.size c files → Stands d.size left files)
-stopped_like state d t [] left r = (left, r, λ files stands. stands)
+    → (c : Contents) × d.left_since t c × ((layout : ℕ) (files : Files File)
+    → StandsOn (pack_in layout d.size) c files → StandsOn (pack_in layout d.size) left files)
+stopped_like state d t [] left r = (left, r, λ layout files stands. stands)
 stopped_like state d t ((begun, ended) ∷ starts) left r =
     let on = stopped_like state (state ended) (state begun).clock starts left r.3 in
     let first = r.1.since on.0 on.1 in (
       first.0,
       r.0.left first.0 first.1,
-      λ files stands.
-          subst (λ n. Stands n left files) (r.2
-          ∙ r.0.size) (on.2 files (subst (λ n. Stands n on.0 files) (sym r.2)
-          (first.2 files (subst (λ n. Stands n first.0 files) (sym r.0.size) stands)))),
+      λ layout files stands.
+          subst (λ n. StandsOn (pack_in layout n) left files) (r.2 ∙ r.0.size)
+          (on.2 layout files (subst (λ n. StandsOn (pack_in layout n) on.0 files) (sym r.2)
+          (first.2 layout files (subst (λ n. StandsOn (pack_in layout n) first.0 files) (sym r.0.size) stands)))),
     )
 
 -- a start over what stands for the same files whatever a crash may leave of it leaves the same at any moment
 pub stands_again : (s s' : DiskState) (files : Files File) → ((c : Contents) → MayLeave s c → Stands s.size c files)
     → HasStarted s s' → LeavesOnly s s' (λ c. Stands s.size c files)
 stands_again s s' files all started = leaves_weaker s s' (StandsLikeBefore s) (λ c. Stands s.size c files) started
-    (λ c like. like.2 files (all like.0 like.1))
+    (λ c like.
+    let stood = all like.0 like.1 in
+    let layout = stood.2.0.layout in
+    stands_in_any (pack_in layout s.size) c files
+    (like.2 layout files (stood.0, stood.1, (stood.2.0, stood.2.1, stood.2.2, refl))))
 
 -- Contents that stood for files have no fault after the recovery either.
 
-stands_after : (s s' : DiskState) (files : Files File) → Stands s.size s.contents files
-    → Still s s' ⊎ IsRecovered s.size s.contents s'.contents → Stands s.size s'.contents files
-stands_after s s' files stands = ⊎_elim
-    (λ (still : Still s s'). subst (λ x. Stands s.size x files)
+stands_after : (s s' : DiskState) (layout : ℕ) (files : Files File)
+    → StandsOn (pack_in layout s.size) s.contents files
+    → Still s s' ⊎ IsRecovered s.size s.contents s'.contents → StandsOn (pack_in layout s.size) s'.contents files
+stands_after s s' layout files stands = ⊎_elim
+    (λ (still : Still s s'). subst (λ x. StandsOn (pack_in layout s.size) x files)
     (sym (same_contents s.contents s'.contents still.contents)) stands)
     (λ (recovered : IsRecovered s.size s.contents s'.contents). (
       s'.contents,
       inl (recovered.gate, λ n. refl),
-      stands_ignores_gate s.size files recovered.settled s'.contents recovered.others
-          (subst (λ x. SettledStands s.size x files)
+      stands_ignores_gate (pack_in layout s.size) files recovered.settled s'.contents recovered.others
+          (subst (λ x. SettledStandsOn (pack_in layout s.size) x files)
           (settled_same s.size s.contents stands.0 recovered.settled stands.1 recovered.is_settled) stands.2),
     ))
 
-pub no_fault : (s s' : DiskState) (files : Files File) → Stands s.size s.contents files → (error : VolumeError)
+pub no_fault : (s s' : DiskState) (layout : ℕ) (files : Files File)
+    → StandsOn (pack_in layout s.size) s.contents files → (error : VolumeError)
     → Refuses s.size s'.contents error → ((error ≡ Device → ⊥) → Still s s' ⊎ IsRecovered s.size s.contents s'.contents)
     → (error ≡ NoMemory) ⊎ (error ≡ Device)
-no_fault s s' files stands = by_error
+no_fault s s' layout files stands = by_error
   where
     none : (fault : StartFault) → HasFault s.size s'.contents fault
         → Still s s' ⊎ IsRecovered s.size s.contents s'.contents → ⊥
-    none fault has kept = fault_excludes s.size s'.contents files fault has (stands_after s s' files stands kept)
+    none fault has kept = fault_excludes s.size s'.contents files fault has
+        (stands_in_any (pack_in layout s.size) s'.contents files (stands_after s s' layout files stands kept))
 
     by_error : (error : VolumeError) → Refuses s.size s'.contents error
         → ((error ≡ Device → ⊥) → Still s s' ⊎ IsRecovered s.size s.contents s'.contents)
@@ -129,6 +141,22 @@ pub ok_either : {A E : Type 0} (H P Q : A → Type 0) (r : Result A E) → IfOk 
     → IfOk r (λ a. H a → P a ⊎ Q a)
 ok_either H P Q (Ok a) either = λ h. ⊎_elim (λ p. inl (p h)) (λ q. inr (q h)) either
 ok_either H P Q (Err e) either = tt
+
+-- two clauses of what was opened
+pub ok_pair : {A E : Type 0} (H P Q : A → Type 0) (r : Result A E) → IfOk r (λ a. H a → P a) → IfOk r (λ a. H a → Q a)
+    → IfOk r (λ a. H a → P a × Q a)
+ok_pair H P Q (Ok a) p q = λ h. (p h, q h)
+ok_pair H P Q (Err e) p q = tt
+
+-- what is opened has the layout in which its contents stood for files before
+pub start_in : {A E : Type 0} (H : A → Type 0) (state : A → DiskState) (S : A → Files File → Type 0) (e : DiskState)
+    (pack : Pack) (files : Files File) → pack.blocks ≡ e.size → StandsOn pack e.contents files → (r : Result A E)
+    → IfOk r (λ a. SameDisk e (state a))
+    → IfOk r (λ a. H a → (f : Files File) × StandsOn (pack_of (state a)) e.contents f × S a f)
+    → IfOk r (λ a. H a → pack_of (state a) ≡ pack)
+start_in H state S e pack files blocks stands (Ok a) same stood = λ h.
+    stands_in_one (pack_of (state a)) pack e.contents (stood h).0 files (same.size ∙ sym blocks) (stood h).1 stands
+start_in H state S e pack files blocks stands (Err error) same stood = tt
 
 -- what is known whatever was answered stands beside what holds at Ok
 pub ok_and : {A E : Type 0} (K : Type 0) (H P : A → Type 0) (r : Result A E) → K → IfOk r (λ a. H a → P a)

@@ -25,7 +25,7 @@ use Rattle.meaning.specs.declared.call.Reply.TheVariants.{NoMemory, Device, Fail
 use Rattle.meaning.proofs.SoundEvents.{sound_step}
 use Rattle.volume.specs.Live.{VolumeCore}
 use Rattle.monitor.specs.Dropping.{OnlyDrops}
-use Rattle.monitor.specs.Serving.{pack_of, IsState, Serves, AreKeyed, AreReading}
+use Rattle.monitor.specs.Serving.{pack_one, IsState, Serves, AreKeyed, AreReading}
 use Rattle.monitor.specs.Sides.{UnderKeys, job_of, jobs_of, state_of, new_job}
 use Rattle.monitor.specs.declared.job.Job.{Job}
 use Rattle.monitor.proofs.Dropped.{leaves_none}
@@ -204,27 +204,27 @@ module _ (d : DiskState) (jobs : List (Option Job)) (n : ℕ) (call : Call) (mom
   abbrev before : State
   before = state_of files w jobs
 
-  pub late : 4095 < moment.date → step (pack_of d) serial before (Calls n call moment) ≡ (DateRange, before)
+  pub late : 4095 < moment.date → step (pack_one d) serial before (Calls n call moment) ≡ (DateRange, before)
   late past = ap (λ b. if b then (DateRange, before)
-      else on_job before (job_at before n) (λ job. call_of (pack_of d) serial before n job call moment))
+      else on_job before (job_at before n) (λ job. call_of (pack_one d) serial before n job call moment))
       (after 4095 moment.date past)
 
   asked : moment.date ≤ 4095 → (o : Option Job) → slot jobs n ≡ o
-      → step (pack_of d) serial before (Calls n call moment)
-      ≡ on_job before (option_map (job_of w) o) (λ job. call_of (pack_of d) serial before n job call moment)
+      → step (pack_one d) serial before (Calls n call moment)
+      ≡ on_job before (option_map (job_of w) o) (λ job. call_of (pack_one d) serial before n job call moment)
   asked timely o is =
       ap (λ b. if b then (DateRange, before)
-      else on_job before (job_at before n) (λ job. call_of (pack_of d) serial before n job call moment))
+      else on_job before (job_at before n) (λ job. call_of (pack_one d) serial before n job call moment))
       (not_after 4095 moment.date timely)
-      ∙ ap (λ o. on_job before o (λ job. call_of (pack_of d) serial before n job call moment)) (slot_of w jobs n o is)
+      ∙ ap (λ o. on_job before o (λ job. call_of (pack_one d) serial before n job call moment)) (slot_of w jobs n o is)
 
-  pub no_job : moment.date ≤ 4095 → slot jobs n ≡ None → step (pack_of d) serial before (Calls n call moment)
+  pub no_job : moment.date ≤ 4095 → slot jobs n ≡ None → step (pack_one d) serial before (Calls n call moment)
       ≡ (NoJob, before)
   no_job timely none = asked timely None none
 
   pub called : moment.date ≤ 4095 → (job : Job) → slot jobs n ≡ Some job
-      → step (pack_of d) serial before (Calls n call moment)
-      ≡ call_of (pack_of d) serial before n (job_of w job) call moment
+      → step (pack_one d) serial before (Calls n call moment)
+      ≡ call_of (pack_one d) serial before n (job_of w job) call moment
   called timely job there = asked timely (Some job) there
 
 -- where nothing stands under any key

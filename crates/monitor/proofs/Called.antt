@@ -11,7 +11,7 @@ use Rattle.meaning.specs.declared.call.Reply.TheVariants.{Done, Value, Refused, 
 use Rattle.meaning.specs.declared.call.Reply.TheVariants.{DateRange, NoMemory, Device, Failed}
 use Rattle.volume.specs.Live.{VolumeCore}
 use Rattle.monitor.specs.Events.{IsIdle, IsDecided}
-use Rattle.monitor.specs.Serving.{pack_of, Serves, AreKeyed, AreReading}
+use Rattle.monitor.specs.Serving.{pack_one, Serves, AreKeyed, AreReading}
 use Rattle.monitor.specs.States.{MonitorState}
 use Rattle.meaning.specs.declared.call.Call.{Call}
 use Rattle.monitor.specs.declared.job.Job.{Job}
@@ -22,14 +22,14 @@ abbrev pub IsCalled : DiskState → VolumeCore → Bool → List (Option Job) �
     → List (Option Job) → ℕ → Moment → Reply → Call → Type 0
 IsCalled d map failed jobs d' map' failed' jobs' n moment reply call =
     (old : Service) → Serves d map failed jobs old → (new : Service)
-    × Serves d' map' failed' jobs' new × Answers (pack_of d) old (Calls n call moment) reply new
+    × Serves d' map' failed' jobs' new × Answers (pack_one d) old (Calls n call moment) reply new
 
 -- too late for the disk
 pub called_late : (d : DiskState) (map : VolumeCore) (failed : Bool) (jobs : List (Option Job)) (n : ℕ)
     (call : Call) (moment : Moment) → failed ≡ false → 4095 < moment.date → AreKeyed map.pending jobs
     → AreReading map.live jobs → IsCalled d map failed jobs d map failed jobs n moment DateRange call
 called_late d map failed jobs n call moment serves past keyed reading =
-    row d map map failed jobs jobs keyed reading (leaves_none map) (pack_of d) (Calls n call moment) DateRange
+    row d map map failed jobs jobs keyed reading (leaves_none map) (pack_one d) (Calls n call moment) DateRange
     (λ serial files w. late d jobs n call moment serial files w past) serves
 
 -- The monitor of these parts.

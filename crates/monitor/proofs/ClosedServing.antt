@@ -6,7 +6,7 @@ use Rattle.blockdisk.specs.Disk.{Contents, DiskState, MayLeave, LeavesOnly}
 use Rattle.meaning.specs.Closing.{keeps_input}
 use Rattle.meaning.specs.Files.{File, Files}
 use Rattle.meaning.specs.Jobs.{State, slot}
-use Rattle.meaning.specs.Stands.{Stands}
+use Rattle.meaning.specs.Layouts.{pack_of, StandsOn}
 use Rattle.meaning.specs.declared.call.Call.TheVariants.{Close, Releas}
 use Rattle.meaning.specs.declared.call.Reply.{Reply}
 use Rattle.meaning.specs.declared.call.Reply.TheVariants.{Done}
@@ -65,7 +65,7 @@ module _ {D : Type 0} (state : D → DiskState) (only_now : (disk : D) (contents
   unchanged idles jobs s = let same = idle idles in same_state state disk disk' c c' jobs s (same.0, same.1)
 
   quiet : IsIdle reply → (state disk').honest → (f : Files File) → RestsAt (state disk) f
-      → LeavesOnly (state disk) (state disk') (λ contents. Stands (state disk).size contents f)
+      → LeavesOnly (state disk) (state disk') (λ contents. StandsOn (pack_of (state disk)) contents f)
   quiet idles honest f rests = untouched_quiet state only_now disk disk' (idle idles).0 honest f rests
 
   stands : (reply ≡ Done → IsBehind c b c' job job') → StillStands c c' failed' job job'

@@ -10,11 +10,12 @@ use Rattle.blockdisk.specs.Disk.{Contents, DiskState, LeavesOnly}
 use Rattle.meaning.specs.Closing.{keeps_output, keeps_input, discards}
 use Rattle.meaning.specs.Files.{File, Files, Directory, Place, map_directory}
 use Rattle.meaning.specs.Jobs.{State, slot}
+use Rattle.meaning.specs.Layouts.{pack_of, StandsOn}
 use Rattle.meaning.specs.Maps.{get, insert}
 use Rattle.meaning.specs.Outputs.{finds_no_place}
 use Rattle.meaning.specs.Published.{Version, without_serials, file_in, file_at, with_file, with_file_in}
 use Rattle.meaning.specs.Runs.{HaveDistinctSerials}
-use Rattle.meaning.specs.Stands.{Stands, place_of}
+use Rattle.meaning.specs.Stands.{place_of}
 use Rattle.meaning.specs.Step.{step}
 use Rattle.meaning.specs.declared.call.Call.TheVariants.{Close, Releas}
 use Rattle.meaning.specs.declared.call.Event.TheVariants.{Call as Calls}
@@ -37,7 +38,7 @@ use Rattle.monitor.specs.Publishing.{last_at, HasPublished, IsPublishing, Publis
 use Rattle.monitor.specs.Publishing.{StillStands}
 use Rattle.monitor.specs.Readers.{ArePinned, AreRead}
 use Rattle.monitor.specs.Renewing.{Renews, HoldsPublished}
-use Rattle.monitor.specs.Serving.{pack_of, IsState}
+use Rattle.monitor.specs.Serving.{pack_one, IsState}
 use Rattle.monitor.specs.Sides.{UnderKeys, readers, pins_of, input_of, output_of, jobs_of, state_of}
 use Rattle.monitor.specs.declared.channel.Channel.{Channel}
 use Rattle.monitor.specs.declared.input.Input.{Input}
@@ -140,7 +141,7 @@ module _ {d d' : DiskState} {c b : VolumeCore} {failed failed' : Bool} {reply : 
 
   -- A crash.
   module _ (sound : IsSoundCore d c failed) (alive : failed ≡ false) (idle : IsIdle reply → d'.honest
-      → (f : Files File) → RestsAt d f → LeavesOnly d d' (λ contents. Stands d.size contents f)) where
+      → (f : Files File) → RestsAt d f → LeavesOnly d d' (λ contents. StandsOn (pack_of d) contents f)) where
     pub close_crashes : (bits : ℕ) → keeps_output bits ≡ false → discards bits ≡ false
         → CrashesAsRow d d' c job (Close number bits)
     close_crashes bits drops publishes_it honest jobs n moment at timely s state =
@@ -179,7 +180,7 @@ module _ {d d' : DiskState} {c b : VolumeCore} {failed failed' : Bool} {reply : 
             (λ done last found place has serial fresh rests distinct reads. (
               state.under.read,
               reads_left d' b c' _ state.under.read (leaves done) reads,
-              subst (λ t. step (pack_of d) serial t (Calls n (Close number bits) moment)
+              subst (λ t. step (pack_one d) serial t (Calls n (Close number bits) moment)
                   ≡ (
                     Done,
                     state_of (with_file s.files (state.under.written key).place
@@ -203,7 +204,7 @@ module _ {d d' : DiskState} {c b : VolumeCore} {failed failed' : Bool} {reply : 
             (λ done last found place has serial fresh rests distinct reads. (
               state.under.read,
               reads_left d' b c' _ state.under.read (leaves done) reads,
-              subst (λ t. step (pack_of d) serial t (Calls n (Releas number) moment)
+              subst (λ t. step (pack_one d) serial t (Calls n (Releas number) moment)
                   ≡ (
                     Done,
                     state_of (with_file s.files (state.under.written key).place
@@ -225,7 +226,7 @@ module _ {d d' : DiskState} {c b : VolumeCore} {failed failed' : Bool} {reply : 
         module _ (jobs : List (Option Job)) (n : ℕ) (moment : Moment) (at : slot jobs n ≡ Some job)
             (timely : moment.date ≤ 4095) (s : State) (state : IsState d c jobs s) (honest : d'.honest) (last : List ℕ)
             (found : last_at job.core channel ≡ Some last)
-            (finds : finds_no_place (pack_of d) (state_of s.files state.under jobs) (output_of state.under o)
+            (finds : finds_no_place (pack_one d) (state_of s.files state.under jobs) (output_of state.under o)
             (length last) ≡ false) (serial : ℕ) (has : HasPublished d d' c b o last)
             (h : HoldsPublished d' c b c' key job job' number channel input) where
           abbrev w : UnderKeys
@@ -279,8 +280,8 @@ module _ {d d' : DiskState} {c b : VolumeCore} {failed failed' : Bool} {reply : 
                 ap (λ (i : Input). i.protection) h.renews.renewed_is ∙ (h.place p.0 p.1).2
                 ∙ sym (state.versions key p.0 p.1).protection
 
-            finds_still : finds_no_place (pack_of d) (state_of s.files u jobs) (output_of u o) (length last) ≡ false
-            finds_still = ap (λ js. finds_no_place (pack_of d) (record { files = s.files; jobs = js }) (output_of w o)
+            finds_still : finds_no_place (pack_one d) (state_of s.files u jobs) (output_of u o) (length last) ≡ false
+            finds_still = ap (λ js. finds_no_place (pack_one d) (record { files = s.files; jobs = js }) (output_of w o)
                 (length last)) jobs_same ∙ finds
 
             renewed_goes : GoesOn (Close number bits) moment jobs n job number channel o at there
@@ -290,7 +291,7 @@ module _ {d d' : DiskState} {c b : VolumeCore} {failed failed' : Bool} {reply : 
               with_read w.read h.renewed.pin.key x,
               renewed_reads b c' input h.renewed h.ppn h.file h.protection h.renews d' files' w.read reads h.whole x
                   it_is distinct answer,
-              subst (λ t. step (pack_of d) serial t (Calls n (Close number bits) moment)
+              subst (λ t. step (pack_one d) serial t (Calls n (Close number bits) moment)
                   ≡ (Done, state_of files' u (slice_set jobs n (Some job'))))
                   (sym (state_is s u jobs (state.jobs_are ∙ sym jobs_same)))
                   (close_step d jobs n moment timely job at number channel there o side bits drops publishes_it s.files

@@ -17,7 +17,7 @@ use Rattle.monitor.specs.Dropping.{OnlyDrops}
 use Rattle.monitor.specs.Events.{CallCrashes, IsIdle}
 use Rattle.monitor.specs.Publishing.{IsPublishing, IsPublishRow, CrashesAsRow, StillStands}
 use Rattle.monitor.specs.Rows.{ClosesSide, IsRow, KeepsSides, KeepsReading}
-use Rattle.monitor.specs.Serving.{pack_of, Serves, AreKeyed, ArePlaced, AreReading}
+use Rattle.monitor.specs.Serving.{pack_one, Serves, AreKeyed, ArePlaced, AreReading}
 use Rattle.monitor.specs.declared.channel.Channel.{Channel}
 use Rattle.monitor.specs.declared.output.Output.{Output}
 use Rattle.monitor.specs.declared.job.Job.{Job}
@@ -40,10 +40,10 @@ module _ (d d' : DiskState) (c c' : VolumeCore) (jobs jobs' : List (Option Job))
     (timely : moment.date ≤ 4095) where
   pub row_answered : (failed failed' : Bool) (call : Call) (reply : Reply) → failed ≡ false → ArePlaced c
       → d'.honest → IsPublishRow d d' c c' failed' job job' call reply → (old : Service) → Serves d c failed jobs old
-      → (new : Service) × Serves d' c' failed' jobs' new × Answers (pack_of d) old (Calls n call moment) reply new
+      → (new : Service) × Serves d' c' failed' jobs' new × Answers (pack_one d) old (Calls n call moment) reply new
   row_answered failed failed' call reply alive placed honest is =
       in_state d c failed jobs (λ old. (new : Service) × Serves d' c' failed' jobs' new
-      × Answers (pack_of d) old (Calls n call moment) reply new) alive (λ s state.
+      × Answers (pack_one d) old (Calls n call moment) reply new) alive (λ s state.
       let led = is honest placed jobs n moment there timely s state in
       (led.0, subst (λ js. Serves d' c' failed' js led.0) (sym set) led.1, led.2))
 
@@ -117,8 +117,8 @@ module _ (d : DiskState) (c c' : VolumeCore) (failed : Bool) (jobs jobs' : List 
 
   pub dropping_answered : (reply : Reply) → AreKeyed c.pending jobs → AreReading c.live jobs → OnlyDrops c c'
       → IsRow job job' call reply → (old : Service) → Serves d c failed jobs old
-      → (new : Service) × Serves d c' failed jobs' new × Answers (pack_of d) old (Calls n call moment) reply new
+      → (new : Service) × Serves d c' failed jobs' new × Answers (pack_one d) old (Calls n call moment) reply new
   dropping_answered reply keyed reading leaves is =
-      row d c c' failed jobs jobs' (dropping_keyed keyed) (dropping_reading reading) leaves (pack_of d)
+      row d c c' failed jobs jobs' (dropping_keyed keyed) (dropping_reading reading) leaves (pack_one d)
       (Calls n call moment) reply (row_is d c failed jobs n call moment alive timely jobs' job job' reply there set is)
       alive

@@ -9,11 +9,11 @@ use Rattle.blockdisk.specs.Laws.{leaves_weaker}
 use Rattle.meaning.specs.Cores.{lies_outside}
 use Rattle.meaning.specs.Files.{File, Files}
 use Rattle.meaning.specs.Jobs.{State, slot}
+use Rattle.meaning.specs.Layouts.{pack_of, StandsOn}
 use Rattle.meaning.specs.Maps.{remove, total}
 use Rattle.meaning.specs.Published.{without_serials}
 use Rattle.meaning.specs.Room.{pending_creations}
 use Rattle.meaning.specs.Runs.{Service, Broken, Answers, is_plain}
-use Rattle.meaning.specs.Stands.{Stands}
 use Rattle.meaning.specs.Step.{step}
 use Rattle.meaning.specs.declared.call.Call.TheVariants.{DeleteDir}
 use Rattle.meaning.specs.declared.call.Event.{Event}
@@ -32,7 +32,7 @@ use Rattle.monitor.specs.DeleteDirRows.{IsKeptBy, IsRemovable, IsDeleteDir}
 use Rattle.monitor.specs.DirectoryRows.{asked_owner}
 use Rattle.monitor.specs.Events.{CallCrashes, IsIdle}
 use Rattle.monitor.specs.Refusals.{with_code}
-use Rattle.monitor.specs.Serving.{pack_of, AreKeyed, ArePlaced, AreReading, IsState, Serves}
+use Rattle.monitor.specs.Serving.{pack_one, AreKeyed, ArePlaced, AreReading, IsState, Serves}
 use Rattle.monitor.specs.Sides.{state_of}
 use Rattle.monitor.specs.declared.job.Job.{Job}
 use Rattle.monitor.proofs.Answering.{in_state, goes_on, same_files, on_disk, state_is}
@@ -127,9 +127,9 @@ module _ {D : Type 0} (state_in : D → DiskState) (disk disk' : D) (c c' : Volu
     set_to : (x : Job) → job' ≡ x → slice_set jobs n (Some x) ≡ jobs'
     set_to x is = sym (set ∙ ap (λ j. slice_set jobs n (Some j)) is)
 
-    step_done : job' ≡ job → MayGo → (serial : ℕ) → step (pack_of d) serial s event ≡ (Done, after_removed)
+    step_done : job' ≡ job → MayGo → (serial : ℕ) → step (pack_one d) serial s event ≡ (Done, after_removed)
     step_done same (inside, free) serial =
-        from_before (λ y. step (pack_of d) serial y event ≡ (Done, after_removed))
+        from_before (λ y. step (pack_one d) serial y event ≡ (Done, after_removed))
         (row_done d s.files state.under jobs n job there e moment timely
         (may_delete d c s.files state.under jobs sound.whole holds creations owner honest state.files job e inside free)
         serial
@@ -137,18 +137,18 @@ module _ {D : Type 0} (state_in : D → DiskState) (disk disk' : D) (c c' : Volu
 
     step_refused : (code : ℕ) → job' ≡ with_code job e code → lies_outside job.core e 2 ≡ false
         → IsKeptBy d c job.ppn owner code → (serial : ℕ)
-        → step (pack_of d) serial s event ≡ (Refused code, after_kept)
+        → step (pack_one d) serial s event ≡ (Refused code, after_kept)
     step_refused code job_is inside why serial =
-        from_before (λ y. step (pack_of d) serial y event ≡ (Refused code, after_kept))
+        from_before (λ y. step (pack_one d) serial y event ≡ (Refused code, after_kept))
         (row_kept d s.files state.under jobs n job there e moment timely (Refused code) (with_code job e code)
         (refused_by d c s.files state.under jobs sound.whole holds creations owner honest state.files job e code inside
         why) (λ is. cc is) refl serial
         ∙ ap (λ js. (Refused code, state_of s.files state.under js)) (set_to (with_code job e code) job_is))
 
     step_checked : job' ≡ job → lies_outside job.core e 2 ≡ true → (serial : ℕ)
-        → step (pack_of d) serial s event ≡ (AddressCheck, after_kept)
+        → step (pack_one d) serial s event ≡ (AddressCheck, after_kept)
     step_checked same outside serial =
-        from_before (λ y. step (pack_of d) serial y event ≡ (AddressCheck, after_kept))
+        from_before (λ y. step (pack_one d) serial y event ≡ (AddressCheck, after_kept))
         (row_kept d s.files state.under jobs n job there e moment timely AddressCheck job
         (checked d c s.files state.under jobs sound.whole holds creations owner honest state.files job e outside)
         (λ is. cc is) refl serial
@@ -173,19 +173,19 @@ module _ {D : Type 0} (state_in : D → DiskState) (disk disk' : D) (c c' : Volu
   -- Crashes.
   module _ (was : d'.honest → d.honest) (only_now : d.honest → (x : Contents) → d.left_since d.clock x → MayLeave d x)
       (crash : d'.honest → (f : Files File) → RestsAt d f
-      → LeavesOnly d d' (StandsForOneOf d.size f (directory_removed f owner))) where
+      → LeavesOnly d d' (StandsForOneOf (pack_of d) f (directory_removed f owner))) where
     unmoved_crashes : Same → CallCrashes d d' c jobs n (DeleteDir e) moment
     unmoved_crashes same = subst (λ x. CallCrashes d (state_in x) c jobs n (DeleteDir e) moment) (sym same.0)
         (idle_crashes d c jobs n (DeleteDir e) moment only_now)
 
     removed_crashes : job' ≡ job → MayGo → CallCrashes d d' c jobs n (DeleteDir e) moment
     removed_crashes same may honest s state =
-        leaves_weaker d d' (StandsForOneOf d.size (without_serials s.files) _) _
+        leaves_weaker d d' (StandsForOneOf (pack_of d) (without_serials s.files) _) _
         (crash honest (without_serials s.files) state.files)
         (λ contents. ⊎_elim (λ old. inl old)
         (λ new. inr (
           0,
-          subst (Stands d.size contents) (sym (shown_removed s.files owner)
+          subst (StandsOn (pack_of d) contents) (sym (shown_removed s.files owner)
               ∙ ap (λ (r : Reply × State). without_serials r.1.files)
               (sym (step_done (was honest) s state same may 0))) new,
         )))
@@ -209,19 +209,19 @@ module _ {D : Type 0} (state_in : D → DiskState) (disk disk' : D) (c c' : Volu
       (reading' : AreReading c'.live jobs') (honest : d.honest) where
     abbrev Leads : Reply → Type 0
     Leads reply = (old : Service) → Serves d c failed jobs old → (new : Service) × Serves d' c' failed' jobs' new
-        × Answers (pack_of d) old event reply new
+        × Answers (pack_one d) old event reply new
 
     -- disk, volume and files are as they were
     kept : (reply : Reply) → Same → failed' ≡ false → ((s : State) (state : IsState d c jobs s) (serial : ℕ)
-        → step (pack_of d) serial s event ≡ (reply, after_kept honest s state)) → Leads reply
+        → step (pack_one d) serial s event ≡ (reply, after_kept honest s state)) → Leads reply
     kept reply same alive steps old stands =
-        on_disk state_in disk disk' failed failed' c' jobs' (Answers (pack_of d) old event reply)
+        on_disk state_in disk disk' failed failed' c' jobs' (Answers (pack_one d) old event reply)
         (same.0, alive ∙ sym serves)
-        (subst (λ m. (new : Service) × Serves d m failed jobs' new × Answers (pack_of d) old event reply new)
+        (subst (λ m. (new : Service) × Serves d m failed jobs' new × Answers (pack_one d) old event reply new)
         (sym same.1)
         (in_state d c failed jobs (λ x. (new : Service) × Serves d c failed jobs' new
-        × Answers (pack_of d) x event reply new) serves
-        (λ s state. goes_on d c failed jobs' (pack_of d) event reply s (after_kept honest s state) serves state.sound
+        × Answers (pack_one d) x event reply new) serves
+        (λ s state. goes_on d c failed jobs' (pack_one d) event reply s (after_kept honest s state) serves state.sound
         (steps s state)
         (same_files d c c failed jobs jobs' (subst (λ m. AreKeyed m.pending jobs') same.1 keyed')
         (subst (λ m. AreReading m.live jobs') same.1 reading') (leaves_none c) s state)) old stands))
@@ -235,12 +235,12 @@ module _ {D : Type 0} (state_in : D → DiskState) (disk disk' : D) (c c' : Volu
           → ((f : Files File) → RestsAt d f → reply ≡ Done → RestsAt d' (directory_removed f owner)) → Leads reply
       delete_dir_answered Done (job_is, inside, free) fails done =
           in_state d c failed jobs (λ old. (new : Service) × Serves d' c' failed' jobs' new
-          × Answers (pack_of d) old event Done new) serves
+          × Answers (pack_one d) old event Done new) serves
           (λ s state.
           let alive = not_failed failed' Done fails (λ is. cc is) in
           let bare = empty_one d c s.files state.under jobs sound.whole (holds honest s state)
           (creations honest s state) owner honest state.files job.ppn free in
-          goes_on d' c' failed' jobs' (pack_of d) event Done s (after_removed honest s state) alive state.sound
+          goes_on d' c' failed' jobs' (pack_one d) event Done s (after_removed honest s state) alive state.sound
           (step_done honest s state job_is (inside, free))
           (removed_state d d' c c' jobs jobs' s state keyed' reading' live pending primes (readers alive)
           (writers alive) owner bare.0 bare.1 bare.2 (done (without_serials s.files) state.files refl)))
@@ -252,7 +252,7 @@ module _ {D : Type 0} (state_in : D → DiskState) (disk disk' : D) (c c' : Volu
           (λ s state. step_checked honest s state job_is outside)
       delete_dir_answered Device (job_is, inside, free) fails done =
           in_state d c failed jobs (λ old. (new : Service) × Serves d' c' failed' jobs' new
-          × Answers (pack_of d) old event Device new) serves
+          × Answers (pack_one d) old event Device new) serves
           (λ s state. (
             Broken,
             fails.1 refl,

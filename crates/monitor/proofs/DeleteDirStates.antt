@@ -28,7 +28,7 @@ use Rattle.volume.specs.RemovingDirectories.{directory_removed}
 use Rattle.volume.specs.Rest.{RestsAt, KeepsRead, KeepsEachWritten}
 use Rattle.volume.specs.declared.pending.PendingVersion.{PendingVersion}
 use Rattle.monitor.specs.DirectoryRows.{asked_owner}
-use Rattle.monitor.specs.Serving.{pack_of, AreKeyed, AreReading, IsState}
+use Rattle.monitor.specs.Serving.{pack_one, AreKeyed, AreReading, IsState}
 use Rattle.monitor.specs.Sides.{UnderKeys, job_of, state_of}
 use Rattle.monitor.specs.declared.job.Job.{Job}
 use Rattle.monitor.proofs.Answering.{job_set, called, settled_with}
@@ -54,18 +54,18 @@ module _ (d : DiskState) (files : Files Version) (w : UnderKeys) (jobs : List (O
   abbrev answer : Reply
   answer = remove_answer t (job_of w job) e (asked_owner job.core e)
 
-  asks : (serial : ℕ) → step (pack_of d) serial t (Calls n (DeleteDir e) moment) ≡ by_answer answer
+  asks : (serial : ℕ) → step (pack_one d) serial t (Calls n (DeleteDir e) moment) ≡ by_answer answer
   asks serial = called d jobs n (DeleteDir e) moment serial files w timely job there
 
   pub row_done : answer ≡ Done → (serial : ℕ)
-      → step (pack_of d) serial t (Calls n (DeleteDir e) moment)
+      → step (pack_one d) serial t (Calls n (DeleteDir e) moment)
       ≡ (Done, state_of removed w (slice_set jobs n (Some job)))
   row_done is serial = asks serial ∙ ap by_answer is ∙ ap (λ x. (Done, x)) (job_set removed w jobs n job)
 
   -- another answer
   pub row_kept : (reply : Reply) (job' : Job) → answer ≡ reply → (reply ≡ Done → ⊥)
       → refused_at (job_of w job) e reply ≡ job_of w job' → (serial : ℕ)
-      → step (pack_of d) serial t (Calls n (DeleteDir e) moment)
+      → step (pack_one d) serial t (Calls n (DeleteDir e) moment)
       ≡ (reply, state_of files w (slice_set jobs n (Some job')))
   row_kept reply job' is not_done left serial =
       asks serial ∙ ap by_answer is ∙ ap (of_files t n) (settled_with reply (job_of w job, removed)

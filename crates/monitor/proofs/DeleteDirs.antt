@@ -13,6 +13,7 @@ use Rattle.meaning.specs.Codes.{number_of}
 use Rattle.meaning.specs.Directories.{FileEntry}
 use Rattle.meaning.specs.Faults.{IsMasterEntryOf}
 use Rattle.meaning.specs.Files.{File, Files, name_cmp}
+use Rattle.meaning.specs.Layouts.{pack_of}
 use Rattle.meaning.specs.Maps.{get, total}
 use Rattle.meaning.specs.declared.code.ErrorCode.{ErrorCode}
 use Rattle.meaning.specs.declared.code.ErrorCode.TheVariants.{NoDirectory, NotEmpty}
@@ -33,9 +34,9 @@ use Rattle.monitor.specs.Serving.{ArePlaced}
 
 -- The directory that is deleted is the one asked for.
 module _ (d d' : DiskState) (owner asked : ℕ) (whose : owner ≡ asked) (f : Files File) where
-  pub crash_asked : LeavesOnly d d' (StandsForOneOf d.size f (directory_removed f owner))
-      → LeavesOnly d d' (StandsForOneOf d.size f (directory_removed f asked))
-  crash_asked leaves = subst (λ n. LeavesOnly d d' (StandsForOneOf d.size f (directory_removed f n))) whose leaves
+  pub crash_asked : LeavesOnly d d' (StandsForOneOf (pack_of d) f (directory_removed f owner))
+      → LeavesOnly d d' (StandsForOneOf (pack_of d) f (directory_removed f asked))
+  crash_asked leaves = subst (λ n. LeavesOnly d d' (StandsForOneOf (pack_of d) f (directory_removed f n))) whose leaves
 
   pub done_asked : RestsAt d' (directory_removed f owner) → RestsAt d' (directory_removed f asked)
   done_asked rests = subst (λ n. RestsAt d' (directory_removed f n)) whose rests

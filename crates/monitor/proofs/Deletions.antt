@@ -9,6 +9,7 @@ use Rattle.words36.specs.declared.moment.Moment.{Moment}
 use Rattle.words36.specs.declared.names.FileName.{FileName}
 use Rattle.blockdisk.specs.Disk.{Contents, DiskState, MayLeave, LeavesOnly, SameDisk, one_more}
 use Rattle.blockdisk.specs.Laws.{leaves_weaker}
+use Rattle.meaning.specs.Layouts.{pack_of, StandsOn}
 use Rattle.meaning.specs.declared.code.ErrorCode.{ErrorCode}
 use Rattle.meaning.specs.declared.code.ErrorCode.TheVariants.{NoDirectory, NotFound}
 use Rattle.meaning.specs.declared.put.Put.{Put}
@@ -21,7 +22,7 @@ use Rattle.meaning.specs.Maps.{get}
 use Rattle.meaning.specs.Published.{Version, without_serials, file_in, file_at, without_file}
 use Rattle.meaning.specs.Renaming.{deletes_at, rename_from, move_answer, files_moved, protection_at}
 use Rattle.meaning.specs.Runs.{Service, Broken, Answers, is_plain}
-use Rattle.meaning.specs.Stands.{Stands, place_of}
+use Rattle.meaning.specs.Stands.{place_of}
 use Rattle.meaning.specs.Step.{step}
 use Rattle.meaning.specs.declared.call.Call.TheVariants.{Rename}
 use Rattle.meaning.specs.declared.call.Event.TheVariants.{Call as Calls}
@@ -45,7 +46,7 @@ use Rattle.monitor.specs.Events.{CallCrashes}
 use Rattle.monitor.specs.Finding.{IsKnown}
 use Rattle.monitor.specs.Promises.{IsAmong, IsServing}
 use Rattle.monitor.specs.Refusals.{with_code}
-use Rattle.monitor.specs.Serving.{pack_of, AreKeyed, ArePlaced, AreReading, IsState, Serves}
+use Rattle.monitor.specs.Serving.{pack_one, AreKeyed, ArePlaced, AreReading, IsState, Serves}
 use Rattle.monitor.specs.Sides.{UnderKeys, sides_in, job_of, state_of}
 use Rattle.monitor.specs.declared.channel.Channel.{Channel}
 use Rattle.monitor.specs.declared.input.Input.{Input}
@@ -70,7 +71,7 @@ use Rattle.monitor.proofs.RenameRows.{row_done}
 pub record Deletes (d d' : DiskState) (c b : VolumeCore) (Same : Type 0) (failed failed' : Bool) (ppn : ℕ)
     (name : FileName) (result : Result (Unit {0}) CallError) : Type 0 where
   pub crash : d'.honest → (f : Files File) → RestsAt d f
-      → LeavesOnly d d' (StandsForOneOf d.size f (files_removed f ppn name))
+      → LeavesOnly d d' (StandsForOneOf (pack_of d) f (files_removed f ppn name))
   pub done : d'.honest → (f : Files File) → RestsAt d f → OnOk result (RestsAt d' (files_removed f ppn name))
   pub removed : OnOk result ((key : ℕ) × (v : LiveVersion) × (puts : List Put)
       × RemovesFile d.size c b ppn name key v puts)
@@ -158,14 +159,14 @@ module _ {D : Type 0} (state : D → DiskState) (only_now : (disk : D) (contents
     deletes : deletes_at (job_of w job) e ≡ true
     deletes = eq-eqb (slice_index job.core e) 0 zero
 
-    answer : rename_from (pack_of d) before (job_of w job) e place ≡ replies.Done
-    answer = rename_goes_on before (job_of w job) e place (pack_of d) allowed
-        ∙ ap (λ b. if b then replies.Done else move_answer (pack_of d) before (job_of w job) place
+    answer : rename_from (pack_one d) before (job_of w job) e place ≡ replies.Done
+    answer = rename_goes_on before (job_of w job) e place (pack_one d) allowed
+        ∙ ap (λ b. if b then replies.Done else move_answer (pack_one d) before (job_of w job) place
         (place_at (job_of w job) e)) deletes
 
-    step_done : (serial : ℕ) → step (pack_of d) serial s (Calls n (Rename number e) moment)
+    step_done : (serial : ℕ) → step (pack_one d) serial s (Calls n (Rename number e) moment)
         ≡ (replies.Done, state_of (without_file s.files place) w (slice_set jobs n (Some closed)))
-    step_done serial = subst (λ t. step (pack_of d) serial t (Calls n (Rename number e) moment)
+    step_done serial = subst (λ t. step (pack_one d) serial t (Calls n (Rename number e) moment)
         ≡ (replies.Done, state_of (without_file s.files place) w (slice_set jobs n (Some closed)))) (sym before_is)
         (row_done d s.files w jobs n job among.there number e moment timely channel is_open input side free inside
         answer serial
@@ -176,7 +177,7 @@ module _ {D : Type 0} (state : D → DiskState) (only_now : (disk : D) (contents
               (slice_set jobs n (Some closed)),
         )) deletes)
 
-    undecided : is_plain ((step (pack_of d) 0 s (Calls n (Rename number e) moment)).0) ≡ false
+    undecided : is_plain ((step (pack_one d) 0 s (Calls n (Rename number e) moment)).0) ≡ false
     undecided = ap (λ (r : Reply × State). is_plain r.0) (step_done 0)
 
     never_refused : (code : ErrorCode) → IsErrOf result (Refused code) → ⊥
@@ -187,12 +188,12 @@ module _ {D : Type 0} (state : D → DiskState) (only_now : (disk : D) (contents
 
   crashes : CallCrashes d d' c jobs n (Rename number e) moment
   crashes honest s state_s =
-      leaves_weaker d d' (StandsForOneOf d.size (without_serials s.files) _) _
+      leaves_weaker d d' (StandsForOneOf (pack_of d) (without_serials s.files) _) _
       (is.crash honest (without_serials s.files) state_s.files)
       (λ contents. ⊎_elim (λ was. inl was)
       (λ new. inr (
         0,
-        subst (Stands d.size contents) (sym (files_left s.files place)
+        subst (StandsOn (pack_of d) contents) (sym (files_left s.files place)
             ∙ ap (λ (r : Reply × State). without_serials r.1.files)
             (sym (step_done (is.same.was_honest honest) s state_s 0))) new,
       )))
@@ -224,11 +225,11 @@ module _ {D : Type 0} (state : D → DiskState) (only_now : (disk : D) (contents
         others = λ m other. slot-set_other jobs n m (Some closed) other;
         answered = λ honest. in_state d c false jobs (λ old. (new : Service)
             × Serves d' c' failed' (slice_set jobs n (Some closed)) new
-            × Answers (pack_of d) old (Calls n (Rename number e) moment) replies.Done new) refl
+            × Answers (pack_one d) old (Calls n (Rename number e) moment) replies.Done new) refl
             (λ s state_s.
             let was = is.same.was_honest honest in
             let x = there was s state_s in
-            goes_on d' c' failed' (slice_set jobs n (Some closed)) (pack_of d) (Calls n (Rename number e) moment)
+            goes_on d' c' failed' (slice_set jobs n (Some closed)) (pack_one d) (Calls n (Rename number e) moment)
             replies.Done s (state_of (without_file s.files place) state_s.under (slice_set jobs n (Some closed)))
             serves' state_s.sound (step_done was s state_s)
             (deleted_state d d' c b c' jobs n job closed among.there input.ppn input.file key v puts removes behind s
@@ -267,7 +268,7 @@ module _ {D : Type 0} (state : D → DiskState) (only_now : (disk : D) (contents
       (keeps_reading c.live c.live jobs n job job' among.reading among.there (reading_same c c job job' refl refl)))
       (λ honest. in_state d c false jobs (λ old. (new : Service)
       × Serves d c' false (slice_set jobs n (Some job')) new
-      × Answers (pack_of d) old (Calls n (Rename number e) moment) (replies.Refused (number_of code)) new) refl
+      × Answers (pack_one d) old (Calls n (Rename number e) moment) (replies.Refused (number_of code)) new) refl
       (λ s state_s. absurd (never_refused (is.same.was_honest honest) s state_s code error)))
 
   -- The device failed.
@@ -279,7 +280,7 @@ module _ {D : Type 0} (state : D → DiskState) (only_now : (disk : D) (contents
     others = λ m other. slot-set_other jobs n m (Some job) other;
     answered = λ honest. in_state d c false jobs (λ old. (new : Service)
         × Serves d' c' failed' (slice_set jobs n (Some job)) new
-        × Answers (pack_of d) old (Calls n (Rename number e) moment) replies.Device new) refl
+        × Answers (pack_one d) old (Calls n (Rename number e) moment) replies.Device new) refl
         (λ s state_s. (Broken, is.device error, (refl, undecided (is.same.was_honest honest) s state_s, refl)));
     crash = crashes;
     idle = λ idle. absurd idle;

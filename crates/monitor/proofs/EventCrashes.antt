@@ -1,5 +1,5 @@
 -- A crash at any moment of an event finds the files from before it, or those after it.
-use Rattle.std.proofs.Common.{◌≡◌, inl, inr, ⊎_elim, ℕ, List, Option, refl, sym, subst}
+use Rattle.std.proofs.Common.{◌≡◌, inl, inr, ⊎_elim, ℕ, List, Option, refl, sym, ap, subst, ◌∙◌}
 use Rattle.std.specs.Prelude.{IsTrue}
 use Rattle.words36.specs.declared.moment.Moment.{Moment}
 use Rattle.blockdisk.specs.Disk.{Contents, DiskState, MayLeave, LeavesOnly}
@@ -7,8 +7,9 @@ use Rattle.blockdisk.specs.Laws.{leaves_weaker}
 use Rattle.changeset.specs.Rest.{rest_settles}
 use Rattle.meaning.specs.Crashes.{may_change, StandsForState, StandsForEither}
 use Rattle.meaning.specs.Jobs.{State}
+use Rattle.meaning.specs.Layouts.{pack_of, SettledStandsOn, StandsOn}
 use Rattle.meaning.specs.Published.{without_serials}
-use Rattle.meaning.specs.Stands.{Stands, SettledStands}
+use Rattle.meaning.specs.Step.{step}
 use Rattle.meaning.specs.declared.call.Call.{Call}
 use Rattle.meaning.specs.declared.call.Event.{Event}
 use Rattle.meaning.specs.declared.call.Event.TheVariants.{Call as Calls}
@@ -18,14 +19,15 @@ use Rattle.meaning.specs.declared.call.Reply.TheVariants.{NoMemory, Device, Fail
 use Rattle.meaning.proofs.SerialLaws as serials
 use Rattle.volume.specs.Live.{VolumeCore}
 use Rattle.monitor.specs.Events.{CallCrashes, IsIdle, OfCall}
-use Rattle.monitor.specs.Serving.{pack_of, IsState}
+use Rattle.monitor.specs.Serving.{pack_one, IsState}
 use Rattle.monitor.specs.declared.job.Job.{Job}
+use Rattle.monitor.proofs.ServedPacks.{state_pack}
 use Rattle.monitor.proofs.Untouched.{untouched_leaves}
 
 -- whatever a crash may leave stands for the files of the state that the monitor stands for
 pub state_stands : (d : DiskState) (map : VolumeCore) (jobs : List (Option Job)) (s : State) → IsState d map jobs s
     → (c : Contents) → MayLeave d c → StandsForState (pack_of d) s c
-state_stands d map jobs s is c left = rest_settles d (λ x. SettledStands d.size x (without_serials s.files))
+state_stands d map jobs s is c left = rest_settles d (λ x. SettledStandsOn (pack_of d) x (without_serials s.files))
     is.files c left
 
 -- an event that leaves the disk alone
@@ -46,7 +48,12 @@ pub changing_event : (d d' : DiskState) (map : VolumeCore) (jobs : List (Option 
 changing_event d d' map jobs n call moment reply may crash honest s is =
     leaves_weaker d d' _ (StandsForEither (pack_of d) s (Calls n call moment) reply) (crash honest s is)
     (λ c. ⊎_elim (λ was. inl was) (λ after.
-    inr (may, subst (Stands d.size c) (serials.same_files (pack_of d) after.0 0 s (Calls n call moment)) after.1)))
+    inr (may, subst (StandsOn (pack_of d) c) (same_files after.0) after.1)))
+  where
+    same_files : (serial : ℕ) → without_serials ((step (pack_one d) serial s (Calls n call moment)).1.files)
+        ≡ without_serials ((step (pack_of d) 0 s (Calls n call moment)).1.files)
+    same_files serial = ap (λ p. without_serials ((step p serial s (Calls n call moment)).1.files))
+        (sym (state_pack d map jobs s is)) ∙ serials.same_files (pack_of d) serial 0 s (Calls n call moment)
 
 module _ {D : Type 0} (state : D → DiskState) (only_now : (disk : D) (contents : Contents) → (state disk).honest
     → (state disk).left_since (state disk).clock contents → MayLeave (state disk) contents)

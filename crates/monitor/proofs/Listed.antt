@@ -5,6 +5,7 @@ use Rattle.std.specs.List.{AllByRecursion}
 use Rattle.blockdisk.specs.Disk.{DiskState, LeavesOnly, SameDisk, one_more}
 use Rattle.meaning.specs.Crashes.{StandsForState, StandsForEither, RunsOn}
 use Rattle.meaning.specs.Jobs.{State}
+use Rattle.meaning.specs.Layouts.{pack_of}
 use Rattle.meaning.specs.Room.{Pack}
 use Rattle.meaning.specs.Runs.{Service, Serving, Broken, Answers}
 use Rattle.meaning.specs.declared.call.Reply.{Reply}
@@ -13,10 +14,11 @@ use Rattle.meaning.specs.declared.call.Reply.TheVariants.{NoMemory, Device, Fail
 use Rattle.meaning.proofs.CrashLaws.{runs_start, runs_served, runs_failed, runs_stay}
 use Rattle.monitor.specs.Moments.{StandsNow, RunsBy, HoldsStill, last_of}
 use Rattle.monitor.specs.Runs.{TellsFault, FailsOnce}
-use Rattle.monitor.specs.Serving.{pack_of, Serves}
+use Rattle.monitor.specs.Serving.{Serves}
 use Rattle.monitor.specs.States.{MonitorState}
 use Rattle.meaning.specs.declared.call.Event.{Event}
 use Rattle.monitor.proofs.EventCrashes.{state_stands}
+use Rattle.monitor.proofs.ServedPacks.{event_keeps_pack}
 use Rattle.monitor.proofs.MomentRuns.{last_more, by_through, by_start, by_more, by_stay}
 use Rattle.monitor.proofs.Stills.{holds_still}
 
@@ -71,11 +73,12 @@ once_more (r ∷ replies) reply once later = (
 
 -- The run.
 
--- the disk of a monitor, by how many blocks it has
-abbrev pack_with : ℕ → Pack
-pack_with n = record { layout = 1; blocks = n }
-
 module _ {D : Type 0} (state : D → DiskState) where
+  -- while the service serves, its disk has the pack that it had at the beginning
+  abbrev IsPackKept : MonitorState D → MonitorState D → Service → Type 0
+  IsPackKept first now Broken = Unit {0}
+  IsPackKept first now (Serving s) = pack_of (state now.disk) ≡ pack_of (state first.disk)
+
   -- the run of these events from the value `first` on, by way of these services, which has led to the value `now`
   abbrev pub RunsTo : MonitorState D → MonitorState D → State → List Event → List Reply → List Service → Type 0
   RunsTo first now s events replies services =
@@ -88,7 +91,7 @@ module _ {D : Type 0} (state : D → DiskState) where
   Ran first now events replies =
       (state now.disk).honest → (s : State) → Serves (state first.disk) first.map first.failed first.jobs (Serving s)
       → (services : List Service) × Serves (state now.disk) now.map now.failed now.jobs (last_of (Serving s) services)
-      × RunsTo first now s events replies services
+      × RunsTo first now s events replies services × IsPackKept first now (last_of (Serving s) services)
 
   pub ran_start : (first : MonitorState D) → Ran first first [] []
   ran_start first h s serves =
@@ -99,6 +102,7 @@ module _ {D : Type 0} (state : D → DiskState) where
           runs_start (pack_of (state first.disk)) (state first.disk) s stands,
           by_start state (pack_of (state first.disk)) first.disk s stands,
         ),
+        refl,
       )
 
   -- reading holds still along it
@@ -159,10 +163,11 @@ module _ {D : Type 0} (state : D → DiskState) where
     Goal s =
         (services : List Service) × Serves d' new.map new.failed new.jobs (last_of (Serving s) services)
         × RunsTo first new s (events ++ event ∷ []) (replies ++ reply ∷ []) services
+        × IsPackKept first new (last_of (Serving s) services)
 
     led_on : (s : State) (services : List Service) (t : Service) → Serves d' new.map new.failed new.jobs t
-        → More new s services reply t → Goal s
-    led_on s services t serves more =
+        → More new s services reply t → IsPackKept first new t → Goal s
+    led_on s services t serves more kept =
         let spelled = sym (events_more events event) in
         let last = sym (last_more (Serving s) services t) in (
           services ++ t ∷ [],
@@ -175,6 +180,7 @@ module _ {D : Type 0} (state : D → DiskState) where
             subst (λ es. RunsBy state pack first.disk (Serving s) es (replies ++ reply ∷ []) (services
                 ++ t ∷ []) new.disk) spelled more.1,
           ),
+          subst (IsPackKept first new) last kept,
         )
 
     stayed : (s : State) (services : List Service) → old.failed ≡ true → last_of (Serving s) services ≡ Broken
@@ -186,48 +192,46 @@ module _ {D : Type 0} (state : D → DiskState) where
           runs_stay pack d (state first.disk).clock (Serving s) events replies event
               (subst (λ x. RunsOn pack d (state first.disk).clock (Serving s) events replies x) last runs.0),
           by_stay state pack first.disk old.disk (Serving s) events replies services event runs.1 last,
-        )))
+        ))) tt
 
-    went_on : (s u : State) (services : List Service) → SameDisk (state first.disk) d'
+    went_on : (s u : State) (services : List Service) → SameDisk d d' → pack_of d ≡ pack
         → last_of (Serving s) services ≡ Serving u
         → RunsTo first old s events replies services → LeavesOnly d d' (StandsForEither pack u event reply)
         → (t : Service) → Serves d' new.map new.failed new.jobs t → Answers pack (Serving u) event reply t → Goal s
-    went_on s u services same last runs leaves Broken serves a = led_on s services Broken serves (
+    went_on s u services same was last runs leaves Broken serves a = led_on s services Broken serves (
       runs_failed pack d d' u event reply leaves (state first.disk).clock (Serving s) events replies
           (subst (λ x. RunsOn pack d (state first.disk).clock (Serving s) events replies x) last runs.0) a,
       by_more state pack old.disk new.disk u event reply Broken a leaves (refl, tt) first.disk
           (Serving s) events replies services runs.1 last,
-    )
-    went_on s u services same last runs leaves (Serving v) serves a =
-        let stands : StandsNow pack d' v = λ c left. subst (λ p. StandsForState p v c) (ap pack_with same.size)
+    ) tt
+    went_on s u services same was last runs leaves (Serving v) serves a =
+        let kept : pack_of d' ≡ pack = event_keeps_pack d d' new.map new.jobs u v event reply same.size
+        (subst (λ p. LeavesOnly d d' (StandsForEither p u event reply)) (sym was) leaves) serves.1 ∙ was in
+        let stands : StandsNow pack d' v = λ c left. subst (λ p. StandsForState p v c) kept
         (state_stands d' new.map new.jobs v serves.1 c left) in
         led_on s services (Serving v) serves (
           runs_served pack d d' u event reply leaves v (state first.disk).clock (Serving s) events replies
               (subst (λ x. RunsOn pack d (state first.disk).clock (Serving s) events replies x) last runs.0) a stands,
           by_more state pack old.disk new.disk u event reply (Serving v) a leaves (refl, stands) first.disk
               (Serving s) events replies services runs.1 last,
-        )
+        ) kept
 
-    pub ran_more : SameDisk (state first.disk) d → SameDisk (state first.disk) d'
-        → SameDisk d d' → IsAnswered → Crashes → Stays → Ran first old events replies
+    pub ran_more : SameDisk d d' → IsAnswered → Crashes → Stays → Ran first old events replies
         → Ran first new (events ++ event ∷ []) (replies ++ reply ∷ [])
-    ran_more same same' once answered crash stays ran h s serves =
+    ran_more once answered crash stays ran h s serves =
         let led = ran (once.was_honest h) s serves in
         let last = last_of (Serving s) led.0 in
-        on led.0 last refl led.1 led.2
+        on led.0 last refl led.1 led.2 led.3
       where
-        size : pack_of d ≡ pack
-        size = ap pack_with same.size
-
         on : (services : List Service) (mid : Service) → last_of (Serving s) services ≡ mid
             → Serves d old.map old.failed old.jobs mid
-            → RunsTo first old s events replies services → Goal s
-        on services Broken last failed runs = stayed s services failed last runs (stays failed)
-        on services (Serving u) last mid runs =
+            → RunsTo first old s events replies services → IsPackKept first old mid → Goal s
+        on services Broken last failed runs kept = stayed s services failed last runs (stays failed)
+        on services (Serving u) last mid runs kept =
             let after = answered h (Serving u) mid in
-            went_on s u services same' last runs (subst (λ p. LeavesOnly d d' (StandsForEither p u event reply)) size
+            went_on s u services once kept last runs (subst (λ p. LeavesOnly d d' (StandsForEither p u event reply)) kept
             (crash h u mid)) after.0 after.1
-            (subst (λ p. Answers p (Serving u) event reply after.0) size after.2)
+            (subst (λ p. Answers p (Serving u) event reply after.0) kept after.2)
 
     -- Faults of the device.
 

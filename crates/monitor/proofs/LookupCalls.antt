@@ -28,7 +28,7 @@ use Rattle.monitor.specs.Finding.{IsKnown}
 use Rattle.monitor.specs.LookingUp.{looking, IsLookingUp, IsLookedUp, IsLookupRow}
 use Rattle.monitor.specs.Readers.{readers_of, AreRead}
 use Rattle.monitor.specs.Rows.{KeepsReading}
-use Rattle.monitor.specs.Serving.{pack_of, AreKeyed, AreReading, IsState, Serves}
+use Rattle.monitor.specs.Serving.{pack_one, AreKeyed, AreReading, IsState, Serves}
 use Rattle.monitor.specs.Sides.{UnderKeys, side_of, sides_in, reader_of, readers_in, readers, input_of, channel_of}
 use Rattle.monitor.specs.Sides.{job_of, jobs_of, state_of}
 use Rattle.monitor.specs.declared.channel.Channel.{Channel}
@@ -156,15 +156,15 @@ module _ (d : DiskState) (map between map' : VolumeCore) (jobs jobs' : List (Opt
         ((e + 3, size_word (length found.version.file.body)) ∷ [])
 
     -- the row
-    row_is : (serial : ℕ) → step (pack_of d) serial t (Calls n (Lookup ch e) moment) ≡ (Done, state_of s.files w jobs')
+    row_is : (serial : ℕ) → step (pack_one d) serial t (Calls n (Lookup ch e) moment) ≡ (Done, state_of s.files w jobs')
     row_is serial =
         called d jobs n (Lookup ch e) moment serial s.files w timely job there
-        ∙ ap (λ o. on_channel t o (λ y. of_job t n (lookup (pack_of d) t (job_of w job) ch y e)))
+        ∙ ap (λ o. on_channel t o (λ y. of_job t n (lookup (pack_one d) t (job_of w job) ch y e)))
         (channel_is w job ch (Some c) looks.there)
         ∙ ap (of_job t n)
-        (ap (λ r. settled r (lookup_done (pack_of d) t (job_of w job) ch (channel_of w c) e (place_at (job_of w job) e))
+        (ap (λ r. settled r (lookup_done (pack_one d) t (job_of w job) ch (channel_of w c) e (place_at (job_of w job) e))
         (refused_at (job_of w job) e)) answer
-        ∙ ap (λ o. (Done, looked_up (pack_of d) (job_of w job) ch (channel_of w c) e (place_at (job_of w job) e) o))
+        ∙ ap (λ o. (Done, looked_up (pack_one d) (job_of w job) ch (channel_of w c) e (place_at (job_of w job) e) o))
         (ap (file_at s.files) (sym (looks.place w)) ∙ found.there)
         ∙ ap (λ (y : machine.Input). (
           Done,
@@ -187,11 +187,11 @@ module _ (d : DiskState) (map between map' : VolumeCore) (jobs jobs' : List (Opt
         between key state.serials looks.holds.pinned looks.holds.others looks.holds.core looks.holds.at found.held)
 
     pub looked_leads : (failed : Bool) → failed ≡ false → map'.pending ≡ map.pending → (new : Service)
-        × Serves d map' failed jobs' new × Answers (pack_of d) (Serving s) (Calls n (Lookup ch e) moment) Done new
+        × Serves d map' failed jobs' new × Answers (pack_one d) (Serving s) (Calls n (Lookup ch e) moment) Done new
     looked_leads failed serves pending =
-        goes_on d map' failed jobs' (pack_of d) (Calls n (Lookup ch e) moment) Done s
+        goes_on d map' failed jobs' (pack_one d) (Calls n (Lookup ch e) moment) Done s
         (state_of s.files w jobs') serves state.sound
-        (λ serial. subst (λ y. step (pack_of d) serial y (Calls n (Lookup ch e) moment)
+        (λ serial. subst (λ y. step (pack_one d) serial y (Calls n (Lookup ch e) moment)
         ≡ (Done, state_of s.files w jobs')) (sym t_is) (row_is serial))
         (λ still. record {
           files = state.files;
@@ -223,7 +223,7 @@ module _ (d : DiskState) (map : VolumeCore) (jobs jobs' : List (Option Job)) (n 
 
     -- on the channel
     abbrev row_for : Option machine.Channel → Reply × State
-    row_for o = on_channel before o (λ y. of_job before n (lookup (pack_of d) before (job_of state.under job) ch y e))
+    row_for o = on_channel before o (λ y. of_job before n (lookup (pack_one d) before (job_of state.under job) ch y e))
 
     by_channel : (o : Option machine.Channel)
         → IsLookupRow before (job_of state.under job) (job_of state.under job') o e reply
@@ -232,17 +232,17 @@ module _ (d : DiskState) (map : VolumeCore) (jobs jobs' : List (Option Job)) (n 
         ∙ ap (λ y. (reply, y)) (job_same before n (job_of state.under job) (slot_of state.under jobs n (Some job) there)
         ∙ ap (with_job before n) (sym is.1))
     by_channel (Some x) is =
-        ap (of_job before n) (ap (λ r. settled r (lookup_done (pack_of d) before (job_of state.under job) ch x e
+        ap (of_job before n) (ap (λ r. settled r (lookup_done (pack_one d) before (job_of state.under job) ch x e
         (place_at (job_of state.under job) e)) (refused_at (job_of state.under job) e)) is.0
         ∙ settled_with reply _ (refused_at (job_of state.under job) e) not_done
         ∙ ap (λ j. (reply, j)) (sym (is.1 not_done)))
 
     pub other_leads : (failed : Bool) → failed ≡ false → (new : Service) × Serves d map failed jobs' new
-        × Answers (pack_of d) (Serving s) (Calls n (Lookup ch e) moment) reply new
+        × Answers (pack_one d) (Serving s) (Calls n (Lookup ch e) moment) reply new
     other_leads failed serves =
-        goes_on d map failed jobs' (pack_of d) (Calls n (Lookup ch e) moment) reply s
+        goes_on d map failed jobs' (pack_one d) (Calls n (Lookup ch e) moment) reply s
         (state_of s.files state.under jobs') serves state.sound
-        (λ serial. subst (λ y. step (pack_of d) serial y (Calls n (Lookup ch e) moment)
+        (λ serial. subst (λ y. step (pack_one d) serial y (Calls n (Lookup ch e) moment)
         ≡ (reply, state_of s.files state.under jobs')) (sym before_is)
         (called d jobs n (Lookup ch e) moment serial s.files state.under timely job there
         ∙ by_channel (channel_at (job_of state.under job) ch)
@@ -282,20 +282,20 @@ module _ (d d' : DiskState) (map map' : VolumeCore) (jobs jobs' : List (Option J
       → ((s : State) → IsKnown d map s → (w : UnderKeys)
       → IsLookupRow s (job_of w job) (job_of w job') (channel_at (job_of w job) ch) e reply)
       → (old : Service) → Serves d map failed jobs old → (new : Service) × Serves d map' failed jobs' new
-      × Answers (pack_of d) old (Calls n (Lookup ch e) moment) reply new
+      × Answers (pack_one d) old (Calls n (Lookup ch e) moment) reply new
   lookup_answered failed serves sound honest timely known row =
       in_state d map failed jobs (λ old. (new : Service) × Serves d map' failed jobs' new
-      × Answers (pack_of d) old (Calls n (Lookup ch e) moment) reply new) serves (λ s state. ⊎_elim
+      × Answers (pack_one d) old (Calls n (Lookup ch e) moment) reply new) serves (λ s state. ⊎_elim
       (λ is. let l = looked is in
       subst (λ r. (new : Service) × Serves d map' failed jobs' new
-      × Answers (pack_of d) (Serving s) (Calls n (Lookup ch e) moment) r new) (sym is)
+      × Answers (pack_one d) (Serving s) (Calls n (Lookup ch e) moment) r new) (sym is)
       (looked_leads d map l.2 map' jobs jobs' n job job' ch e moment l.0 l.1 there set l.3 lookup_keyed
       lookup_reading sound timely s state (known s state) (l.4 honest s (known s state))
       (λ x at w. subst (IsLookupRow x (job_of w job) (job_of w job') (channel_at (job_of w job) ch) e) is (row x at w))
       failed serves pending))
       (λ not. let k = kept not in
       subst (λ m. (new : Service) × Serves d m failed jobs' new
-      × Answers (pack_of d) (Serving s) (Calls n (Lookup ch e) moment) reply new) (sym k.0)
+      × Answers (pack_one d) (Serving s) (Calls n (Lookup ch e) moment) reply new) (sym k.0)
       (other_leads d map jobs jobs' n job job' ch e moment reply there set not
       (subst (λ m. AreKeyed m.pending jobs') k.0 lookup_keyed) (subst (λ m. AreReading m.live jobs') k.0 lookup_reading)
       timely s state (known s state) row failed serves))

@@ -2,6 +2,7 @@
 use Rattle.std.proofs.Common.{◌≡◌, ℕ, List, Option, refl, sym, subst, inr}
 use Rattle.blockdisk.specs.Disk.{DiskState, LeavesOnly}
 use Rattle.meaning.specs.Files.{File, Files}
+use Rattle.meaning.specs.Layouts.{pack_of}
 use Rattle.volume.specs.Making.{files_made}
 use Rattle.volume.specs.Rest.{RestsAt, StandsForOneOf}
 use Rattle.volume.specs.declared.pending.PendingVersion.{PendingVersion}
@@ -18,9 +19,9 @@ module _ (d d' : DiskState) (core : List ℕ) (e owner protection : ℕ) (whose 
   files_are : files_made f owner protection ≡ asked
   files_are i = files_made f (whose i) (protects i)
 
-  pub crash_asked : LeavesOnly d d' (StandsForOneOf d.size f (files_made f owner protection))
-      → LeavesOnly d d' (StandsForOneOf d.size f asked)
-  crash_asked leaves = subst (λ g. LeavesOnly d d' (StandsForOneOf d.size f g)) files_are leaves
+  pub crash_asked : LeavesOnly d d' (StandsForOneOf (pack_of d) f (files_made f owner protection))
+      → LeavesOnly d d' (StandsForOneOf (pack_of d) f asked)
+  crash_asked leaves = subst (λ g. LeavesOnly d d' (StandsForOneOf (pack_of d) f g)) files_are leaves
 
   pub done_asked : RestsAt d' (files_made f owner protection) → RestsAt d' asked
   done_asked rests = subst (RestsAt d') files_are rests

@@ -13,12 +13,13 @@ use Rattle.meaning.specs.Codes.{number_of}
 use Rattle.meaning.specs.Cores.{lies_outside}
 use Rattle.meaning.specs.Files.{File, Files, Directory, Place}
 use Rattle.meaning.specs.Jobs.{State, slot}
+use Rattle.meaning.specs.Layouts.{pack_of, StandsOn}
 use Rattle.meaning.specs.Looking.{place_at}
 use Rattle.meaning.specs.Maps.{get}
 use Rattle.meaning.specs.Published.{Version, without_serials, without_file, file_at}
 use Rattle.meaning.specs.Renaming.{files_from, files_moved, protection_at}
 use Rattle.meaning.specs.Runs.{Service, Broken, Answers}
-use Rattle.meaning.specs.Stands.{Stands, place_of}
+use Rattle.meaning.specs.Stands.{place_of}
 use Rattle.meaning.specs.Step.{step}
 use Rattle.meaning.specs.declared.put.Put.{Put}
 use Rattle.meaning.specs.declared.code.ErrorCode.{ErrorCode}
@@ -46,7 +47,7 @@ use Rattle.monitor.specs.Finding.{IsKnown}
 use Rattle.monitor.specs.Promises.{IsAmong, IsServing, ServesAlways}
 use Rattle.monitor.specs.Readers.{readers_of}
 use Rattle.monitor.specs.Refusals.{with_code}
-use Rattle.monitor.specs.Serving.{pack_of, ArePlaced, IsState, Serves}
+use Rattle.monitor.specs.Serving.{pack_one, ArePlaced, IsState, Serves}
 use Rattle.monitor.specs.Sides.{UnderKeys, job_of, state_of}
 use Rattle.monitor.specs.declared.channel.Channel.{Channel}
 use Rattle.monitor.specs.declared.input.Input.{Input}
@@ -69,7 +70,7 @@ use Rattle.monitor.proofs.RenameWanting.{wanting_serves, rename_serves, rename_u
 pub record Moves (d d' : DiskState) (c b : VolumeCore) (Same : Type 0) (failed' : Bool) (ppn : ℕ) (name : FileName)
     (to_ppn : ℕ) (to : FileName) (protection : ℕ) (answer : Result (Unit {0}) CallError) : Type 0 where
   pub crash : d'.honest → (f : Files File) → RestsAt d f
-      → LeavesOnly d d' (StandsForOneOf d.size f (volume.files_moved f ppn name to_ppn to protection))
+      → LeavesOnly d d' (StandsForOneOf (pack_of d) f (volume.files_moved f ppn name to_ppn to protection))
   pub done : d'.honest → (f : Files File) → RestsAt d f
       → OnOk answer (RestsAt d' (volume.files_moved f ppn name to_ppn to protection))
   pub within : to_ppn ≡ ppn → OnOk answer ((key : ℕ) × (v : LiveVersion) × (words : List ℕ) × (puts : List Put)
@@ -194,9 +195,9 @@ module _ {D : Type 0} (state : D → DiskState) (only_now : (disk : D) (contents
           ∙ (λ i. files_moved s.files old (sym (place w) i) (sym protects i) (from.1 i))
 
       row : (answer : Result (Unit {0}) CallError) → Says answer → (answer ≡ Err (Refused NoRoom) → ⊥) → (serial : ℕ)
-          → step (pack_of d) serial s (Calls n (Rename number e) moment) ≡ (replies.Done, state_of files' w moved_jobs)
+          → step (pack_one d) serial s (Calls n (Rename number e) moment) ≡ (replies.Done, state_of files' w moved_jobs)
       row answer says fits serial =
-          subst (λ y. step (pack_of d) serial y (Calls n (Rename number e) moment)
+          subst (λ y. step (pack_one d) serial y (Calls n (Rename number e) moment)
           ≡ (replies.Done, state_of files' w moved_jobs)) (sym before)
           (row_done d s.files w jobs n job among.there number e moment timely channel is_open input side free inside
           (moves_done d core t here sound honest (job_of w job) e input.ppn input.file to_ppn to (place w) moves
@@ -208,12 +209,12 @@ module _ {D : Type 0} (state : D → DiskState) (only_now : (disk : D) (contents
         → CallCrashes d d' core jobs n (Rename number e) moment
     crashes answer says fits honest' s is =
         let honest = says.same.was_honest honest' in
-        leaves_weaker d d' (StandsForOneOf d.size (without_serials s.files) _) _
+        leaves_weaker d d' (StandsForOneOf (pack_of d) (without_serials s.files) _) _
         (says.crash honest' (without_serials s.files) is.files)
         (λ contents. ⊎_elim (λ was. inl was)
         (λ put. inr (
           0,
-          subst (Stands d.size contents)
+          subst (StandsOn (pack_of d) contents)
               (sym (shown_moved s.files old new protection (from honest s is).0 (from honest s is).1)
               ∙ ap (λ (r : Reply × State). without_serials r.1.files) (sym (row honest s is answer says fits 0))) put,
         )))
@@ -236,10 +237,10 @@ module _ {D : Type 0} (state : D → DiskState) (only_now : (disk : D) (contents
 
       done_answered : d'.honest → (old' : Service) → Serves d core false jobs old' → (new' : Service)
           × Serves d' core' failed' moved_jobs new'
-          × Answers (pack_of d) old' (Calls n (Rename number e) moment) replies.Done new'
+          × Answers (pack_one d) old' (Calls n (Rename number e) moment) replies.Done new'
       done_answered honest' = in_state d core false jobs
           (λ old'. (new' : Service) × Serves d' core' failed' moved_jobs new'
-          × Answers (pack_of d) old' (Calls n (Rename number e) moment) replies.Done new') refl
+          × Answers (pack_one d) old' (Calls n (Rename number e) moment) replies.Done new') refl
           (λ s is.
           let honest = says.same.was_honest honest' in
           let w' = with_protected is.under made.key protection in
@@ -247,7 +248,7 @@ module _ {D : Type 0} (state : D → DiskState) (only_now : (disk : D) (contents
           let t' = state_of moved w' moved_jobs in
           let moved_from = from honest s is in
           let moved_home = home honest s is in
-          goes_on d' core' failed' moved_jobs (pack_of d) (Calls n (Rename number e) moment) replies.Done s t' works
+          goes_on d' core' failed' moved_jobs (pack_one d) (Calls n (Rename number e) moment) replies.Done s t' works
           is.sound (λ serial. row honest s is (Ok x) says (λ e. cc e) serial
           ∙ ap (λ js. (replies.Done, record { files = moved; jobs = js }))
           (sym (protected_jobs is.under made.key protection moved_jobs)))
@@ -298,7 +299,7 @@ module _ {D : Type 0} (state : D → DiskState) (only_now : (disk : D) (contents
           others = λ m other. slot-set_other jobs n m (Some job) other;
           answered = λ honest'. in_state d core false jobs
               (λ old'. (new' : Service) × Serves d' b failed' (slice_set jobs n (Some job)) new'
-              × Answers (pack_of d) old' (Calls n (Rename number e) moment) replies.Device new') refl
+              × Answers (pack_one d) old' (Calls n (Rename number e) moment) replies.Device new') refl
               (λ s at. (
                 Broken,
                 is,

@@ -21,7 +21,7 @@ use Rattle.volume.specs.declared.pending.PendingVersion.{PendingVersion}
 use Rattle.monitor.specs.Putting.{IsOut, IsOther, IsOtherSide, HasOutgoing}
 use Rattle.monitor.specs.Putting as putting
 use Rattle.monitor.specs.Rows.{IsRow, KeepsSides, KeepsReading}
-use Rattle.monitor.specs.Serving.{pack_of, AreKeyed, AreReading, IsState, Serves}
+use Rattle.monitor.specs.Serving.{pack_one, AreKeyed, AreReading, IsState, Serves}
 use Rattle.monitor.specs.declared.channel.Channel.{Channel}
 use Rattle.monitor.specs.declared.output.Output.{Output}
 use Rattle.monitor.specs.declared.job.Job.{Job}
@@ -64,7 +64,7 @@ module _ {D : Type 0} (state_in : D → DiskState) (disk disk' : D) (map map' : 
 
   abbrev Leads : Reply → Type 0
   Leads reply = (old : Service) → Serves d map failed jobs old → (new : Service)
-      × Serves (state_in disk') map' failed' jobs' new × Answers (pack_of d) old (Calls n (Out ch a) moment) reply new
+      × Serves (state_in disk') map' failed' jobs' new × Answers (pack_one d) old (Calls n (Out ch a) moment) reply new
 
   pub out_keyed : failed' ≡ false → AreKeyed map'.pending jobs'
   out_keyed alive = subst (AreKeyed map'.pending) (sym set)
@@ -77,12 +77,12 @@ module _ {D : Type 0} (state_in : D → DiskState) (disk disk' : D) (map map' : 
   -- disk and volume are as they were
   unmoved : (reply : Reply) → Same → failed' ≡ false
       → ((old : Service) → Serves d map failed jobs old → (new : Service) × Serves d map failed jobs' new
-      × Answers (pack_of d) old (Calls n (Out ch a) moment) reply new) → Leads reply
+      × Answers (pack_one d) old (Calls n (Out ch a) moment) reply new) → Leads reply
   unmoved reply same alive by old stands =
-      on_disk state_in disk disk' failed failed' map' jobs' (Answers (pack_of d) old (Calls n (Out ch a) moment) reply)
+      on_disk state_in disk disk' failed failed' map' jobs' (Answers (pack_one d) old (Calls n (Out ch a) moment) reply)
       (same.0, alive ∙ sym serves)
       (subst (λ m. (new : Service) × Serves d m failed jobs' new
-      × Answers (pack_of d) old (Calls n (Out ch a) moment) reply new) (sym same.1) (by old stands))
+      × Answers (pack_one d) old (Calls n (Out ch a) moment) reply new) (sym same.1) (by old stands))
 
   -- a row that needs neither memory nor the disk
   plain : (reply : Reply) → job' ≡ job → Same → failed' ≡ false → IsRow job job (Out ch a) reply → Leads reply
@@ -92,9 +92,9 @@ module _ {D : Type 0} (state_in : D → DiskState) (disk disk' : D) (map map' : 
       (reads_core map.live map.live job refl job.core) row)
 
   undecided_in : HasOutgoing job ch a → (s : State) → IsState d map jobs s
-      → is_plain ((step (pack_of d) 0 s (Calls n (Out ch a) moment)).0) ≡ false
+      → is_plain ((step (pack_one d) 0 s (Calls n (Out ch a) moment)).0) ≡ false
   undecided_in out s state =
-      ap (λ y. is_plain ((step (pack_of d) 0 y (Calls n (Out ch a) moment)).0))
+      ap (λ y. is_plain ((step (pack_one d) 0 y (Calls n (Out ch a) moment)).0))
       (state_is s state.under jobs state.jobs_are)
       ∙ undecided d map jobs n job there ch a moment timely 0 s.files state.under out.at out.found
 
@@ -120,7 +120,7 @@ module _ {D : Type 0} (state_in : D → DiskState) (disk disk' : D) (map map' : 
         let alive = alive_after failed' Done fails (λ e. cc e) (λ e. cc e) in
         let p = version_of out in
         in_state d map failed jobs (λ old. (new : Service) × Serves (state_in disk') map' failed' jobs' new
-        × Answers (pack_of d) old (Calls n (Out ch a) moment) Done new) serves
+        × Answers (pack_one d) old (Calls n (Out ch a) moment) Done new) serves
         (λ s state. put_leads d (state_in disk') map map' jobs jobs' n job there ch a moment timely out (set
         ∙ ap (λ j. slice_set jobs n (Some j)) job_is) keyed (out_keyed alive) sound honest later p.0 p.1 (put p.0 p.1)
         (λ k apart. others k (other_side (slot job.channels ch) out.at.channel out.at.output k out.at.there
@@ -132,7 +132,7 @@ module _ {D : Type 0} (state_in : D → DiskState) (disk disk' : D) (map map' : 
         let alive = alive_after failed' (Stopped status) fails (λ e. cc e) (λ e. cc e) in
         let p = version_of out in
         unmoved (Stopped status) same alive (in_state d map failed jobs (λ old. (new : Service)
-        × Serves d map failed jobs' new × Answers (pack_of d) old (Calls n (Out ch a) moment) (Stopped status) new)
+        × Serves d map failed jobs' new × Answers (pack_one d) old (Calls n (Out ch a) moment) (Stopped status) new)
         serves
         (λ s state. stopped_leads d map failed jobs jobs' n job there ch a moment timely out status is (set
         ∙ ap (λ j. slice_set jobs n (Some j)) job_is) (subst (λ m. AreKeyed m.pending jobs') same.1 (out_keyed alive))
@@ -150,7 +150,7 @@ module _ {D : Type 0} (state_in : D → DiskState) (disk disk' : D) (map map' : 
     out_answered NoMemory (job_is, same, out) fails =
         unmoved NoMemory same (alive_after failed' NoMemory fails (λ e. cc e) (λ e. cc e))
         (in_state d map failed jobs (λ old. (new : Service) × Serves d map failed jobs' new
-        × Answers (pack_of d) old (Calls n (Out ch a) moment) NoMemory new) serves
+        × Answers (pack_one d) old (Calls n (Out ch a) moment) NoMemory new) serves
         (λ s state. (
           Serving s,
           (
@@ -162,7 +162,7 @@ module _ {D : Type 0} (state_in : D → DiskState) (disk disk' : D) (map map' : 
         )))
     out_answered Device (job_is, out) fails =
         in_state d map failed jobs (λ old. (new : Service) × Serves (state_in disk') map' failed' jobs' new
-        × Answers (pack_of d) old (Calls n (Out ch a) moment) Device new) serves
+        × Answers (pack_one d) old (Calls n (Out ch a) moment) Device new) serves
         (λ s state. (Broken, fails.1 (inl refl), (refl, undecided_in out s state, refl)))
     out_answered Failed lies fails = absurd (lies later)
     out_answered (Value word) wrong fails = absurd wrong

@@ -31,7 +31,7 @@ use Rattle.volume.specs.declared.pending.PendingVersion.{PendingVersion}
 use Rattle.monitor.specs.Putting.{Puts, outgoing_at, moved, FindsNone, IsAtOutput}
 use Rattle.monitor.specs.Putting as putting
 use Rattle.monitor.specs.Rows.{IsRow}
-use Rattle.monitor.specs.Serving.{pack_of, AreKeyed, AreReading, IsWriting, IsState, Serves}
+use Rattle.monitor.specs.Serving.{pack_one, AreKeyed, AreReading, IsWriting, IsState, Serves}
 use Rattle.monitor.specs.Sides.{Writing, UnderKeys, output_of, channel_of, job_of, state_of}
 use Rattle.monitor.specs.declared.channel.Channel.{Channel}
 use Rattle.monitor.specs.declared.output.Output.{Output}
@@ -101,14 +101,14 @@ module _ (d : DiskState) (map : VolumeCore) (jobs : List (Option Job)) (n : ℕ)
   t = state_of files w jobs
 
   abbrev row_with : Option Outgoing → Reply × State
-  row_with found = of_job t n (by_header job ch a at.channel (pack_of d) t w at.output false found)
+  row_with found = of_job t n (by_header job ch a at.channel (pack_one d) t w at.output false found)
 
-  finds : step (pack_of d) serial t (Calls n (Out ch a) moment) ≡ row_with (outgoing_at job.core at.channel a)
+  finds : step (pack_one d) serial t (Calls n (Out ch a) moment) ≡ row_with (outgoing_at job.core at.channel a)
   finds =
       called d jobs n (Out ch a) moment serial files w timely job there
-      ∙ ap (λ x. on_channel t x (λ y. of_job t n (puts (pack_of d) t (job_of w job) ch y a)))
+      ∙ ap (λ x. on_channel t x (λ y. of_job t n (puts (pack_one d) t (job_of w job) ch y a)))
       (channel_is w job ch (Some at.channel) at.there)
-      ∙ ap (of_job t n) (row_found job ch a at (pack_of d) t w)
+      ∙ ap (of_job t n) (row_found job ch a at (pack_one d) t w)
 
   abbrev by_place : Outgoing → Bool → Reply × State
   by_place found none = of_job t n (settled (if none then Stopped (cleared at.channel.status + block_too_large)
@@ -116,13 +116,13 @@ module _ (d : DiskState) (map : VolumeCore) (jobs : List (Option Job)) (n : ℕ)
       (stopped_in (job_of w job) ch (channel_of w at.channel)))
 
   pub row_by_place : (found : Outgoing) → outgoing_at job.core at.channel a ≡ Some found → (none : Bool)
-      → finds_no_place (pack_of d) t (output_of w at.output) (length found.words) ≡ none
-      → step (pack_of d) serial t (Calls n (Out ch a) moment) ≡ by_place found none
+      → finds_no_place (pack_one d) t (output_of w at.output) (length found.words) ≡ none
+      → step (pack_one d) serial t (Calls n (Out ch a) moment) ≡ by_place found none
   row_by_place found is none full = finds ∙ ap row_with is ∙ ap (by_place found) full
 
   -- it isn't decided before memory and the disk are needed
   pub undecided : (outgoing_at job.core at.channel a ≡ None → ⊥)
-      → is_plain ((step (pack_of d) serial t (Calls n (Out ch a) moment)).0) ≡ false
+      → is_plain ((step (pack_one d) serial t (Calls n (Out ch a) moment)).0) ≡ false
   undecided there = ap (λ r. is_plain r.0) finds ∙ by (outgoing_at job.core at.channel a) there
     where
       stops : (none : Bool) (found : Outgoing) → is_plain ((by_place found none).0) ≡ false
@@ -132,7 +132,7 @@ module _ (d : DiskState) (map : VolumeCore) (jobs : List (Option Job)) (n : ℕ)
       by : (was : Option Outgoing) → (was ≡ None → ⊥) → is_plain ((row_with was).0) ≡ false
       by None some = absurd (some refl)
       by (Some found) some =
-          stops (finds_no_place (pack_of d) t (output_of w at.output) (length found.words)) found
+          stops (finds_no_place (pack_one d) t (output_of w at.output) (length found.words)) found
 
 -- The words are put.
 module _ (d d' : DiskState) (map map' : VolumeCore) (jobs jobs' : List (Option Job)) (n : ℕ) (job : Job)
@@ -205,7 +205,7 @@ module _ (d d' : DiskState) (map map' : VolumeCore) (jobs jobs' : List (Option J
       (λ apart. ap (λ (y : Writing). file_at s.files y.place) (with_other state.under key x k apart)
       ∙ state.absent k q (sym (others k apart) ∙ is) is_new)
 
-  row_put : (serial : ℕ) → step (pack_of d) serial (state_of s.files state.under jobs) (Calls n (Out ch a) moment)
+  row_put : (serial : ℕ) → step (pack_one d) serial (state_of s.files state.under jobs) (Calls n (Out ch a) moment)
       ≡ (Done, state_of s.files w jobs')
   row_put serial =
       row_by_place d map jobs n job there ch a moment timely serial s.files state.under out.at
@@ -226,11 +226,11 @@ module _ (d d' : DiskState) (map map' : VolumeCore) (jobs jobs' : List (Option J
       out.at.side keyed state.under out.words out.core s.files jobs' set)
 
   pub put_leads : (failed' : Bool) → failed' ≡ false → (new : Service) × Serves d' map' failed' jobs' new
-      × Answers (pack_of d) (Serving s) (Calls n (Out ch a) moment) Done new
+      × Answers (pack_one d) (Serving s) (Calls n (Out ch a) moment) Done new
   put_leads failed' serves =
-      goes_on d' map' failed' jobs' (pack_of d) (Calls n (Out ch a) moment) Done s
+      goes_on d' map' failed' jobs' (pack_one d) (Calls n (Out ch a) moment) Done s
       (state_of s.files w jobs') serves state.sound
-      (λ serial. subst (λ y. step (pack_of d) serial y (Calls n (Out ch a) moment) ≡ (Done, state_of s.files w jobs'))
+      (λ serial. subst (λ y. step (pack_one d) serial y (Calls n (Out ch a) moment) ≡ (Done, state_of s.files w jobs'))
       (sym s_is) (row_put serial))
       (λ still. record {
         files = rests (without_serials s.files) state.files;
@@ -259,7 +259,7 @@ module _ (d : DiskState) (map : VolumeCore) (failed : Bool) (jobs jobs' : List (
   before_is : s ≡ state_of s.files state.under jobs
   before_is = state_is s state.under jobs state.jobs_are
 
-  row_stopped : (serial : ℕ) → step (pack_of d) serial (state_of s.files state.under jobs) (Calls n (Out ch a) moment)
+  row_stopped : (serial : ℕ) → step (pack_one d) serial (state_of s.files state.under jobs) (Calls n (Out ch a) moment)
       ≡ (Stopped status, state_of s.files state.under jobs')
   row_stopped serial =
       row_by_place d map jobs n job there ch a moment timely serial s.files state.under out.at
@@ -280,10 +280,10 @@ module _ (d : DiskState) (map : VolumeCore) (failed : Bool) (jobs jobs' : List (
       ∙ ap (state_of s.files state.under) (sym set))
 
   pub stopped_leads : failed ≡ false → (new : Service) × Serves d map failed jobs' new
-      × Answers (pack_of d) (Serving s) (Calls n (Out ch a) moment) (Stopped status) new
+      × Answers (pack_one d) (Serving s) (Calls n (Out ch a) moment) (Stopped status) new
   stopped_leads serves =
-      goes_on d map failed jobs' (pack_of d) (Calls n (Out ch a) moment) (Stopped status) s
+      goes_on d map failed jobs' (pack_one d) (Calls n (Out ch a) moment) (Stopped status) s
       (state_of s.files state.under jobs') serves state.sound
-      (λ serial. subst (λ y. step (pack_of d) serial y (Calls n (Out ch a) moment)
+      (λ serial. subst (λ y. step (pack_one d) serial y (Calls n (Out ch a) moment)
       ≡ (Stopped status, state_of s.files state.under jobs')) (sym before_is) (row_stopped serial))
       (same_files d map map failed jobs jobs' keyed' reading' (leaves_none map) s state)

@@ -22,7 +22,7 @@ use Rattle.monitor.specs.Publishing.{PublishesBy, IsPublishRow, CrashesAsRow, St
 use Rattle.monitor.specs.Promises.{IsAmong, IsServing, ServesJob}
 use Rattle.monitor.specs.Refusals.{refused_with}
 use Rattle.monitor.specs.Rows.{IsRow, KeepsSides, KeepsReading, ClosesSide, publishes_at}
-use Rattle.monitor.specs.Serving.{pack_of, Serves, AreKeyed, ArePlaced, AreReading}
+use Rattle.monitor.specs.Serving.{pack_one, Serves, AreKeyed, ArePlaced, AreReading}
 use Rattle.monitor.specs.declared.channel.Channel.{Channel}
 use Rattle.monitor.specs.declared.output.Output.{Output}
 use Rattle.monitor.specs.declared.job.Job.{Job}
@@ -70,7 +70,7 @@ module _ {D : Type 0} (state : D → DiskState) (only_now : (disk : D) (contents
     pub quiet_serves : AreKeyed core'.pending jobs' → AreReading core'.live jobs'
         → ((state disk').honest → (old : Service) → Serves (state disk) core false jobs old
         → (new : Service) × Serves (state disk) core' false jobs' new
-        × Answers (pack_of (state disk)) old (Calls n call moment) reply new)
+        × Answers (pack_one (state disk)) old (Calls n call moment) reply new)
         → IsServing state disk disk' core core' failed' jobs jobs' n call moment reply
     quiet_serves keyed reading answered = record {
       keyed = λ serves. keyed;
@@ -79,7 +79,7 @@ module _ {D : Type 0} (state : D → DiskState) (only_now : (disk : D) (contents
       others = λ m other. slot-set_other jobs n m (Some job') other;
       answered = λ honest old serves.
           on_disk state disk disk' false failed' core' jobs'
-          (Answers (pack_of (state disk)) old (Calls n call moment) reply) (untouched.0, untouched.1 ∙ alive)
+          (Answers (pack_one (state disk)) old (Calls n call moment) reply) (untouched.0, untouched.1 ∙ alive)
           (answered honest old serves);
       crash = untouched_crashes state only_now disk disk' untouched.0 core jobs n call moment;
       idle = λ idle. untouched.0;
@@ -161,7 +161,7 @@ module _ {D : Type 0} (state : D → DiskState) (only_now : (disk : D) (contents
     reading = λ serves. subst (AreReading core.live) (sym same) reading;
     others = λ m other. ap (λ js. slot js m) same;
     answered = λ honest old serves.
-        on_disk state disk disk false failed core jobs' (Answers (pack_of (state disk)) old (Calls n call moment) NoJob)
+        on_disk state disk disk false failed core jobs' (Answers (pack_one (state disk)) old (Calls n call moment) NoJob)
         (refl, alive)
         (nobody (state disk) core false jobs n call moment refl timely jobs' keyed reading none same old serves);
     crash = untouched_crashes state only_now disk disk refl core jobs n call moment;

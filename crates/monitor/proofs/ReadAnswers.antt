@@ -10,10 +10,10 @@ use Rattle.changeset.specs.Rest.{rest_settles}
 use Rattle.meaning.specs.Files.{File, Files}
 use Rattle.meaning.specs.Inputs.{body_read}
 use Rattle.meaning.specs.Jobs.{State, slot}
+use Rattle.meaning.specs.Layouts.{pack_of, SettledStandsOn, StandsOn}
 use Rattle.meaning.specs.Published.{without_serials}
 use Rattle.meaning.specs.Retrieval.{HasBody}
 use Rattle.meaning.specs.Runs.{Service, Serving, Broken, Answers, is_plain}
-use Rattle.meaning.specs.Stands.{Stands, SettledStands}
 use Rattle.meaning.specs.Step.{step}
 use Rattle.meaning.specs.declared.call.Call.TheVariants.{In}
 use Rattle.meaning.specs.declared.call.Event.TheVariants.{Call as Calls}
@@ -27,7 +27,7 @@ use Rattle.volume.specs.Pins.{IsVersionOf, version_under}
 use Rattle.volume.specs.Rest.{RestsAt}
 use Rattle.monitor.specs.Reading.{handle_read, IsIn, IsAtInput, Ingoing}
 use Rattle.monitor.specs.Rows.{IsRow}
-use Rattle.monitor.specs.Serving.{pack_of, IsState, Serves, AreKeyed, AreReading}
+use Rattle.monitor.specs.Serving.{pack_one, IsState, Serves, AreKeyed, AreReading}
 use Rattle.monitor.specs.Sides.{input_of, output_of, job_of, state_of}
 use Rattle.monitor.specs.declared.job.Job.{Job}
 use Rattle.monitor.specs.declared.output.Output.{Output}
@@ -77,9 +77,9 @@ module _ (d d' : DiskState) (reads : OnlyReads d d') (rests : (f : Files File) �
 
   -- a crash leaves what it could have left before
   pub quiet_read : ((c : Contents) → d.left_since d.clock c → MayLeave d c) → (f : Files File) → RestsAt d f
-      → LeavesOnly d d' (λ c. Stands d.size c f)
-  quiet_read only_now f at = leaves_still d d' (λ c. Stands d.size c f) only_now reads.still
-      (λ c left. rest_settles d (λ x. SettledStands d.size x f) at c left)
+      → LeavesOnly d d' (λ c. StandsOn (pack_of d) c f)
+  quiet_read only_now f at = leaves_still d d' (λ c. StandsOn (pack_of d) c f) only_now reads.still
+      (λ c left. rest_settles d (λ x. SettledStandsOn (pack_of d) x f) at c left)
 
 -- it failed just where the device or the disk did
 alive_after : (failed' : Bool) (reply : Reply) → IsTrue failed' ↔ ((reply ≡ Device) ⊎ (reply ≡ Failed))
@@ -108,13 +108,13 @@ module _ (d d' : DiskState) (map : VolumeCore) (failed : Bool) (jobs : List (Opt
     -- the disk as it was before, in core as it is after
     abbrev Leads : Reply → Type 0
     Leads reply = (old : Service) → Serves d map failed jobs old → (new : Service) × Serves d map failed jobs' new
-        × Answers (pack_of d) old (Calls n (In ch a) moment) reply new
+        × Answers (pack_one d) old (Calls n (In ch a) moment) reply new
 
     -- a row that needs neither memory nor the disk
     plain : (reply : Reply) → IsIn d d' map job job' ch a reply → job' ≡ job → IsRow job job (In ch a) reply
         → Leads reply
     plain reply is same here =
-        row d map map failed jobs jobs' (in_keyed reply is) (in_reading reply is) (leaves_none map) (pack_of d)
+        row d map map failed jobs jobs' (in_keyed reply is) (in_reading reply is) (leaves_none map) (pack_one d)
         (Calls n (In ch a) moment) reply
         (row_is d map failed jobs n (In ch a) moment serves timely jobs' job job reply there (set
         ∙ ap (λ j. slice_set jobs n (Some j)) same) here) serves
@@ -146,22 +146,22 @@ module _ (d d' : DiskState) (map : VolumeCore) (failed : Bool) (jobs : List (Opt
 
       -- a call that the machine goes on from, in the same files
       goes : (reply : Reply) (is : IsIn d d' map job job' ch a reply) (s : State) (state : IsState d map jobs s)
-          → ((serial : ℕ) → step (pack_of d) serial (state_of s.files state.under jobs) (Calls n (In ch a) moment)
+          → ((serial : ℕ) → step (pack_one d) serial (state_of s.files state.under jobs) (Calls n (In ch a) moment)
           ≡ (reply, state_of s.files state.under jobs'))
           → (new : Service) × Serves d map failed jobs' new
-          × Answers (pack_of d) (Serving s) (Calls n (In ch a) moment) reply new
+          × Answers (pack_one d) (Serving s) (Calls n (In ch a) moment) reply new
       goes reply is s state steps =
-          goes_on d map failed jobs' (pack_of d) (Calls n (In ch a) moment) reply s
+          goes_on d map failed jobs' (pack_one d) (Calls n (In ch a) moment) reply s
           (state_of s.files state.under jobs') serves state.sound
-          (λ serial. subst (λ y. step (pack_of d) serial y (Calls n (In ch a) moment)
+          (λ serial. subst (λ y. step (pack_one d) serial y (Calls n (In ch a) moment)
           ≡ (reply, state_of s.files state.under jobs')) (sym (state_is s state.under jobs state.jobs_are))
           (steps serial))
           (same_files d map map failed jobs jobs' (in_keyed reply is) (in_reading reply is) (leaves_none map) s state)
 
       pub undecided_in : Ingoing job ch a → (s : State) → IsState d map jobs s
-          → is_plain ((step (pack_of d) 0 s (Calls n (In ch a) moment)).0) ≡ false
+          → is_plain ((step (pack_one d) 0 s (Calls n (In ch a) moment)).0) ≡ false
       undecided_in read s state =
-          ap (λ y. is_plain ((step (pack_of d) 0 y (Calls n (In ch a) moment)).0))
+          ap (λ y. is_plain ((step (pack_one d) 0 y (Calls n (In ch a) moment)).0))
           (state_is s state.under jobs state.jobs_are)
           ∙ undecided job ch a read.at.channel read.at.there read.at.input read.at.side read.at.has
           read.asked read.found state.under d jobs n there moment timely 0 s.files
@@ -170,7 +170,7 @@ module _ (d d' : DiskState) (map : VolumeCore) (failed : Bool) (jobs : List (Opt
       in_leads : (reply : Reply) → IsIn d d' map job job' ch a reply → (reply ≡ Device → ⊥) → (reply ≡ Failed → ⊥)
           → Leads reply
       in_leads Done is device lies = in_state d map failed jobs (λ old. (new : Service) × Serves d map failed jobs' new
-          × Answers (pack_of d) old (Calls n (In ch a) moment) Done new) serves (λ s state.
+          × Answers (pack_one d) old (Calls n (In ch a) moment) Done new) serves (λ s state.
           let read = is.0 in
           let moves = is.4 in
           let at = read.at in
@@ -183,7 +183,7 @@ module _ (d d' : DiskState) (map : VolumeCore) (failed : Bool) (jobs : List (Opt
           is.1 is.2 moves.some (moves.many has.0 has.1 body has.2) (moves.words honest has.0 has.1 body has.2 has.3)
           ∙ ap (λ j. (Done, job_of state.under j)) (sym is.3))))
       in_leads (Stopped status) is device lies = in_state d map failed jobs (λ old. (new : Service)
-          × Serves d map failed jobs' new × Answers (pack_of d) old (Calls n (In ch a) moment) (Stopped status) new)
+          × Serves d map failed jobs' new × Answers (pack_one d) old (Calls n (In ch a) moment) (Stopped status) new)
           serves (λ s state.
           let read = is.0 in
           let at = read.at in
@@ -203,7 +203,7 @@ module _ (d d' : DiskState) (map : VolumeCore) (failed : Bool) (jobs : List (Opt
       in_leads AddressCheck is device lies = plain AddressCheck is is.0
           (in_unlisted job ch a is.1.channel is.1.there is.1.input is.1.side is.1.has is.2)
       in_leads NoMemory is device lies = in_state d map failed jobs (λ old. (new : Service)
-          × Serves d map failed jobs' new × Answers (pack_of d) old (Calls n (In ch a) moment) NoMemory new) serves
+          × Serves d map failed jobs' new × Answers (pack_one d) old (Calls n (In ch a) moment) NoMemory new) serves
           (λ s state. (
             Serving s,
             (
@@ -224,7 +224,7 @@ module _ (d d' : DiskState) (map : VolumeCore) (failed : Bool) (jobs : List (Opt
           (rests : (f : Files File) → RestsAt d f → RestsAt d' f) where
         abbrev Answered : Reply → Service → Type 0
         Answered reply old = (new : Service) × Serves d' map' failed' jobs' new
-            × Answers (pack_of d) old (Calls n (In ch a) moment) reply new
+            × Answers (pack_one d) old (Calls n (In ch a) moment) reply new
 
         serves_on : failed' ≡ false → (new : Service) → Serves d map failed jobs' new → Serves d' map' failed' jobs' new
         serves_on alive Broken broken = absurd (contrary serves broken)

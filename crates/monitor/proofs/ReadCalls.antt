@@ -25,7 +25,7 @@ use Rattle.meaning.specs.declared.call.Reply.TheVariants.{Done, Refused, Stopped
 use Rattle.retrieval.specs.Modes.{mode_number}
 use Rattle.monitor.specs.Reading.{Asked, areas_asked, buffer_asked, names_none, asked_at, read_on}
 use Rattle.monitor.specs.Rows.{IsRow}
-use Rattle.monitor.specs.Serving.{pack_of}
+use Rattle.monitor.specs.Serving.{pack_one}
 use Rattle.monitor.specs.Sides.{UnderKeys, input_of, output_of, channel_of, job_of, state_of}
 use Rattle.monitor.specs.declared.channel.Channel.{Channel}
 use Rattle.monitor.specs.declared.input.Input.{Input}
@@ -238,7 +238,7 @@ module _ (job : Job) (ch a : ℕ) where
           t = state_of files w jobs
 
           -- it isn't decided before memory and the disk are needed
-          pub undecided : is_plain ((step (pack_of d) serial t (Calls n (In ch a) moment)).0) ≡ false
+          pub undecided : is_plain ((step (pack_one d) serial t (Calls n (In ch a) moment)).0) ≡ false
           undecided =
               ap (λ r. is_plain r.0) (called d jobs n (In ch a) moment serial files w timely job here
               ∙ ap (λ o. on_channel t o (λ x. of_job t n (reads (job_of w job) ch x a)))
@@ -247,7 +247,7 @@ module _ (job : Job) (ch a : ℕ) where
 
           pub row_goes : (job' : Job) (reply : Reply) (jobs' : List (Option Job)) → jobs' ≡ slice_set jobs n (Some job')
               → reads (job_of w job) ch (channel_of w c) a ≡ (reply, job_of w job')
-              → step (pack_of d) serial t (Calls n (In ch a) moment) ≡ (reply, state_of files w jobs')
+              → step (pack_one d) serial t (Calls n (In ch a) moment) ≡ (reply, state_of files w jobs')
           row_goes job' reply jobs' set is =
               called d jobs n (In ch a) moment serial files w timely job here
               ∙ on_row t n w job job' ch c reply (λ x. reads (job_of w job) ch x a) there is

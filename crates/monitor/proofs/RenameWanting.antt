@@ -17,7 +17,7 @@ use Rattle.meaning.proofs.SlotLaws.{set-slot}
 use Rattle.volume.specs.Live.{VolumeCore}
 use Rattle.volume.specs.Rest.{IsSoundCore}
 use Rattle.monitor.specs.Promises.{IsServing, ServesAlways}
-use Rattle.monitor.specs.Serving.{pack_of, ArePlaced, IsState, Serves}
+use Rattle.monitor.specs.Serving.{pack_one, ArePlaced, IsState, Serves}
 use Rattle.monitor.specs.Sides.{job_of, state_of}
 use Rattle.monitor.specs.declared.channel.Channel.{Channel}
 use Rattle.monitor.specs.declared.input.Input.{Input}
@@ -35,13 +35,13 @@ pub rename_undecided : (d : DiskState) (c : VolumeCore) (jobs : List (Option Job
     (n : ℕ) (job : Job) → slot jobs n ≡ Some job → (number e : ℕ) (moment : Moment) → moment.date ≤ 4095
     → (channel : Channel) → slot job.channels number ≡ Some channel → (input : Input) → channel.input ≡ Some input
     → channel.output ≡ None → lies_outside job.core e 4 ≡ false
-    → is_plain ((step (pack_of d) 0 s (Calls n (Rename number e) moment)).0) ≡ false
+    → is_plain ((step (pack_one d) 0 s (Calls n (Rename number e) moment)).0) ≡ false
 rename_undecided d c jobs s state n job there number e moment timely channel is_open input side free inside =
-    subst (λ y. is_plain ((step (pack_of d) 0 y (Calls n (Rename number e) moment)).0) ≡ false)
+    subst (λ y. is_plain ((step (pack_one d) 0 y (Calls n (Rename number e) moment)).0) ≡ false)
     (sym (state_is s state.under jobs state.jobs_are))
     (ap is_plain (row_answers d s.files state.under jobs n job there number e moment timely channel is_open input side
     free inside)
-    ∙ rename_late (pack_of d) (state_of s.files state.under jobs) (job_of state.under job) e
+    ∙ rename_late (pack_one d) (state_of s.files state.under jobs) (job_of state.under job) e
     (place_of input.ppn input.file))
 
 -- the same where disk, core and job are these, and this is answered
@@ -81,7 +81,7 @@ module _ {D : Type 0} (state : D → DiskState) (only_now : (disk : D) (contents
       (λ x. cc x, λ x. cc x) placed (λ light. absurd light) (λ kept. absurd kept) (λ none. (refl, refl))
       (λ k same. cc same) (λ is. absurd is) jobs n among keyed reading
       (λ honest. in_state d core false jobs (λ old. (new : Service) × Serves d core false set new
-      × Answers (pack_of d) old (Calls n call moment) replies.NoMemory new) refl
+      × Answers (pack_one d) old (Calls n call moment) replies.NoMemory new) refl
       (λ s is. (
         Serving s,
         (refl, subst (λ js. IsState d core js s) (sym (set-slot jobs n job among.there)) is),

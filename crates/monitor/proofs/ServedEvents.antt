@@ -2,11 +2,12 @@
 use Rattle.std.proofs.Common.{◌≡◌, ℕ, true, ap, ◌∙◌}
 use Rattle.words36.specs.declared.moment.Moment.{Moment}
 use Rattle.blockdisk.specs.Disk.{DiskState}
+use Rattle.meaning.specs.Layouts.{pack_of}
 use Rattle.meaning.specs.Runs.{Service, Serving, Broken, Answers}
 use Rattle.meaning.specs.declared.call.Event.TheVariants.{Call as Calls}
 use Rattle.meaning.specs.declared.call.Reply.{Reply}
 use Rattle.meaning.specs.declared.call.Reply.TheVariants.{Failed}
-use Rattle.monitor.specs.Serving.{pack_of, Serves}
+use Rattle.monitor.specs.Serving.{Serves}
 use Rattle.monitor.specs.States.{MonitorState}
 use Rattle.meaning.specs.declared.call.Call.{Call}
 

@@ -14,7 +14,7 @@ use Rattle.meaning.specs.declared.call.Reply.TheVariants.{NoJob}
 use Rattle.meaning.proofs.SlotLaws.{set-slot}
 use Rattle.volume.specs.Live.{VolumeCore}
 use Rattle.monitor.specs.Rows.{IsRow, KeepsSides, KeepsReading}
-use Rattle.monitor.specs.Serving.{pack_of, Serves, AreKeyed, AreReading}
+use Rattle.monitor.specs.Serving.{pack_one, Serves, AreKeyed, AreReading}
 use Rattle.monitor.specs.Sides.{UnderKeys, state_of}
 use Rattle.monitor.specs.declared.job.Job.{Job}
 use Rattle.monitor.proofs.Answering.{in_state, row, slot_of, job_set, no_job, called}
@@ -25,18 +25,18 @@ module _ (d : DiskState) (map : VolumeCore) (failed : Bool) (jobs : List (Option
     (moment : Moment) (serves : failed ≡ false) (timely : moment.date ≤ 4095) where
   abbrev pub Answered : VolumeCore → List (Option Job) → Reply → Type 0
   Answered map' jobs' reply = (old : Service) → Serves d map failed jobs old → (new : Service)
-      × Serves d map' failed jobs' new × Answers (pack_of d) old (Calls n call moment) reply new
+      × Serves d map' failed jobs' new × Answers (pack_one d) old (Calls n call moment) reply new
 
   -- Nothing is changed: then the state itself says what core keeps.
   abbrev Stays : Reply → Type 0
   Stays reply = (serial : ℕ) (files : Files Version) (w : UnderKeys)
-      → step (pack_of d) serial (state_of files w jobs) (Calls n call moment) ≡ (reply, state_of files w jobs)
+      → step (pack_one d) serial (state_of files w jobs) (Calls n call moment) ≡ (reply, state_of files w jobs)
 
   stays : (reply : Reply) → Stays reply → Answered map jobs reply
   stays reply steps =
       in_state d map failed jobs (λ old. (new : Service) × Serves d map failed jobs new
-      × Answers (pack_of d) old (Calls n call moment) reply new) serves
-      (λ s state. row d map map failed jobs jobs state.keyed state.reading (leaves_none map) (pack_of d)
+      × Answers (pack_one d) old (Calls n call moment) reply new) serves
+      (λ s state. row d map map failed jobs jobs state.keyed state.reading (leaves_none map) (pack_one d)
       (Calls n call moment) reply steps serves (Serving s) (serves, state))
 
   -- nobody calls
@@ -47,17 +47,17 @@ module _ (d : DiskState) (map : VolumeCore) (failed : Bool) (jobs : List (Option
       → jobs' ≡ jobs → Answered map jobs' NoJob
   nobody jobs' keyed reading none same =
       subst (λ js. Answered map js NoJob) (sym same)
-      (row d map map failed jobs jobs keyed reading (leaves_none map) (pack_of d) (Calls n call moment) NoJob
+      (row d map map failed jobs jobs keyed reading (leaves_none map) (pack_one d) (Calls n call moment) NoJob
       (λ serial files w. no_job d jobs n call moment serial files w timely none) serves)
 
   -- a row of the job alone
   pub row_is : (jobs' : List (Option Job)) (job job' : Job) (reply : Reply) → slot jobs n ≡ Some job
       → jobs' ≡ slice_set jobs n (Some job') → IsRow job job' call reply
       → (serial : ℕ) (files : Files Version) (w : UnderKeys)
-      → step (pack_of d) serial (state_of files w jobs) (Calls n call moment) ≡ (reply, state_of files w jobs')
+      → step (pack_one d) serial (state_of files w jobs) (Calls n call moment) ≡ (reply, state_of files w jobs')
   row_is jobs' job job' reply there set is serial files w =
       called d jobs n call moment serial files w timely job there
-      ∙ is (pack_of d) serial (state_of files w jobs) n w moment (slot_of w jobs n (Some job) there)
+      ∙ is (pack_one d) serial (state_of files w jobs) n w moment (slot_of w jobs n (Some job) there)
       ∙ ap (λ s. (reply, s)) (job_set files w jobs n job' ∙ ap (state_of files w) (sym set))
 
   -- the job stays as it is
@@ -81,5 +81,5 @@ module _ (d : DiskState) (map : VolumeCore) (failed : Bool) (jobs : List (Option
       → Answered map jobs' reply
   alone jobs' job job' reply keyed reading there set keeps reads is =
       row d map map failed jobs jobs' (alone_keyed jobs' job job' keyed there set keeps)
-      (alone_reading jobs' job job' reading there set reads) (leaves_none map) (pack_of d) (Calls n call moment) reply
+      (alone_reading jobs' job job' reading there set reads) (leaves_none map) (pack_one d) (Calls n call moment) reply
       (row_is jobs' job job' reply there set is) serves

@@ -5,8 +5,8 @@ use Rattle.blockdisk.specs.Disk.{Contents, DiskState, MayLeave, LeavesOnly}
 use Rattle.blockdisk.specs.Laws.{leaves_start, leaves_weaker}
 use Rattle.changeset.specs.Rest.{rest_settles}
 use Rattle.meaning.specs.Files.{File, Files}
+use Rattle.meaning.specs.Layouts.{pack_of, SettledStandsOn, StandsOn}
 use Rattle.meaning.specs.Published.{without_serials}
-use Rattle.meaning.specs.Stands.{Stands, SettledStands}
 use Rattle.meaning.specs.declared.call.Call.{Call}
 use Rattle.volume.specs.Live.{VolumeCore}
 use Rattle.volume.specs.Rest.{RestsAt}
@@ -24,22 +24,22 @@ module _ {D : Type 0} (state : D → DiskState) (only_now : (disk : D) (contents
       (λ contents left. only_now old contents (subst (λ disk. (state disk).honest) same honest) left) here)
 
   pub untouched_quiet : (state new).honest → (f : Files File) → RestsAt (state old) f
-      → LeavesOnly (state old) (state new) (λ contents. Stands (state old).size contents f)
-  untouched_quiet honest f rests = untouched_leaves honest (λ contents. Stands (state old).size contents f)
-      (λ contents left. rest_settles (state old) (λ d. SettledStands (state old).size d f) rests contents left)
+      → LeavesOnly (state old) (state new) (λ contents. StandsOn (pack_of (state old)) contents f)
+  untouched_quiet honest f rests = untouched_leaves honest (λ contents. StandsOn (pack_of (state old)) contents f)
+      (λ contents left. rest_settles (state old) (λ d. SettledStandsOn (pack_of (state old)) d f) rests contents left)
 
   pub untouched_crashes : (c : VolumeCore) (jobs : List (Option Job)) (n : ℕ) (call : Call) (moment : Moment)
       → CallCrashes (state old) (state new) c jobs n call moment
   untouched_crashes c jobs n call moment honest s is =
       untouched_leaves honest _ (λ contents left.
-      inl (rest_settles (state old) (λ d. SettledStands (state old).size d (without_serials s.files)) is.files
+      inl (rest_settles (state old) (λ d. SettledStandsOn (pack_of (state old)) d (without_serials s.files)) is.files
       contents left))
 
 -- The files are what they were, whatever was written.
 pub quiet_crashes : (d d' : DiskState) (c : VolumeCore) (jobs : List (Option Job)) (n : ℕ) (call : Call)
     (moment : Moment)
-    → (d'.honest → (f : Files File) → RestsAt d f → LeavesOnly d d' (λ contents. Stands d.size contents f))
+    → (d'.honest → (f : Files File) → RestsAt d f → LeavesOnly d d' (λ contents. StandsOn (pack_of d) contents f))
     → CallCrashes d d' c jobs n call moment
 quiet_crashes d d' c jobs n call moment quiet honest s is =
-    leaves_weaker d d' (λ contents. Stands d.size contents (without_serials s.files)) _
+    leaves_weaker d d' (λ contents. StandsOn (pack_of d) contents (without_serials s.files)) _
     (quiet honest (without_serials s.files) is.files) (λ contents was. inl was)

@@ -42,7 +42,7 @@ use Rattle.monitor.specs.Finding.{IsKnown, file_begun}
 use Rattle.monitor.specs.Inputs.{named_in}
 use Rattle.monitor.specs.Readers.{AreRead, ArePinned}
 use Rattle.monitor.specs.Rows.{KeepsSides, KeepsReading}
-use Rattle.monitor.specs.Serving.{pack_of, present, IsSide, AreKeyed, IsWriting, AreReading, IsState, Serves}
+use Rattle.monitor.specs.Serving.{pack_one, present, IsSide, AreKeyed, IsWriting, AreReading, IsState, Serves}
 use Rattle.monitor.specs.Sides.{Writing, UnderKeys, side_of, kind_of, input_of, output_of, channel_of, job_of}
 use Rattle.monitor.specs.Sides.{state_of, pins_of, readers}
 use Rattle.monitor.specs.Updating.{update_kind, updating_kind, first_block, updating_side, updating, IsUpdating}
@@ -207,7 +207,7 @@ module _ (d : DiskState) (map map' : VolumeCore) (jobs jobs' : List (Option Job)
   module _ (sound : IsSoundCore d map false) (honest : d.honest) (timely : moment.date ≤ 4095)
       (whole : IsWholeCore d.size is.between)
       (row : (s : State) → IsKnown d map s → (w : UnderKeys)
-      → IsEnterAnswer (pack_of d) s (job_of w job) (job_of w job') (channel_at (job_of w job) ch) e Done)
+      → IsEnterAnswer (pack_one d) s (job_of w job) (job_of w job') (channel_at (job_of w job) ch) e Done)
       (updates : (files : Files File) → RestsAt d files
       → IsUpdateOf d.contents job input is.kind is.version is.renews.between is.renewed files) where
     module _ (s : State) (state : IsState d map jobs s) where
@@ -261,9 +261,9 @@ module _ (d : DiskState) (map map' : VolumeCore) (jobs jobs' : List (Option Job)
       t_known : IsKnown d map t
       t_known = subst (IsKnown d map) t_is (known d map jobs s state sound honest)
 
-      answer : enter_answer (pack_of d) t (job_of w job) (channel_of w c) e (place_at (job_of w job) e) ≡ Done
+      answer : enter_answer (pack_one d) t (job_of w job) (channel_of w c) e (place_at (job_of w job) e) ≡ Done
       answer = ⊎_elim (λ none. absurd (cc none.0)) (λ a. a.0)
-          (subst (λ o. IsEnterAnswer (pack_of d) t (job_of w job) (job_of w job') o e Done)
+          (subst (λ o. IsEnterAnswer (pack_one d) t (job_of w job) (job_of w job') o e Done)
           (channel_is w job ch (Some c) is.there) (row t t_known w))
 
       -- where the version is, in either state
@@ -327,17 +327,17 @@ module _ (d : DiskState) (map map' : VolumeCore) (jobs jobs' : List (Option Job)
           }))
 
       -- the row
-      row_is : (serial : ℕ) → step (pack_of d) serial t (Calls n (Enter ch e) moment) ≡ (Done, state_of s.files w jobs')
+      row_is : (serial : ℕ) → step (pack_one d) serial t (Calls n (Enter ch e) moment) ≡ (Done, state_of s.files w jobs')
       row_is serial =
           called d jobs n (Enter ch e) moment serial s.files w timely job there
-          ∙ ap (λ o. on_channel t o (λ y. of_job t n (enter (pack_of d) t (job_of w job) ch y e moment)))
+          ∙ ap (λ o. on_channel t o (λ y. of_job t n (enter (pack_one d) t (job_of w job) ch y e moment)))
           (channel_is w job ch (Some c) is.there)
           ∙ ap (of_job t n)
-          (ap (λ r. settled r (enter_done (pack_of d) t (job_of w job) ch (channel_of w c) e moment
+          (ap (λ r. settled r (enter_done (pack_one d) t (job_of w job) ch (channel_of w c) e moment
           (place_at (job_of w job) e)) (refused_at (job_of w job) e)) answer
           ∙ ap (λ o. (
             Done,
-            entered (pack_of d) (job_of w job) ch (channel_of w c) e
+            entered (pack_one d) (job_of w job) ch (channel_of w c) e
                 (input_updating o (file_at s.files (place_at (job_of w job) e)))
                 (output_opened (job_of w job) (channel_of w c) e moment (place_at (job_of w job) e)
                 (digit_at t (job_of w job) (place_at (job_of w job) e)) o
@@ -345,19 +345,19 @@ module _ (d : DiskState) (map map' : VolumeCore) (jobs jobs' : List (Option Job)
           )) (ap (option_map (input_of w)) is.side)
           ∙ ap (λ o. (
             Done,
-            entered (pack_of d) (job_of w job) ch (channel_of w c) e (input_updating (Some (input_of w input)) o)
+            entered (pack_one d) (job_of w job) ch (channel_of w c) e (input_updating (Some (input_of w input)) o)
                 (output_opened (job_of w job) (channel_of w c) e moment (place_at (job_of w job) e)
                 (digit_at t (job_of w job) (place_at (job_of w job) e)) (Some (input_of w input)) o),
           )) found_at
           ∙ ap (λ i. (
             Done,
-            entered (pack_of d) (job_of w job) ch (channel_of w c) e (Some i)
+            entered (pack_one d) (job_of w job) ch (channel_of w c) e (Some i)
                 (output_updating (digit_at t (job_of w job) (place_at (job_of w job) e)) (place_at (job_of w job) e)
                 version),
           )) input_is
           ∙ ap (λ o. (
             Done,
-            entered (pack_of d) (job_of w job) ch (channel_of w c) e (Some (input_of w is.renewed)) o,
+            entered (pack_one d) (job_of w job) ch (channel_of w c) e (Some (input_of w is.renewed)) o,
           )) opens
           ∙ ap (λ core. (
             Done,
@@ -400,11 +400,11 @@ module _ (d : DiskState) (map map' : VolumeCore) (jobs jobs' : List (Option Job)
           absurd (let wrong = sym is_new ∙ old in cc wrong)
 
       pub updating_leads : (failed : Bool) → failed ≡ false → (new : Service) × Serves d map' failed jobs' new
-          × Answers (pack_of d) (Serving s) (Calls n (Enter ch e) moment) Done new
+          × Answers (pack_one d) (Serving s) (Calls n (Enter ch e) moment) Done new
       updating_leads failed serves =
-          goes_on d map' failed jobs' (pack_of d) (Calls n (Enter ch e) moment) Done s
+          goes_on d map' failed jobs' (pack_one d) (Calls n (Enter ch e) moment) Done s
           (state_of s.files w jobs') serves state.sound
-          (λ serial. subst (λ x. step (pack_of d) serial x (Calls n (Enter ch e) moment)
+          (λ serial. subst (λ x. step (pack_one d) serial x (Calls n (Enter ch e) moment)
           ≡ (Done, state_of s.files w jobs')) (sym t_is) (row_is serial))
           (λ still. record {
             files = state.files;

@@ -1,11 +1,12 @@
 -- Words that are put into a job's core one after the other.
 use Rattle.std.specs.Prelude.{◌≡◌, ◌+◌, ℕ, Bool, List, [], ◌∷◌, Option}
 use Rattle.blockdisk.specs.Disk.{DiskState}
+use Rattle.meaning.specs.Layouts.{pack_of}
 use Rattle.meaning.specs.Runs.{Service, Answers}
 use Rattle.meaning.specs.declared.call.Event.TheVariants.{Deposit}
 use Rattle.meaning.specs.declared.call.Reply.TheVariants.{Done}
 use Rattle.volume.specs.Live.{VolumeCore}
-use Rattle.monitor.specs.Serving.{pack_of, Serves}
+use Rattle.monitor.specs.Serving.{Serves}
 use Rattle.monitor.specs.declared.job.Job.{Job}
 
 -- The words were deposited for job n from the address `first` on, each by an event of its own that was answered Done;

@@ -3,8 +3,8 @@ use Rattle.std.specs.Prelude.{◌⊎◌, ℕ, List, Option}
 use Rattle.words36.specs.declared.moment.Moment.{Moment}
 use Rattle.blockdisk.specs.Disk.{DiskState, LeavesOnly}
 use Rattle.meaning.specs.Jobs.{State, slot}
+use Rattle.meaning.specs.Layouts.{pack_of, StandsOn}
 use Rattle.meaning.specs.Published.{without_serials}
-use Rattle.meaning.specs.Stands.{Stands}
 use Rattle.meaning.specs.Step.{step}
 use Rattle.meaning.specs.declared.call.Call.{Call}
 use Rattle.meaning.specs.declared.call.Event.TheVariants.{Call as Calls, Login, Deposit, Examine}
@@ -12,19 +12,19 @@ use Rattle.meaning.specs.declared.call.Reply.{Reply}
 use Rattle.meaning.specs.declared.call.Reply.TheVariants.{Done, Value, Refused, Stopped, NoChannel, AddressCheck, NoJob}
 use Rattle.meaning.specs.declared.call.Reply.TheVariants.{NoMemory, Device, Failed, DateRange}
 use Rattle.volume.specs.Live.{VolumeCore}
-use Rattle.monitor.specs.Serving.{pack_of, IsState}
+use Rattle.monitor.specs.Serving.{pack_one, IsState}
 use Rattle.monitor.specs.declared.job.Job.{Job}
 use Rattle.monitor.specs.Calls.{IsLight}
 use Rattle.meaning.specs.declared.call.Event.{Event}
 
 -- At any moment of the call by the job of a number, whether it is logged in or not, a crash leaves the files from
--- before, or those of the machine after it.
+-- before, or those of the machine after it, in the same layout.
 abbrev pub CallCrashes : (d d' : DiskState) (c : VolumeCore) (jobs : List (Option Job)) (n : ℕ) → Call → Moment → Type 0
 CallCrashes d d' c jobs n call moment =
     d'.honest → (s : State) → IsState d c jobs s
-    → LeavesOnly d d' (λ contents. Stands d.size contents (without_serials s.files)
+    → LeavesOnly d d' (λ contents. StandsOn (pack_of d) contents (without_serials s.files)
     ⊎ ((serial : ℕ)
-    × Stands d.size contents (without_serials ((step (pack_of d) serial s (Calls n call moment)).1.files))))
+    × StandsOn (pack_of d) contents (without_serials ((step (pack_one d) serial s (Calls n call moment)).1.files))))
 
 -- an answer with which the disk isn't touched
 abbrev pub IsIdle : Reply → Type 0

@@ -13,7 +13,7 @@ use Rattle.volume.specs.Rest.{IsSoundCore}
 use Rattle.monitor.specs.Calls.{IsLight, KeepsCore}
 use Rattle.monitor.specs.Events.{CallCrashes, IsIdle, IsDecided}
 use Rattle.monitor.specs.Refusals.{IsRefused}
-use Rattle.monitor.specs.Serving.{pack_of, Serves, AreKeyed, ArePlaced, AreReading}
+use Rattle.monitor.specs.Serving.{pack_one, Serves, AreKeyed, ArePlaced, AreReading}
 use Rattle.monitor.specs.declared.job.Job.{Job}
 
 -- The job of number n among these is this one, and what they write and read is what the volume has.
@@ -45,7 +45,7 @@ pub record IsServing {D : Type 0} (state : D → DiskState) (disk disk' : D) (co
   -- those.
   pub answered : (state disk').honest → (old : Service) → Serves (state disk) core false jobs old
       → (new : Service) × Serves (state disk') core' failed' jobs' new
-      × Answers (pack_of (state disk)) old (Calls n call moment) reply new
+      × Answers (pack_one (state disk)) old (Calls n call moment) reply new
   pub crash : CallCrashes (state disk) (state disk') core jobs n call moment
   -- Which answers, and which calls, leave the disk and the rest alone, on every disk.
   pub idle : IsIdle reply → disk' ≡ disk

@@ -6,12 +6,12 @@ use Rattle.blockdisk.specs.Disk.{DiskState, LeavesOnly, SameDisk, one_more}
 use Rattle.meaning.specs.Files.{File, Files}
 use Rattle.meaning.specs.Jobs as machine
 use Rattle.meaning.specs.Jobs.{State, cleared, block_too_large}
+use Rattle.meaning.specs.Layouts.{pack_of, StandsOn}
 use Rattle.meaning.specs.Published.{without_serials}
 use Rattle.meaning.specs.Retrieval.{HasBody}
 use Rattle.meaning.specs.Rings.{is_buffered, last_words}
 use Rattle.meaning.specs.Runs.{Service, Serving, Answers}
 use Rattle.meaning.specs.Splices.{splice, length_after}
-use Rattle.meaning.specs.Stands.{Stands}
 use Rattle.meaning.specs.Step.{step}
 use Rattle.meaning.specs.declared.call.Call.{Call}
 use Rattle.meaning.specs.declared.call.Event.TheVariants.{Call as Calls}
@@ -25,7 +25,7 @@ use Rattle.volume.specs.Rest.{RestsAt, StandsForOneOf, KeepsRead, KeepsWritten}
 use Rattle.volume.specs.declared.live.LiveVersion.{LiveVersion}
 use Rattle.volume.specs.declared.pending.PendingVersion.{PendingVersion}
 use Rattle.monitor.specs.Putting.{FindsNone}
-use Rattle.monitor.specs.Serving.{AreKeyed, ArePlaced, AreReading, pack_of, IsState, Serves}
+use Rattle.monitor.specs.Serving.{AreKeyed, ArePlaced, AreReading, pack_one, IsState, Serves}
 use Rattle.monitor.specs.declared.channel.Channel.{Channel}
 use Rattle.monitor.specs.declared.job.Job.{Job}
 use Rattle.monitor.specs.declared.output.Output.{Output}
@@ -40,7 +40,7 @@ pub record MayPublish (d d' : DiskState) (c c' : VolumeCore) (o : Output) (last 
   pub crash : d'.honest → (f : Files File) → RestsAt d f → (p : PendingVersion)
       → pending_at c.pending o.pending.key ≡ Some p
       → (body : List ℕ) → length body ≡ p.version.words → HasBody d.contents p.version.blocks body
-      → LeavesOnly d d' (StandsForOneOf d.size f
+      → LeavesOnly d d' (StandsForOneOf (pack_of d) f
       (files_published f p.prime.ppn p.prime.file (file_of p.prime (splice body o.next last))))
   -- all other versions stay
   pub others : (k : ℕ) → (k ≡ o.pending.key → ⊥) → pending_at c'.pending k ≡ pending_at c.pending k
@@ -100,16 +100,16 @@ IsPublishRow d d' c c' failed' job job' call reply =
     d'.honest → ArePlaced c → (jobs : List (Option Job)) (n : ℕ) (moment : Moment) → machine.slot jobs n ≡ Some job
     → moment.date ≤ 4095 → (s : State) → IsState d c jobs s
     → (new : Service) × Serves d' c' failed' (slice_set jobs n (Some job')) new
-    × Answers (pack_of d) (Serving s) (Calls n call moment) reply new
+    × Answers (pack_one d) (Serving s) (Calls n call moment) reply new
 
 -- A crash leaves the files from before, or those of the machine's row.
 abbrev pub CrashesAsRow : (d d' : DiskState) (c : VolumeCore) → Job → Call → Type 0
 CrashesAsRow d d' c job call =
     d'.honest → (jobs : List (Option Job)) (n : ℕ) (moment : Moment) → machine.slot jobs n ≡ Some job
     → moment.date ≤ 4095 → (s : State) → IsState d c jobs s
-    → LeavesOnly d d' (λ contents. Stands d.size contents (without_serials s.files)
+    → LeavesOnly d d' (λ contents. StandsOn (pack_of d) contents (without_serials s.files)
     ⊎ ((serial : ℕ)
-    × Stands d.size contents (without_serials ((step (pack_of d) serial s (Calls n call moment)).1.files))))
+    × StandsOn (pack_of d) contents (without_serials ((step (pack_one d) serial s (Calls n call moment)).1.files))))
 
 -- Where the volume hasn't failed, the sides of all jobs are still those of the versions that are being written and
 -- read, and each that is written may be published.

@@ -3,6 +3,7 @@ use Rattle.std.specs.Prelude.{◌≡◌, ℕ, ◌<◌, Bool, true, false, List, 
 use Rattle.std.specs.List.{AllByRecursion}
 use Rattle.blockdisk.specs.Disk.{DiskState}
 use Rattle.meaning.specs.Jobs.{State, is_create, slot}
+use Rattle.meaning.specs.Layouts.{pack_in}
 use Rattle.meaning.specs.Maps.{times}
 use Rattle.meaning.specs.Published.{file_at, without_serials}
 use Rattle.meaning.specs.Retrieval.{HasBody}
@@ -23,9 +24,9 @@ use Rattle.monitor.specs.declared.input.Input.{Input}
 use Rattle.monitor.specs.declared.job.Job.{Job}
 use Rattle.monitor.specs.declared.output.Output.{Output}
 
--- the disk of a monitor, in layout 1
-abbrev pub pack_of : DiskState → Pack
-pack_of d = record { layout = 1; blocks = d.size }
+-- the pack of every disk that is served so far
+abbrev pub pack_one : DiskState → Pack
+pack_one d = pack_in 1 d.size
 
 -- What core keeps, whatever the disk does.
 

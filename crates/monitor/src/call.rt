@@ -3,6 +3,7 @@ ghost use Rattle.blockdisk.specs.Disk.{SameDisk, LeavesOnly, one_more};
 ghost use Rattle.meaning.specs.Crashes.{StandsForEither};
 ghost use Rattle.meaning.specs.Jobs.{State, slot, job_at};
 ghost use Rattle.meaning.specs.Jobs.{Job as MachineJob};
+ghost use Rattle.meaning.specs.Layouts.{pack_of};
 ghost use Rattle.meaning.specs.Runs.{Service, Serving, Answers};
 ghost use Rattle.meaning.specs.declared.call.Call.TheVariants.{In};
 ghost use Rattle.meaning.specs.declared.call.Event.TheVariants.{Call as Calls};
@@ -12,7 +13,7 @@ ghost use Rattle.monitor.specs.Events.{IsIdle, IsDecided};
 ghost use Rattle.monitor.specs.Moments.{read_of};
 ghost use Rattle.monitor.specs.Promises.{IsCallReady, IsServing, ServesJob};
 ghost use Rattle.monitor.specs.Refusals.{IsRefused};
-ghost use Rattle.monitor.specs.Serving.{pack_of, Serves, AreKeyed, ArePlaced, AreReading};
+ghost use Rattle.monitor.specs.Serving.{Serves, AreKeyed, ArePlaced, AreReading};
 ghost use Rattle.monitor.specs.declared.job.Job.{Job as JobRecord};
 ghost use Rattle.volume.specs.Rest.{IsSoundCore};
 

@@ -2,6 +2,7 @@ ghost use Rattle.std.specs.Prelude.{◌≡◌, ◌↔◌, ℕ, false, IsTrue};
 ghost use Rattle.words36.specs.declared.names.FileName.{FileName};
 ghost use Rattle.blockdisk.specs.Disk.{LeavesOnly, SameDisk, one_more};
 ghost use Rattle.meaning.specs.Files.{File, Files};
+ghost use Rattle.meaning.specs.Layouts.{pack_of};
 ghost use Rattle.meaning.specs.declared.call.Reply.TheVariants.{Done, Device};
 ghost use Rattle.volume.specs.Beginning.{IsDirectoryOf};
 ghost use Rattle.volume.specs.Known.{KnownDirectory};
@@ -45,7 +46,7 @@ fn delete_dir<D: Disk>(volume: &mut Volume<D>, job: &mut Job, address: u32) -> R
     // A crash finds the files as they were, or without the directory.
     ensures crash { (D.state volume.new.disk).honest → (f : Files File) → RestsAt (D.state volume.old.disk) f
         → LeavesOnly (D.state volume.old.disk) (D.state volume.new.disk)
-        (StandsForOneOf (D.state volume.old.disk).size f (directory_removed f (asked_owner job.old.core address))) }
+        (StandsForOneOf (pack_of (D.state volume.old.disk)) f (directory_removed f (asked_owner job.old.core address))) }
     ensures done { (D.state volume.new.disk).honest → (f : Files File) → RestsAt (D.state volume.old.disk) f
         → result ≡ Done
         → RestsAt (D.state volume.new.disk) (directory_removed f (asked_owner job.old.core address)) }

@@ -23,7 +23,7 @@ ghost use Rattle.monitor.specs.Finding.{found_in, begun_as, allowed, kind_for, p
 ghost use Rattle.monitor.specs.Finding.{IsAnswer, IsPrimeAt, begin_answer_at};
 ghost use Rattle.monitor.specs.Entering.{entered_kind, IsEntering, IsEnterAnswer};
 ghost use Rattle.monitor.specs.Rows.{KeepsReading};
-ghost use Rattle.monitor.specs.Serving.{pack_of, ArePlaced};
+ghost use Rattle.monitor.specs.Serving.{pack_one, ArePlaced};
 ghost use Rattle.monitor.specs.Sides.{UnderKeys, job_of, reader_of};
 ghost use Rattle.monitor.specs.Refusals.{with_code};
 ghost use Rattle.meaning.specs.declared.call.Call.TheVariants.{Enter};
@@ -302,7 +302,7 @@ fn begin_at<D: Disk>(
         (protection_or (slice_index job.now.core (address + 2)) 0o057)) }
     ensures answered { (D.state volume.new.disk).honest → volume.old.failed ≡ false → (s : State)
         → IsKnown (D.state volume.old.disk) volume.old.core s
-        → (under : UnderKeys) → IsAnswer result (begin_answer_at (pack_of (D.state volume.old.disk)) s
+        → (under : UnderKeys) → IsAnswer result (begin_answer_at (pack_one (D.state volume.old.disk)) s
         (job_of under job.now) (place_at (job_of under job.now) address)) }
 {
     let Some(ppn) = owner_at(job, address) else {
@@ -362,7 +362,7 @@ fn enter<D: Disk>(
     ensures reads { KeepsReading volume.old.core.live volume.new.core.live job.old job.new }
     ensures row { (D.state volume.new.disk).honest → (s : State)
         → IsKnown (D.state volume.old.disk) volume.old.core s
-        → (under : UnderKeys) → IsEnterAnswer (pack_of (D.state volume.old.disk)) s (job_of under job.old)
+        → (under : UnderKeys) → IsEnterAnswer (pack_one (D.state volume.old.disk)) s (job_of under job.old)
         (job_of under job.new) (channel_at (job_of under job.old) number) address result }
     ensures refused { (code : ℕ) → result ≡ Refused code → job.new ≡ with_code job.old address code }
     ensures decided { IsDecided result → job.new ≡ job.old }

@@ -1,11 +1,12 @@
 ghost use Rattle.std.specs.Prelude.{◌≡◌, ◌⊎◌, ◌↔◌, ℕ, false, Some, slice_set, IsTrue};
 ghost use Rattle.meaning.specs.Jobs.{slot};
+ghost use Rattle.meaning.specs.Layouts.{pack_of};
 ghost use Rattle.meaning.specs.Runs.{Service, Answers};
 ghost use Rattle.meaning.specs.Sessions.{login_answer};
 ghost use Rattle.meaning.specs.declared.call.Event.TheVariants.{Login};
 ghost use Rattle.meaning.specs.declared.call.Reply.TheVariants.{Done, Failed, NoMemory};
 ghost use Rattle.monitor.specs.Dropping.{OnlyDrops};
-ghost use Rattle.monitor.specs.Serving.{pack_of, Serves, AreKeyed, ArePlaced, AreReading};
+ghost use Rattle.monitor.specs.Serving.{Serves, AreKeyed, ArePlaced, AreReading};
 ghost use Rattle.monitor.specs.Sides.{new_job};
 
 use crate::dropping::close_job;

@@ -2,6 +2,7 @@ ghost use Rattle.std.specs.Prelude.{◌≡◌, ◌↔◌, ◌==◌, ℕ, false, 
 ghost use Rattle.words36.specs.declared.names.FileName.{FileName};
 ghost use Rattle.blockdisk.specs.Disk.{LeavesOnly, SameDisk, one_more};
 ghost use Rattle.meaning.specs.Files.{File, Files};
+ghost use Rattle.meaning.specs.Layouts.{pack_of};
 ghost use Rattle.meaning.specs.Rights.{system};
 ghost use Rattle.meaning.specs.declared.call.Reply.TheVariants.{Done, Device};
 ghost use Rattle.volume.specs.Beginning.{IsDirectoryOf};
@@ -59,7 +60,7 @@ fn make_dir<D: Disk>(alloc: Global, volume: &mut Volume<D>, job: &mut Job, addre
     // A crash finds the files as they were, or with the directory.
     ensures crash { (D.state volume.new.disk).honest → (f : Files File) → RestsAt (D.state volume.old.disk) f
         → LeavesOnly (D.state volume.old.disk) (D.state volume.new.disk)
-        (StandsForOneOf (D.state volume.old.disk).size f
+        (StandsForOneOf (pack_of (D.state volume.old.disk)) f
         (files_made f (asked_owner job.old.core address) (directory_protection_asked job.old.core address))) }
     ensures done { (D.state volume.new.disk).honest → (f : Files File) → RestsAt (D.state volume.old.disk) f
         → result ≡ Done → RestsAt (D.state volume.new.disk)

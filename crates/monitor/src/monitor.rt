@@ -3,12 +3,13 @@ ghost use Rattle.blockdisk.specs.Disk.{NoneOpen, SameDisk, Still, one_more};
 ghost use Rattle.changeset.specs.Crashes.{IsRecovered, SyncsFirst};
 ghost use Rattle.meaning.specs.Files.{File, Files};
 ghost use Rattle.meaning.specs.Jobs.{State};
+ghost use Rattle.meaning.specs.Layouts.{StandsOn, pack_of};
 ghost use Rattle.meaning.specs.Published.{without_serials};
 ghost use Rattle.meaning.specs.Room.{room};
 ghost use Rattle.meaning.specs.Runs.{Service, Serving, IsStart};
 ghost use Rattle.meaning.specs.Stands.{Stands};
 ghost use Rattle.monitor.specs.Runs.{HasStarted};
-ghost use Rattle.monitor.specs.Serving.{pack_of, Serves};
+ghost use Rattle.monitor.specs.Serving.{Serves};
 ghost use Rattle.monitor.specs.Sides.{no_jobs};
 ghost use Rattle.volume.specs.FaultsFound.{NamesInSpace, Refuses};
 ghost use Rattle.volume.specs.Rest.{StandsLike};
@@ -52,11 +53,12 @@ impl<D: Disk> Monitor<D> {
         ensures started { (files : Files File) → Stands (D.state disk).size (D.state disk).contents files
             → (s : State) → IsStart files s → IfOk result (λ m. (D.state m.disk).honest
             → Serves (D.state m.disk) m.map m.failed m.jobs (Serving s)) }
-        // It starts only where the disk stands for some files, and nothing but the recovery was written.
+        // It starts only if the disk stands for some files, and serves them in the layout in which it stands for them;
+        // nothing but the recovery was written.
         ensures recovered { IfOk result (λ m. (D.state m.disk).honest
             → IsRecovered (D.state disk).size (D.state disk).contents (D.state m.disk).contents) }
         ensures stood { IfOk result (λ m. (D.state m.disk).honest → (files : Files File)
-            × Stands (D.state disk).size (D.state disk).contents files
+            × StandsOn (pack_of (D.state m.disk)) (D.state disk).contents files
             × ((s : State) → IsStart files s → Serves (D.state m.disk) m.map m.failed m.jobs (Serving s))) }
         ensures settled { IfOk result (λ m. (D.state m.disk).honest → NoneOpen (D.state m.disk)) }
         // On every disk it serves, and nobody is logged in.

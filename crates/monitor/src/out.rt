@@ -7,9 +7,9 @@ ghost use Rattle.meaning.specs.Cores.{joined};
 ghost use Rattle.meaning.specs.Costs.{blocks_of};
 ghost use Rattle.meaning.specs.Files.{File, Files};
 ghost use Rattle.meaning.specs.Jobs.{slot};
+ghost use Rattle.meaning.specs.Layouts.{pack_of, StandsOn};
 ghost use Rattle.meaning.specs.Maps.{times};
 ghost use Rattle.meaning.specs.Outputs.{Outgoing, is_before_end};
-ghost use Rattle.meaning.specs.Stands.{Stands};
 ghost use Rattle.usercore.specs.declared.error.CoreError.TheVariants.{AddressCheck, NoMemory};
 ghost use Rattle.meaning.specs.declared.call.Reply.TheVariants.{Device, Failed};
 ghost use Rattle.volume.specs.Live.{pending_at};
@@ -162,7 +162,7 @@ fn out<D: Disk>(
     // A crash finds the files as they were.
     ensures quiet { (D.state volume.new.disk).honest → (f : Files File) → RestsAt (D.state volume.old.disk) f
         → LeavesOnly (D.state volume.old.disk) (D.state volume.new.disk)
-        (λ c. Stands (D.state volume.old.disk).size c f) }
+        (λ c. StandsOn (pack_of (D.state volume.old.disk)) c f) }
     ensures rests { (D.state volume.new.disk).honest → (f : Files File) → RestsAt (D.state volume.old.disk) f
         → RestsAt (D.state volume.new.disk) f }
     // No other version changes.

@@ -4,6 +4,8 @@ ghost use Rattle.changeset.specs.Crashes.{IsRecovered};
 ghost use Rattle.meaning.specs.Crashes.{StandsForEither, RunsOn, may_change};
 ghost use Rattle.meaning.specs.Files.{File, Files};
 ghost use Rattle.meaning.specs.Jobs.{State};
+ghost use Rattle.meaning.specs.Layouts.{pack_of};
+ghost use Rattle.meaning.specs.Room.{Pack};
 ghost use Rattle.meaning.specs.Published.{without_serials};
 ghost use Rattle.meaning.specs.Runs.{Service, Serving};
 ghost use Rattle.meaning.specs.Stands.{Stands};
@@ -11,7 +13,6 @@ ghost use Rattle.meaning.specs.Step.{step};
 ghost use Rattle.meaning.specs.declared.call.Event.{Event};
 ghost use Rattle.meaning.specs.declared.call.Reply.{Reply};
 ghost use Rattle.monitor.specs.Runs.{IsAlong, ServesFiles, HasStarted, AreStopped};
-ghost use Rattle.monitor.specs.Serving.{pack_of};
 ghost use Rattle.volume.specs.FaultsFound.{NamesInSpace, Refuses};
 ghost use Rattle.volume.specs.declared.error.VolumeError.TheVariants.{NoMemory, Device};
 
@@ -25,7 +26,8 @@ use std::alloc::Global;
 ///
 /// At whichever moment of the list the crash came, the files are those after some of the events that were answered,
 /// none of them left out, or those after these and the next one, which was running, where its answer is one that may
-/// change files; and no third. At whichever moments the starts before were stopped, they are the same.
+/// change files; and no third. At whichever moments the starts before were stopped, they are the same. The layout is
+/// the one in which the list was served (`pack`).
 ///
 /// # Errors
 ///
@@ -37,28 +39,31 @@ pub fn start_after_crash<D: Disk, E: Disk>(
     left: E,
 ) -> Result<Monitor<E>, (StartError, E)>
     ensures found { (D.state stopped.now).honest → (E.state left).size ≡ (D.state stopped.now).size
+        → (pack : Pack) → pack.blocks ≡ (D.state stopped.now).size
         → (t : ℕ) (s : State) (events : List Event) (replies : List Reply) (new : Service)
-        → RunsOn (pack_of (D.state stopped.now)) (D.state stopped.now) t (Serving s) events replies new
+        → RunsOn pack (D.state stopped.now) t (Serving s) events replies new
         → (starts : List (E × E)) → AreStopped E.state (D.state stopped.now) t starts (E.state left).contents
-        → (found : State) × IsAlong (pack_of (D.state stopped.now)) (Serving s) events replies found
-        × IfOk result (λ m. (E.state m.disk).honest
-        → ServesFiles (E.state m.disk) m.map m.failed m.jobs (without_serials found.files)) }
+        → (found : State) × IsAlong pack (Serving s) events replies found
+        × IfOk result (λ m. (E.state m.disk).honest → (pack_of (E.state m.disk) ≡ pack)
+        × ServesFiles (E.state m.disk) m.map m.failed m.jobs (without_serials found.files)) }
     ensures refused { (D.state stopped.now).honest → (E.state left).size ≡ (D.state stopped.now).size
+        → (pack : Pack) → pack.blocks ≡ (D.state stopped.now).size
         → (t : ℕ) (s : State) (events : List Event) (replies : List Reply) (new : Service)
-        → RunsOn (pack_of (D.state stopped.now)) (D.state stopped.now) t (Serving s) events replies new
+        → RunsOn pack (D.state stopped.now) t (Serving s) events replies new
         → (starts : List (E × E)) → AreStopped E.state (D.state stopped.now) t starts (E.state left).contents
         → IfErr result (λ refused. (E.state refused.1).honest → (refused.0 ≡ NoMemory) ⊎ (refused.0 ≡ Device)) }
     // What was left between the moment before an event and the moment after it: the files before it, or those after it
     // if its answer is one that may change files.
     ensures between { (E.state left).size ≡ (D.state stopped.now).size
+        → (pack : Pack) → pack.blocks ≡ (D.state stopped.now).size
         → (t u : ℕ) (s : State) (event : Event) (reply : Reply)
-        → Between (D.state stopped.now) t u (StandsForEither (pack_of (D.state stopped.now)) s event reply)
+        → Between (D.state stopped.now) t u (StandsForEither pack s event reply)
         → (D.state stopped.now).left_since t (E.state left).contents
         → ((D.state stopped.now).left_since u (E.state left).contents → ⊥)
         → IfOk result (λ m. (E.state m.disk).honest
         → ServesFiles (E.state m.disk) m.map m.failed m.jobs (without_serials s.files)
         ⊎ (IsTrue (may_change reply) × ServesFiles (E.state m.disk) m.map m.failed m.jobs
-        (without_serials (step (pack_of (D.state stopped.now)) 0 s event).1.files))) }
+        (without_serials (step pack 0 s event).1.files))) }
 
     // It may be stopped itself. Where all that a crash may leave at its beginning stands for the same files, whatever a
     // crash leaves at any moment of it does.

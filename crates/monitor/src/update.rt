@@ -25,7 +25,7 @@ ghost use Rattle.monitor.specs.Inputs.{named_in, digit_for};
 ghost use Rattle.monitor.specs.Readers.{readers_of};
 ghost use Rattle.monitor.specs.Refusals.{with_code};
 ghost use Rattle.monitor.specs.Rows.{KeepsReading};
-ghost use Rattle.monitor.specs.Serving.{pack_of, ArePlaced};
+ghost use Rattle.monitor.specs.Serving.{pack_one, ArePlaced};
 ghost use Rattle.monitor.specs.Sides.{UnderKeys, job_of, reader_of, readers_in, pins_of};
 ghost use Rattle.monitor.specs.Updating.{allowed_update, update_kind, update_answer_at, updating_side, IsUpdating};
 ghost use Rattle.monitor.specs.Updating.{IsUpdateOf};
@@ -164,7 +164,7 @@ fn begin_update<D: Disk>(
         (named_in (get files input.now.ppn) input.now.file))) }
     ensures answered { (D.state volume.new.disk).honest → volume.old.failed ≡ false → (s : State)
         → IsKnown (D.state volume.old.disk) volume.old.core s
-        → (under : UnderKeys) → IsAnswer result (update_answer_at (pack_of (D.state volume.old.disk)) s
+        → (under : UnderKeys) → IsAnswer result (update_answer_at (pack_one (D.state volume.old.disk)) s
         (job_of under job.now) (place_of input.now.ppn input.now.file)) }
 {
     let found = find(volume, input.ppn, &input.file);
@@ -264,7 +264,7 @@ pub fn update<D: Disk>(
     ensures reads { KeepsReading volume.old.core.live volume.new.core.live job.old job.new }
     ensures row { (D.state volume.new.disk).honest → (s : State)
         → IsKnown (D.state volume.old.disk) volume.old.core s
-        → (under : UnderKeys) → IsEnterAnswer (pack_of (D.state volume.old.disk)) s (job_of under job.old)
+        → (under : UnderKeys) → IsEnterAnswer (pack_one (D.state volume.old.disk)) s (job_of under job.old)
         (job_of under job.new) (channel_at (job_of under job.old) number) address result }
     ensures refused { (code : ℕ) → result ≡ Refused code → job.new ≡ with_code job.old address code }
     ensures decided { IsDecided result → job.new ≡ job.old }

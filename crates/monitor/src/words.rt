@@ -2,12 +2,13 @@ ghost use Rattle.std.specs.Prelude.{◌≡◌, ◌↔◌, ◌+◌, ◌<◌, ◌�
 ghost use Rattle.std.specs.Prelude.{slice_index, slice_set};
 ghost use Rattle.meaning.specs.Cores.{after_writes, placed};
 ghost use Rattle.meaning.specs.Jobs.{slot};
+ghost use Rattle.meaning.specs.Layouts.{pack_of};
 ghost use Rattle.meaning.specs.Runs.{Service, Answers};
 ghost use Rattle.meaning.specs.declared.call.Event.TheVariants.{Deposit, Examine};
 ghost use Rattle.meaning.specs.declared.call.Reply.TheVariants.{Done, Failed, Value};
 ghost use Rattle.monitor.specs.Deposits.{DepositsBy};
 ghost use Rattle.monitor.specs.Replies.{deposit_of, examine_of};
-ghost use Rattle.monitor.specs.Serving.{pack_of, Serves};
+ghost use Rattle.monitor.specs.Serving.{Serves};
 ghost use Rattle.monitor.specs.declared.job.Job.{Job as JobRecord};
 
 use crate::job::Jobs;

@@ -15,10 +15,12 @@ use Rattle.meaning.specs.Directories.{master_word}
 use Rattle.meaning.specs.Files.{File, Files, name_cmp}
 use Rattle.meaning.specs.Maps.{get}
 use Rattle.meaning.specs.Stands.{StoredFile, StoredDirectory, DiskMap, directory_of, files_of, entry_of, quota_limit}
+use Rattle.meaning.specs.Layouts.{pack_of}
 use Rattle.meaning.proofs.DiskMaps.{stands_same}
 use Rattle.meaning.proofs.MapLaws.{some_same}
 use Rattle.meaning.proofs.MapLists.{get-map_values, get-from_entries}
 use Rattle.meaning.proofs.Names.{name_total}
+use Rattle.meaning.proofs.Layouts.{settled_in_any}
 use Rattle.directory.specs.Edits.{StandsAt}
 use Rattle.retrieval.specs.Modes.{mode_number}
 use Rattle.volume.specs.declared.error.CallError.{CallError}
@@ -47,7 +49,8 @@ rest_holds s c failed sound honest alive files rest =
     record {
       map = own.map;
       held = held;
-      files_are = stands_same s.size s.contents (files_of own.map) files (own.map, held.stands, refl) stands;
+      files_are = stands_same s.size s.contents (files_of own.map) files (own.map, held.stands, refl)
+          (settled_in_any (pack_of s) s.contents files stands);
     }
 
 -- Room.

@@ -19,6 +19,7 @@ use Rattle.meaning.specs.Retrieval.{Extension, extension_numbers, AreExtensions}
 use Rattle.meaning.specs.Stands.{StoredFile, StoredDirectory, DiskMap, reaches}
 use Rattle.meaning.specs.Stands.{blocks_of_file, IsVersion, IsWhole, IsMapped, HasMap, SettledStands}
 use Rattle.meaning.specs.Stands.{place_of}
+use Rattle.meaning.specs.Layouts.{pack_of, SettledStandsOn}
 use Rattle.meaning.proofs.MapLaws.{some_same}
 use Rattle.meaning.proofs.Chains.{directory_kept}
 use Rattle.meaning.proofs.Versions.{version_kept}
@@ -29,6 +30,7 @@ use Rattle.changeset.specs.Rest.{AtRest}
 use Rattle.changeset.specs.Reads.{OnlyReads}
 use Rattle.volume.specs.Copying.{copied, AreCopied}
 use Rattle.volume.proofs.Starting.{rest_read}
+use Rattle.volume.proofs.Packs.{rests_in, pack_rests}
 use Rattle.volume.specs.Rest.{RestsAt}
 
 some_none : {X : Type 0} {x : X} → Some x ≡ None → ⊥
@@ -178,13 +180,14 @@ module _ (size : ℕ) (c d : Contents) (copy : AreCopied size c d) (m : DiskMap)
     };
   }
 
--- A copy that is on the disk stands for what is copied.
-pub copy_rests : (s s' : DiskState) (files : Files File) → s'.size ≡ s.size → NoneOpen s'
-    → AreCopied s.size s.contents s'.contents → RestsAt s files → RestsAt s' files
-copy_rests s s' files size none copy rest =
-    let stands : SettledStands s.size s.contents files = rest.all s.contents (λ n closed. refl) in
-    let there : SettledStands s.size s'.contents files
-    = (stands.0, copied_map s.size s.contents s'.contents copy stands.0 stands.1, stands.2) in
+-- A copy that is on the disk stands for what is copied, in the same layout.
+
+at_rest : (s s' : DiskState) (files : Files File) → s'.size ≡ s.size → NoneOpen s'
+    → AreCopied s.size s.contents s'.contents → RestsAt s files → AtRest s' (λ c. SettledStandsOn (pack_of s) c files)
+at_rest s s' files size none copy rest =
+    let stands : SettledStandsOn (pack_of s) s.contents files = rest.all s.contents (λ n closed. refl) in
+    let there : SettledStandsOn (pack_of s) s'.contents files
+    = (stands.0, copied_map s.size s.contents s'.contents copy stands.0 stands.1, stands.2, stands.3) in
     let low : 3 < s.size = (let small = stands.1.volume.small in omega arith) in
     record {
       shut = λ c left opened.
@@ -194,9 +197,19 @@ copy_rests s s' files size none copy rest =
             gate = gate_before s.contents s'.contents (s.contents 3) refl (copy 3 low)
                 (ap (λ (f : Contents). f 3) (sym now) ∙ opened.gate);
           });
-      all = λ c left. subst (λ (f : Contents). SettledStands s'.size f files) (sym (none_open_leaves s' none c left))
-          (subst (λ (n : ℕ). SettledStands n s'.contents files) (sym size) there);
+      all = λ c left. subst (λ (f : Contents). SettledStandsOn (pack_of s) f files)
+          (sym (none_open_leaves s' none c left)) there;
     }
+
+pub copy_rests : (s s' : DiskState) (files : Files File) → s'.size ≡ s.size → NoneOpen s'
+    → AreCopied s.size s.contents s'.contents → RestsAt s files → RestsAt s' files
+copy_rests s s' files size none copy rest =
+    rests_in s' (pack_of s) files (sym size) (at_rest s s' files size none copy rest)
+
+pub copy_pack : (s s' : DiskState) (files : Files File) → s'.size ≡ s.size → NoneOpen s'
+    → AreCopied s.size s.contents s'.contents → RestsAt s files → pack_of s' ≡ pack_of s
+copy_pack s s' files size none copy rest =
+    pack_rests s' (pack_of s) files (sym size) (at_rest s s' files size none copy rest)
 
 -- What is said of an answer.
 
@@ -208,8 +221,3 @@ ok_both (Err error) A B C a b on = tt
 pub ok_any : {E : Type 0} (answer : Result (Unit {0}) E) (A : Type 0) → A → OnOk answer A
 ok_any (Ok done) A a = a
 ok_any (Err error) A a = tt
-
-pub rest_on : (s s' : DiskState) (files : Files File) → s'.size ≡ s.size → OnlyReads s s' → RestsAt s files
-    → RestsAt s' files
-rest_on s s' files size reads rest = subst (λ (n : ℕ). AtRest s' (λ c. SettledStands n c files)) (sym size)
-    (rest_read s s' (λ c. SettledStands s.size c files) size reads rest)

@@ -11,7 +11,8 @@ use Rattle.meaning.specs.Blocks.{head_or_zero}
 use Rattle.meaning.specs.Regions.{IsVolumeSize, table_blocks, table_start, space_start}
 use Rattle.meaning.specs.Log.{open_gate, IsGateOpen}
 use Rattle.meaning.specs.Table.{table_bit}
-use Rattle.meaning.specs.Stands.{HasMap, Stands, files_of}
+use Rattle.meaning.specs.Layouts.{pack_in, StandsOn}
+use Rattle.meaning.specs.Stands.{HasMap, files_of}
 use Rattle.meaning.proofs.MapLaws.{some_same}
 use Rattle.meaning.proofs.Reading.{map_stands}
 use Rattle.alloctab.specs.TableBlocks.{table_words}
@@ -78,14 +79,14 @@ module _ (size : ℕ) (c : Contents) (volume : IsVolumeSize size) (bare : IsBare
   unfolding empty entries
   no_files = refl
 
-  pub fresh_stands : Stands size c empty
-  fresh_stands = (c, inl (fresh_shut, λ n. refl), (bare_map size, fresh_has_map, no_files))
+  pub fresh_stands : StandsOn (pack_in 1 size) c empty
+  fresh_stands = (c, inl (fresh_shut, λ n. refl), (bare_map size, fresh_has_map, no_files, refl))
 
 pub fresh_rest : (size : ℕ) (s : DiskState) → s.size ≡ size → IsVolumeSize size → IsBare size s.contents
-    → NoneOpen s → AtRest s (λ c. Stands size c empty)
+    → NoneOpen s → AtRest s (λ c. StandsOn (pack_in 1 size) c empty)
 fresh_rest size s same volume bare none = record {
   shut = λ c left is. fresh_shut size s.contents volume bare
       (subst (λ (n : ℕ). IsGateOpen n s.contents) same (subst (IsGateOpen s.size) (none_open_leaves s none c left) is));
-  all = λ c left. subst (λ (d : Contents). Stands size d empty) (sym (none_open_leaves s none c left))
+  all = λ c left. subst (λ (d : Contents). StandsOn (pack_in 1 size) d empty) (sym (none_open_leaves s none c left))
       (fresh_stands size s.contents volume bare);
 }

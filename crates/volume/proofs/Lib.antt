@@ -1,4 +1,5 @@
 pub mod HomeCopies
+pub mod Packs
 pub mod FreshTable
 pub mod FreshVolume
 pub mod Marking

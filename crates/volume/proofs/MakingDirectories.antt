@@ -17,12 +17,14 @@ use Rattle.std.specs.Ordering.{nat_cmp}
 use Rattle.std.specs.FinMap.Entries.{find}
 use Rattle.meaning.specs.Regions.{table_blocks, space_start, log_images}
 use Rattle.meaning.specs.Log.{IsTarget, targets, with_puts}
+use Rattle.meaning.specs.Layouts.{pack_in, pack_of}
 use Rattle.meaning.specs.Stands.{DiskMap, files_of}
 use Rattle.meaning.specs.Faults.{InSpace}
 use Rattle.meaning.proofs.MapLaws.{some_none}
 use Rattle.meaning.proofs.MapLists.{find-append_both}
 use Rattle.meaning.proofs.MapSums.{times-append}
 use Rattle.meaning.proofs.DiskMaps.{stands_same, fixed_below}
+use Rattle.meaning.proofs.Layouts.{settled_in_any}
 use Rattle.meaning.proofs.ChangedFiles.{files_made as files_of_made}
 use Rattle.changeset.specs.Crashes.{IsGateOrLog}
 use Rattle.changeset.specs.Puts.{IsPutIn}
@@ -39,6 +41,7 @@ use Rattle.volume.specs.declared.pending.PendingVersion.{PendingVersion}
 use Rattle.volume.specs.Making.{LeadsTo, IsAligned, bare_known, entry_made, map_made, files_made, IsMade}
 use Rattle.volume.specs.Rest.{IsAtRest, IsSoundCore, RestsAt, StandsForOneOf}
 use Rattle.volume.proofs.Apart.{apart_same}
+use Rattle.volume.proofs.Packs.{pack_held, rests_in}
 use Rattle.volume.proofs.Pinning.{total_at}
 use Rattle.volume.proofs.PrimeBlocks.{prime_stays}
 use Rattle.volume.proofs.Lookups.{all_push, total-push, zip_behind}
@@ -57,24 +60,29 @@ err_on x y is = let same : x ≡ y = cc in ap (λ e. Err e) same
 pub files_are : (s : DiskState) (k : Known) (m : DiskMap) (f : Files File) → AtRest s (IsHeld s.size k m)
     → RestsAt s f → files_of m ≡ f
 files_are s k m f rest rests = stands_same s.size s.contents (files_of m) f
-    (m, (rest.all s.contents (λ n closed. refl)).stands, refl) (rests.all s.contents (λ n closed. refl))
+    (m, (rest.all s.contents (λ n closed. refl)).stands, refl)
+    (settled_in_any (pack_of s) s.contents f (rests.all s.contents (λ n closed. refl)))
 
-pub crash_for : (s s' : DiskState) (k k' : Known) (m m' : DiskMap) (f f' : Files File) → files_of m ≡ f
-    → files_of m' ≡ f'
+pub crash_for : (s s' : DiskState) (k k' : Known) (m m' : DiskMap) (f f' : Files File)
+    → AtRest s (IsHeld s.size k m) → files_of m ≡ f → files_of m' ≡ f'
     → LeavesOnly s s' (λ c. SettlesTo s.size (IsHeld s.size k m) c ⊎ SettlesTo s.size (IsHeld s.size k' m') c)
-    → LeavesOnly s s' (StandsForOneOf s.size f f')
-crash_for s s' k k' m m' f f' is is' leaves =
+    → LeavesOnly s s' (StandsForOneOf (pack_of s) f f')
+crash_for s s' k k' m m' f f' rest is is' leaves =
     leaves_weaker s s' (λ c. SettlesTo s.size (IsHeld s.size k m) c ⊎ SettlesTo s.size (IsHeld s.size k' m') c)
-    (StandsForOneOf s.size f f') leaves
-    (λ c. ⊎_elim (λ old. inl (old.0, old.1, (m, old.2.stands, is)))
-    (λ new. inr (new.0, new.1, (m', new.2.stands, is'))))
+    (StandsForOneOf (pack_of s) f f') leaves
+    (λ c. ⊎_elim (λ old. inl (old.0, old.1, (m, old.2.stands, is, pack_held s k m rest)))
+    (λ new. inr (new.0, new.1, (m', new.2.stands, is', layout new.2))))
+  where
+    layout : {c : Contents} → IsHeld s.size k' m' c → m'.layout ≡ (pack_of s).layout
+    layout held = held.known.layout ∙ sym (rest.all s.contents (λ n closed. refl)).known.layout
+        ∙ pack_held s k m rest
 
 pub rest_for : (s s' : DiskState) (k' : Known) (m' : DiskMap) (f' : Files File) → s'.size ≡ s.size → files_of m' ≡ f'
     → AtRest s' (IsHeld s.size k' m') → RestsAt s' f'
-rest_for s s' k' m' f' size is rest = record {
+rest_for s s' k' m' f' size is rest = rests_in s' (pack_in m'.layout s'.size) f' refl (record {
   shut = rest.shut;
-  all = λ c left. (m', (subst (λ (b : ℕ). IsHeld b k' m' c) (sym size) (rest.all c left)).stands, is);
-}
+  all = λ c left. (m', (subst (λ (b : ℕ). IsHeld b k' m' c) (sym size) (rest.all c left)).stands, is, refl);
+})
 
 pub sound_for : (s s' : DiskState) (c' : VolumeCore) (failed : Bool) → s'.size ≡ s.size → IsWholeCore s.size c'
     → (s'.honest → failed ≡ false → HaveBodies s'.contents c')
@@ -362,11 +370,11 @@ module _ (s s' : DiskState) (k k' : Known) (ppn protection first : ℕ) (puts : 
       → ((m m' : DiskMap) → IsAligned k → IsAligned k' → AtRest s (IsHeld s.size k m) → bit k.table first ≡ 0
       → LeadsTo s.size s.contents first (replicate 128 0) puts k m k' m'
       → LeavesOnly s s' (λ c. SettlesTo s.size (IsHeld s.size k m) c ⊎ SettlesTo s.size (IsHeld s.size k' m') c))
-      → LeavesOnly s s' (StandsForOneOf s.size f (files_made f ppn protection))
+      → LeavesOnly s s' (StandsForOneOf (pack_of s) f (files_made f ppn protection))
   made_crash f rests transaction =
       let next = map_made at.map k'.master.blocks ppn protection first in
       let same = files_are s k at.map f at.rest rests in
-      crash_for s s' k k' at.map next f (files_made f ppn protection) same
+      crash_for s s' k k' at.map next f (files_made f ppn protection) at.rest same
       (files_of_made at.map k'.master.blocks ppn protection 0 (first ∷ [])
       ∙ ap (λ (z : Files File). files_made z ppn protection) same)
       (transaction at.map next whole.aligned (made_aligned s.size k k' ppn protection first puts whole made) at.rest

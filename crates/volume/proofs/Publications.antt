@@ -5,7 +5,8 @@ use Rattle.blockdisk.specs.Laws.{leaves_start, leaves_on, leaves_weaker}
 use Rattle.changeset.specs.Rest.{rest_settles}
 use Rattle.meaning.specs.Costs.{blocks_of}
 use Rattle.meaning.specs.Files.{File, Files}
-use Rattle.meaning.specs.Stands.{Stands, SettledStands}
+use Rattle.meaning.specs.Layouts.{pack_of, SettledStandsOn, StandsOn}
+use Rattle.meaning.specs.Room.{Pack}
 use Rattle.directory.specs.Edits.{Places}
 use Rattle.retrieval.specs.Versions.{VersionState}
 use Rattle.retrieval.specs.Writing.{rib_count}
@@ -15,27 +16,29 @@ use Rattle.volume.specs.Live.{VolumeCore, pending_at, IsWholeCore}
 use Rattle.volume.specs.Publishing.{IsPlaced, IsSupplied}
 use Rattle.volume.specs.Rest.{RestsAt, StandsForOneOf}
 use Rattle.volume.specs.declared.pending.PendingVersion.{PendingVersion}
+use Rattle.volume.proofs.Packs.{pack_kept}
 use Rattle.volume.proofs.PuttingCore.{waits}
 
 -- Where nothing was done, a crash leaves what stands for the files.
 pub unchanged_leaves : (s : DiskState) (f g : Files File) → RestsAt s f
-    → ((c : Contents) → s.left_since s.clock c → MayLeave s c) → LeavesOnly s s (StandsForOneOf s.size f g)
-unchanged_leaves s f g rests only_now = leaves_start s (StandsForOneOf s.size f g) only_now
-    (λ c left. inl (rest_settles s (λ d. SettledStands s.size d f) rests c left))
+    → ((c : Contents) → s.left_since s.clock c → MayLeave s c) → LeavesOnly s s (StandsForOneOf (pack_of s) f g)
+unchanged_leaves s f g rests only_now = leaves_start s (StandsForOneOf (pack_of s) f g) only_now
+    (λ c left. inl (rest_settles s (λ d. SettledStandsOn (pack_of s) d f) rests c left))
 
 -- Quiet writes leave the one.
-pub quiet_leaves_either : (s s' : DiskState) (f g : Files File) → LeavesOnly s s' (λ c. Stands s.size c f)
-    → LeavesOnly s s' (StandsForOneOf s.size f g)
-quiet_leaves_either s s' f g leaves = leaves_weaker s s' (λ c. Stands s.size c f) (StandsForOneOf s.size f g) leaves
+pub quiet_leaves_either : (s s' : DiskState) (f g : Files File) → LeavesOnly s s' (λ c. StandsOn (pack_of s) c f)
+    → LeavesOnly s s' (StandsForOneOf (pack_of s) f g)
+quiet_leaves_either s s' f g leaves = leaves_weaker s s' (λ c. StandsOn (pack_of s) c f) (StandsForOneOf (pack_of s) f g) leaves
     (λ c is. inl is)
 
 -- Quiet writes, and then a publication.
-pub both_leave : (s mid s' : DiskState) (f g : Files File) → mid.size ≡ s.size
-    → LeavesOnly s mid (λ c. Stands s.size c f) → LeavesOnly mid s' (StandsForOneOf mid.size f g)
-    → LeavesOnly s s' (StandsForOneOf s.size f g)
-both_leave s mid s' f g size first second =
-    leaves_on s mid s' (StandsForOneOf s.size f g) (StandsForOneOf mid.size f g)
-    (quiet_leaves_either s mid f g first) second (λ c. subst (λ (n : ℕ). StandsForOneOf n f g c) size)
+pub both_leave : (s mid s' : DiskState) (f g : Files File) → mid.size ≡ s.size → RestsAt mid f
+    → LeavesOnly s mid (λ c. StandsOn (pack_of s) c f) → LeavesOnly mid s' (StandsForOneOf (pack_of mid) f g)
+    → LeavesOnly s s' (StandsForOneOf (pack_of s) f g)
+both_leave s mid s' f g size rests first second =
+    let either = quiet_leaves_either s mid f g first in
+    leaves_on s mid s' (StandsForOneOf (pack_of s) f g) (StandsForOneOf (pack_of mid) f g)
+    either second (λ c. subst (λ (p : Pack). StandsForOneOf p f g c) (pack_kept s mid f g f size either rests))
 
 -- The chains stay when words are put.
 module _ (c c' : VolumeCore) (known : c'.known ≡ record c.known { table = c'.known.table }) where

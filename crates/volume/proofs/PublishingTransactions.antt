@@ -14,6 +14,7 @@ use Rattle.meaning.specs.Log.{with_puts}
 use Rattle.meaning.specs.Maps.{get, times}
 use Rattle.meaning.specs.Retrieval.{IsRetrieved, HasBody}
 use Rattle.meaning.specs.Stands.{StoredFile, StoredDirectory, DiskMap, IsVersion, files_of, place_of}
+use Rattle.meaning.specs.Layouts.{pack_of}
 use Rattle.meaning.proofs.Versions.{body_kept}
 use Rattle.retrieval.specs.Primes.{with_length}
 use Rattle.retrieval.specs.declared.prime.Prime.{Prime}
@@ -33,6 +34,7 @@ use Rattle.volume.proofs.PublishingCore.{made_current_whole}
 use Rattle.volume.proofs.PublishingLaw.{map_published, published_files, publishing_leads_in, stored, stored_at}
 use Rattle.volume.proofs.PublishingSlots.{made_current_bodies}
 use Rattle.volume.proofs.PuttingDisk.{ignores_clear}
+use Rattle.volume.proofs.Packs.{pack_held}
 
 -- a call that gave no error
 pub ok_is : {T E : Type 0} (result : Result T E) (A : Type 0) → is_err result ≡ false → OnOk result A → A
@@ -86,14 +88,14 @@ module _ {s mid : DiskState} {c c' : VolumeCore} {key : ℕ} {p : PendingVersion
 
   -- no crash sees this
   pub written_crash : (f g : Files File) → RestsAt s f → ((d : Contents) → s.left_since s.clock d → MayLeave s d)
-      → LeavesOnly s mid (StandsForOneOf s.size f g)
+      → LeavesOnly s mid (StandsForOneOf (pack_of s) f g)
   written_crash f g rests only_now =
       let is = files_are s c.known at_rest.map f at_rest.rest rests in
-      leaves_weaker s mid (SettlesTo s.size (IsHeld s.size c.known at_rest.map)) (StandsForOneOf s.size f g)
+      leaves_weaker s mid (SettlesTo s.size (IsHeld s.size c.known at_rest.map)) (StandsForOneOf (pack_of s) f g)
       (quiet_stands s mid (IsHeld s.size c.known at_rest.map)
       (quiet_leaves (λ n. 0 < times n (v.at ∷ v.version.ribs)) s mid (IsHeld s.size c.known at_rest.map)
       ignores not_gate at_rest.rest only_now modified))
-      (λ d held. inl (held.0, held.1, (at_rest.map, held.2.stands, is)))
+      (λ d held. inl (held.0, held.1, (at_rest.map, held.2.stands, is, pack_held s c.known at_rest.map at_rest.rest)))
 
   -- nor a reader, nor a writer
   kept_written : (n : ℕ) → IsKept s.size c n → mid.contents n ≡ s.contents n
@@ -166,10 +168,10 @@ module _ {s mid : DiskState} {c c' : VolumeCore} {key : ℕ} {p : PendingVersion
     -- the commit leaves the files of before, or those with the new one
     pub committed_crash : (s' : DiskState) → LeavesOnly mid s' (AllOrNone puts mid) → (f : Files File)
         → RestsAt s f → ((d : Contents) → s.left_since s.clock d → MayLeave s d)
-        → LeavesOnly s s' (StandsForOneOf s.size f (files_published f p.prime.ppn p.prime.file (file_of p.prime body)))
+        → LeavesOnly s s' (StandsForOneOf (pack_of s) f (files_published f p.prime.ppn p.prime.file (file_of p.prime body)))
     committed_crash s' leaves f rests only_now =
         crash_for s s' c.known c'.known at_rest.map new_map f (new_files f)
-        (files_are s c.known at_rest.map f at_rest.rest rests) (names f rests)
+        at_rest.rest (files_are s c.known at_rest.map f at_rest.rest rests) (names f rests)
         (transaction_leaves (λ n. 0 < times n (v.at ∷ v.version.ribs)) puts s mid s' (IsHeld s.size c.known at_rest.map)
         (IsHeld s.size c'.known new_map) ignores not_gate
         (ignores_log s.size c.known at_rest.map sound.whole.map.aligned) ignores_new same.size at_rest.rest

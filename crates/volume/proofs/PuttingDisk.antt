@@ -17,6 +17,7 @@ use Rattle.meaning.specs.Retrieval.{HasBody}
 use Rattle.meaning.specs.Splices.{splice, length_after}
 use Rattle.meaning.specs.Stands.{DiskMap, Stands, reaches}
 use Rattle.meaning.specs.Table.{table_bit, fixed}
+use Rattle.meaning.specs.Layouts.{pack_of, StandsOn}
 use Rattle.meaning.proofs.DiskMaps.{fixed_below, quiet, quiet_bits}
 use Rattle.meaning.proofs.MapLaws.{some_none}
 use Rattle.meaning.proofs.MapSums.{times-append}
@@ -36,6 +37,7 @@ use Rattle.volume.proofs.MakingDirectories.{files_are, rest_for, sound_for, soun
 use Rattle.volume.proofs.MakingHeld.{held_kept}
 use Rattle.volume.proofs.Pinning.{total_at, current_stands}
 use Rattle.volume.proofs.PuttingCore.{put_whole}
+use Rattle.volume.proofs.Packs.{pack_held}
 
 -- Quiet writes.
 
@@ -88,13 +90,13 @@ module _ (s s' : DiskState) (k : Known) (blocks : List ℕ) (aligned : IsAligned
 
   -- a crash finds the files from before
   pub put_quiet : (f : Files File) → RestsAt s f → ((c : Contents) → s.left_since s.clock c → MayLeave s c)
-      → LeavesOnly s s' (λ c. Stands s.size c f)
+      → LeavesOnly s s' (λ c. StandsOn (pack_of s) c f)
   put_quiet f rests only_now =
       let same = files_are s k at.map f at.rest rests in
-      leaves_weaker s s' (SettlesTo s.size (IsHeld s.size k at.map)) (λ c. Stands s.size c f)
+      leaves_weaker s s' (SettlesTo s.size (IsHeld s.size k at.map)) (λ c. StandsOn (pack_of s) c f)
       (quiet_stands s s' (IsHeld s.size k at.map) (quiet_leaves (IsOwn k.table blocks) s s'
       (IsHeld s.size k at.map) ignores not_gate at.rest only_now modified))
-      (λ c held. (held.0, held.1, (at.map, held.2.stands, same)))
+      (λ c held. (held.0, held.1, (at.map, held.2.stands, same, pack_held s k at.map at.rest)))
 
   -- and so does a start
   pub put_rests : (f : Files File) → RestsAt s f → RestsAt s' f
@@ -249,7 +251,7 @@ module _ {s s' : DiskState} {c : VolumeCore} (sound : IsSoundCore s c false) (sa
       (modified h') gate_set t (λ n. ap (λ (u : TableState). bit u n) is.1.table))
 
   pub crash_finds : s'.honest → (f : Files File) → RestsAt s f
-      → ((d : Contents) → s.left_since s.clock d → MayLeave s d) → LeavesOnly s s' (λ d. Stands s.size d f)
+      → ((d : Contents) → s.left_since s.clock d → MayLeave s d) → LeavesOnly s s' (λ d. StandsOn (pack_of s) d f)
   crash_finds h f rests only_now = put_quiet s s' c.known p.version.blocks sound.whole.map.aligned
       (sound.rest (same.was_honest h) refl) same.size (modified h) gate_set f rests only_now
 

@@ -12,6 +12,7 @@ use Rattle.meaning.specs.Faults.{InSpace}
 use Rattle.meaning.specs.Files.{File, Files}
 use Rattle.meaning.specs.Maps.{times}
 use Rattle.meaning.specs.Stands.{SettledStands}
+use Rattle.meaning.specs.Layouts.{pack_of, SettledStandsOn}
 use Rattle.meaning.proofs.Lists.{times_here, times_later}
 use Rattle.meaning.proofs.MapLaws.{some_none, some_same}
 use Rattle.meaning.proofs.MapSums.{times-append}
@@ -29,13 +30,14 @@ use Rattle.volume.specs.Rest.{HasSomeBody, IsSoundCore, RestsAt}
 use Rattle.volume.proofs.LiveBodies.{read_used, body_stays}
 use Rattle.volume.proofs.Pinning.{total_at, each_slot, current_stands}
 use Rattle.volume.proofs.Starting.{rest_read}
+use Rattle.volume.proofs.Packs.{rests_in}
 
 -- Reading changes nothing.
 
 pub rests_read : (s s' : DiskState) (files : Files File) → s'.size ≡ s.size → OnlyReads s s' → RestsAt s files
     → RestsAt s' files
-rests_read s s' files size reads rests = subst (λ (n : ℕ). AtRest s' (λ c. SettledStands n c files)) (sym size)
-    (rest_read s s' (λ c. SettledStands s.size c files) size reads rests)
+rests_read s s' files size reads rests = rests_in s' (pack_of s) files (sym size)
+    (rest_read s s' (λ c. SettledStandsOn (pack_of s) c files) size reads rests)
 
 pub sound_read : (s s' : DiskState) (c : VolumeCore) (failed : Bool) → s'.size ≡ s.size → (s'.honest → s.honest)
     → (s'.honest → OnlyReads s s') → IsSoundCore s c failed → IsSoundCore s' c failed

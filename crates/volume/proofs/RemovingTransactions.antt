@@ -12,6 +12,7 @@ use Rattle.meaning.specs.Files.{File, Files}
 use Rattle.meaning.specs.Log.{with_puts}
 use Rattle.meaning.specs.Maps.{get, times}
 use Rattle.meaning.specs.Stands.{StoredDirectory, DiskMap, files_of}
+use Rattle.meaning.specs.Layouts.{pack_of}
 use Rattle.meaning.proofs.MapLaws.{some_same, some_none}
 use Rattle.alloctab.specs.TableState.{IsTable}
 use Rattle.volume.specs.Known.{IsHeld}
@@ -108,10 +109,10 @@ module _ (s s' : DiskState) (c c' : VolumeCore) (ppn : ℕ) (name : FileName) (k
         ∙ ap (λ (x : Files File). files_removed x ppn name) (files_are s c.known at_rest.map f at_rest.rest rests)
 
     pub removed_crash : (f : Files File) → RestsAt s f → (IsShut s → LeavesOnly s s' (AllOrNone puts s))
-        → LeavesOnly s s' (StandsForOneOf s.size f (files_removed f ppn name))
+        → LeavesOnly s s' (StandsForOneOf (pack_of s) f (files_removed f ppn name))
     removed_crash f rests leaves =
         crash_for s s' c.known c'.known at_rest.map new_map f (files_removed f ppn name)
-        (files_are s c.known at_rest.map f at_rest.rest rests) (names f rests)
+        at_rest.rest (files_are s c.known at_rest.map f at_rest.rest rests) (names f rests)
         (commit_leaves puts s s' (IsHeld s.size c.known at_rest.map) (IsHeld s.size c'.known new_map)
         (ignores_log s.size c.known at_rest.map whole.map.aligned)
         (ignores_log s.size c'.known new_map now_whole.map.aligned) at_rest.rest leads (leaves at_rest.rest.shut))

@@ -18,6 +18,7 @@ use Rattle.meaning.specs.Log.{IsTarget, targets, with_puts}
 use Rattle.meaning.specs.Maps.{get, times}
 use Rattle.meaning.specs.Regions.{space_start, log_images}
 use Rattle.meaning.specs.Stands.{StoredDirectory, DiskMap, files_of, place_of}
+use Rattle.meaning.specs.Layouts.{pack_of}
 use Rattle.meaning.proofs.DiskMaps.{fixed_below}
 use Rattle.meaning.proofs.MapLaws.{some_none}
 use Rattle.meaning.proofs.MapSums.{times-append}
@@ -45,6 +46,7 @@ use Rattle.volume.proofs.RenamingLaw.{map_moved, moved_files, moving_leads, move
 use Rattle.volume.proofs.RenamingLaw.{new_times}
 use Rattle.volume.proofs.Retiring.{set_inside}
 use Rattle.volume.proofs.SameVersion.{version_held, versions_have}
+use Rattle.volume.proofs.Packs.{pack_held}
 
 -- The prime block of a current version.
 
@@ -143,14 +145,14 @@ module _ (s mid : DiskState) (c : VolumeCore) (sound : IsSoundCore s c false) (s
       read_shut = mid_rest.shut
 
       pub read_crash : (f g : Files File) → RestsAt s f → ((d : Contents) → s.left_since s.clock d → MayLeave s d)
-          → LeavesOnly s mid (StandsForOneOf s.size f g)
+          → LeavesOnly s mid (StandsForOneOf (pack_of s) f g)
       read_crash f g rests only_now =
           let is = files_are s c.known at_rest.map f at_rest.rest rests in
-          leaves_weaker s mid (SettlesTo s.size (IsHeld s.size c.known at_rest.map)) (StandsForOneOf s.size f g)
+          leaves_weaker s mid (SettlesTo s.size (IsHeld s.size c.known at_rest.map)) (StandsForOneOf (pack_of s) f g)
           (quiet_stands s mid (IsHeld s.size c.known at_rest.map)
           (quiet_leaves Nowhere s mid (IsHeld s.size c.known at_rest.map)
           (ignores_nothing (IsHeld s.size c.known at_rest.map)) (λ none. none) at_rest.rest only_now quiet))
-          (λ d held. inl (held.0, held.1, (at_rest.map, held.2.stands, is)))
+          (λ d held. inl (held.0, held.1, (at_rest.map, held.2.stands, is, pack_held s c.known at_rest.map at_rest.rest)))
 
 -- What a move does, whichever directory the file comes to: its version stays where it is, and the puts make of any map
 -- that the disk has the one with the file so.
@@ -228,10 +230,10 @@ module _ {s mid : DiskState} {c c' : VolumeCore} {ppn : ℕ} {name : FileName} {
     -- the commit leaves the files of before, or those with the file so
     pub move_crash : (s' : DiskState) → LeavesOnly mid s' (AllOrNone puts mid) → (files : Files File)
         → RestsAt s files → ((d : Contents) → s.left_since s.clock d → MayLeave s d)
-        → LeavesOnly s s' (StandsForOneOf s.size files (files_moved files ppn name to_ppn to protection))
+        → LeavesOnly s s' (StandsForOneOf (pack_of s) files (files_moved files ppn name to_ppn to protection))
     move_crash s' leaves files rests only_now =
         crash_for s s' c.known c'.known rest.map new_map files (files_moved files ppn name to_ppn to protection)
-        (files_are s c.known rest.map files rest.rest rests) (names files rests)
+        rest.rest (files_are s c.known rest.map files rest.rest rests) (names files rests)
         (transaction_leaves Nowhere puts s mid s' (IsHeld s.size c.known rest.map)
         (IsHeld s.size c'.known new_map) (ignores_nothing (IsHeld s.size c.known rest.map)) (λ none. none)
         (ignores_log s.size c.known rest.map sound.whole.map.aligned) ignores_new same.size rest.rest

@@ -11,7 +11,9 @@ use Rattle.changeset.specs.Rest.{AtRest, Ignores, recover_leaves, recover_rest, 
 use Rattle.meaning.specs.Files.{File, Files}
 use Rattle.meaning.specs.Regions.{IsVolumeSize}
 use Rattle.meaning.specs.Log.{IsGateOpen, open_gate, with_puts}
-use Rattle.meaning.specs.Stands.{DiskMap, HasMap, files_of, SettledStands, Stands}
+use Rattle.meaning.specs.Layouts.{pack_in, pack_of, SettledStandsOn, StandsOn}
+use Rattle.meaning.specs.Room.{Pack}
+use Rattle.meaning.specs.Stands.{DiskMap, HasMap, files_of, Stands}
 use Rattle.meaning.specs.Faults.{IsBadLog, IsSettledFault, HasFault, StartFault}
 use Rattle.meaning.specs.Faults as faults
 use Rattle.meaning.proofs.DiskMaps.{log_ignored}
@@ -23,6 +25,7 @@ use Rattle.volume.specs.declared.error.VolumeError.TheVariants.{BadData}
 use Rattle.volume.specs.Known.{Known, IsHeld}
 use Rattle.volume.specs.FaultsFound.{SettledRefuses, Refuses}
 use Rattle.volume.specs.Rest.{IsAtRest, RestsAt, StandsLike, StandsLikeBefore}
+use Rattle.volume.proofs.Packs.{pack_rests, rests_in}
 
 -- Answers.
 
@@ -37,28 +40,34 @@ ok_always P (Err e) is = tt
 
 -- Gate and log are no part of what stands.
 
-pub stands_ignores_log : (size : ℕ) (files : Files File) → Ignores (IsGateOrLog size) (λ c. SettledStands size c files)
-stands_ignores_log size files c d same stands = (
+pub stands_ignores_log : (pack : Pack) (files : Files File)
+    → Ignores (IsGateOrLog pack.blocks) (λ c. SettledStandsOn pack c files)
+stands_ignores_log pack files c d same stands = (
   stands.0,
-  log_ignored size c d stands.0 (λ n place. same n (λ is. let low = is.0 in let high = is.1 in
+  log_ignored pack.blocks c d stands.0 (λ n place. same n (λ is. let low = is.0 in let high = is.1 in
       ⊎_elim (λ e. absurd (omega arith)) (⊎_elim (λ e. absurd (omega arith)) (λ le. absurd (omega arith))) place))
       stands.1,
   stands.2,
+  stands.3,
 )
 
-pub stands_ignores_gate : (size : ℕ) (files : Files File) → Ignores IsGate (λ c. SettledStands size c files)
-stands_ignores_gate size files c d same stands = stands_ignores_log size files c d
+pub stands_ignores_gate : (pack : Pack) (files : Files File) → Ignores IsGate (λ c. SettledStandsOn pack c files)
+stands_ignores_gate pack files c d same stands = stands_ignores_log pack files c d
     (λ n out. same n (λ is. out (omega arith, omega arith))) stands
 
 -- Recovery.
 
 pub crash_recovered : (s s' : DiskState) → LeavesOnly s s' (SettlesLikeBefore s) → LeavesOnly s s' (StandsLikeBefore s)
-crash_recovered s s' leaves = recover_leaves s s' (λ (files : Files File) c. SettledStands s.size c files)
-    (stands_ignores_log s.size) leaves
+crash_recovered s s' leaves =
+    leaves_weaker s s' _ (StandsLikeBefore s)
+    (recover_leaves s s' (λ (x : ℕ × Files File) c. SettledStandsOn (pack_in x.0 s.size) c x.1)
+    (λ x. stands_ignores_log (pack_in x.0 s.size) x.1) leaves)
+    (λ c like. (like.0, like.1, λ layout files. like.2 (layout, files)))
 
 settles_stands : (s : DiskState) (c : Contents) → SettlesLike s.size s.contents c → StandsLike s c
-settles_stands s c like files stands = like_settles s.size (λ d. SettledStands s.size d files) s.contents c
-    (stands_ignores_log s.size files) like stands
+settles_stands s c like layout files stands =
+    like_settles s.size (λ d. SettledStandsOn (pack_in layout s.size) d files) s.contents c
+    (stands_ignores_log (pack_in layout s.size) files) like stands
 
 -- what recovery answered, and what is answered for it
 pub synced_recovered : {D : Type 0} (state : D → DiskState) (old new : D) (fault fault' : Type 0) → (fault → fault')
@@ -115,31 +124,47 @@ rest_known s s' s'' known m size size' recovered none reads held = record {
   });
 }
 
--- The files are those that the disk stood for.
+-- The files are those that the disk stood for, in the layout in which it stood for them.
+
+rest_pack : (s s' s'' : DiskState) (files : Files File) (layout : ℕ) → s'.size ≡ s.size → s''.size ≡ s'.size
+    → IsRecovered s.size s.contents s'.contents → NoneOpen s' → OnlyReads s' s''
+    → StandsOn (pack_in layout s.size) s.contents files
+    → (pack_of s'' ≡ pack_in layout s.size) × RestsAt s'' files
+rest_pack s s' s'' files layout size size' recovered none reads stands =
+    let pack = pack_in layout s.size in
+    let rest : AtRest s'' (λ c. SettledStandsOn pack c files) =
+        rest_read s' s'' (λ c. SettledStandsOn pack c files) size' reads
+        (recover_rest s s' (λ c. SettledStandsOn pack c files) (stands_ignores_gate pack files) size
+        (λ settled is. subst (λ c. SettledStandsOn pack c files)
+        (settled_same s.size s.contents stands.0 settled stands.1 is) stands.2) recovered none) in
+    (
+      pack_rests s'' pack files (sym (size' ∙ size)) rest,
+      rests_in s'' pack files (sym (size' ∙ size)) rest,
+    )
+
 pub rest_files : (s s' s'' : DiskState) (files : Files File) → s'.size ≡ s.size → s''.size ≡ s'.size
     → IsRecovered s.size s.contents s'.contents → NoneOpen s' → OnlyReads s' s'' → Stands s.size s.contents files
     → RestsAt s'' files
 rest_files s s' s'' files size size' recovered none reads stands =
-    subst (λ (n : ℕ). AtRest s'' (λ c. SettledStands n c files)) (sym (size' ∙ size))
-    (rest_read s' s'' (λ c. SettledStands s.size c files) size' reads
-    (recover_rest s s' (λ c. SettledStands s.size c files) (stands_ignores_gate s.size files) size
-    (λ settled is. subst (λ c. SettledStands s.size c files)
-    (settled_same s.size s.contents stands.0 settled stands.1 is) stands.2) recovered none))
+    (rest_pack s s' s'' files (stands.2.0).layout size size' recovered none reads
+    (stands.0, stands.1, (stands.2.0, stands.2.1, stands.2.2, refl))).1
 
 -- They stood for some files before the recovery, since what was recovered is what settled.
 pub stood_before : (s s' s'' : DiskState) (known : Known) (m : DiskMap) → s'.size ≡ s.size → s''.size ≡ s'.size
     → IsRecovered s.size s.contents s'.contents → NoneOpen s' → OnlyReads s' s'' → IsHeld s'.size known m s'.contents
-    → (files : Files File) × Stands s.size s.contents files × RestsAt s'' files
+    → (files : Files File) × StandsOn (pack_of s'') s.contents files × RestsAt s'' files
 stood_before s s' s'' known m size size' recovered none reads held =
-    let there : SettledStands s.size s'.contents
-    (files_of m) = (m, subst (λ (n : ℕ). HasMap n s'.contents m) size held.stands, refl) in
-    let before : Stands s.size s.contents (files_of m) = (
+    let pack = pack_in m.layout s.size in
+    let there : SettledStandsOn pack s'.contents
+    (files_of m) = (m, subst (λ (n : ℕ). HasMap n s'.contents m) size held.stands, refl, refl) in
+    let before : StandsOn pack s.contents (files_of m) = (
       recovered.settled,
       recovered.is_settled,
-      stands_ignores_gate s.size (files_of m) s'.contents recovered.settled
+      stands_ignores_gate pack (files_of m) s'.contents recovered.settled
           (λ n out. sym (recovered.others n out)) there,
     ) in
-    (files_of m, before, rest_files s s' s'' (files_of m) size size' recovered none reads before)
+    let after = rest_pack s s' s'' (files_of m) m.layout size size' recovered none reads before in
+    (files_of m, subst (λ (p : Pack). StandsOn p s.contents (files_of m)) (sym after.0) before, after.1)
 
 -- Faults.
 

@@ -10,6 +10,7 @@ use Rattle.meaning.specs.Changes.{without_directory}
 use Rattle.meaning.specs.Files.{File, Files}
 use Rattle.meaning.specs.Log.{with_puts}
 use Rattle.meaning.specs.Stands.{DiskMap, files_of}
+use Rattle.meaning.specs.Layouts.{pack_of}
 use Rattle.meaning.proofs.ChangedFiles.{files_without}
 use Rattle.volume.specs.declared.error.CallError.TheVariants.{Refused, Device}
 use Rattle.volume.specs.Known.{Known, IsHeld, IsWholeMap}
@@ -46,10 +47,10 @@ module _ (s s' : DiskState) (k k' : Known) (ppn : ℕ) (puts : List Put) (whole 
       ∙ ap (λ (z : Files File). directory_removed z ppn) (files_are s k at.map f at.rest rests)
 
   pub removed_crash : (f : Files File) → RestsAt s f → LeavesOnly s s' (AllOrNone puts s)
-      → LeavesOnly s s' (StandsForOneOf s.size f (directory_removed f ppn))
+      → LeavesOnly s s' (StandsForOneOf (pack_of s) f (directory_removed f ppn))
   removed_crash f rests leaves =
-      crash_for s s' k k' at.map next f (directory_removed f ppn) (files_are s k at.map f at.rest rests)
-      (files_next f rests)
+      crash_for s s' k k' at.map next f (directory_removed f ppn) at.rest
+      (files_are s k at.map f at.rest rests) (files_next f rests)
       (commit_leaves puts s s' (IsHeld s.size k at.map) (IsHeld s.size k' next)
       (ignores_log s.size k at.map whole.aligned) ignores at.rest leads leaves)
 

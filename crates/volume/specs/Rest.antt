@@ -3,7 +3,9 @@ use Rattle.std.specs.Prelude.{◌≡◌, ◌⊎◌, ◌<◌, ℕ, Bool, false, L
 use Rattle.blockdisk.specs.Disk.{Contents, DiskState, MayLeave}
 use Rattle.meaning.specs.Files.{File, Files}
 use Rattle.meaning.specs.Maps.{times}
-use Rattle.meaning.specs.Stands.{DiskMap, SettledStands, Stands}
+use Rattle.meaning.specs.Layouts.{pack_of, pack_in, SettledStandsOn, StandsOn}
+use Rattle.meaning.specs.Room.{Pack}
+use Rattle.meaning.specs.Stands.{DiskMap}
 use Rattle.changeset.specs.Rest.{AtRest}
 use Rattle.volume.specs.Known.{Known, IsHeld}
 use Rattle.volume.specs.Live.{VolumeCore, slot, pending_at, IsWholeCore}
@@ -31,22 +33,23 @@ pub record IsSoundCore (s : DiskState) (c : VolumeCore) (failed : Bool) : Type 0
   pub written : s.honest → failed ≡ false → (key : ℕ) (p : PendingVersion) → pending_at c.pending key ≡ Some p
       → HasSomeBody s.contents p.version
 
--- all that a crash may leave has a closed gate and stands for these files
+-- all that a crash may leave has a closed gate and stands for these files, in the disk's layout
 abbrev pub RestsAt : DiskState → Files File → Type 0
-RestsAt s files = AtRest s (λ c. SettledStands s.size c files)
+RestsAt s files = AtRest s (λ c. SettledStandsOn (pack_of s) c files)
 
--- it stands for the one or for the other, whatever its gate
-abbrev pub StandsForOneOf : ℕ → Files File → Files File → Contents → Type 0
-StandsForOneOf size f g c = Stands size c f ⊎ Stands size c g
+-- it stands for the one or for the other, in the layout of the pack, whatever its gate
+abbrev pub StandsForOneOf : Pack → Files File → Files File → Contents → Type 0
+StandsForOneOf pack f g c = StandsOn pack c f ⊎ StandsOn pack c g
 
--- it stands for whatever something stood for that a crash could leave at s
+-- it stands for whatever something stood for that a crash could leave at s, in the same layout
 abbrev pub StandsLikeBefore : DiskState → Contents → Type 0
-StandsLikeBefore s c = (d : Contents) × MayLeave s d × ((files : Files File) → Stands s.size d files
-    → Stands s.size c files)
+StandsLikeBefore s c = (d : Contents) × MayLeave s d × ((layout : ℕ) (files : Files File)
+    → StandsOn (pack_in layout s.size) d files → StandsOn (pack_in layout s.size) c files)
 
--- it stands for whatever the contents at s stand for
+-- it stands for whatever the contents at s stand for, in the same layout
 abbrev pub StandsLike : DiskState → Contents → Type 0
-StandsLike s c = (files : Files File) → Stands s.size s.contents files → Stands s.size c files
+StandsLike s c = (layout : ℕ) (files : Files File) → StandsOn (pack_in layout s.size) s.contents files
+    → StandsOn (pack_in layout s.size) c files
 
 -- The blocks of the versions that readers hold stay.
 abbrev pub KeepsRead : Contents → Contents → VolumeCore → Type 0

@@ -3,6 +3,7 @@ ghost use Rattle.blockdisk.specs.Disk.{LeavesOnly, Modifies, Near, NoneOpen, Sam
 ghost use Rattle.changeset.specs.Crashes.{IsRecovered, SyncsFirst};
 ghost use Rattle.changeset.specs.Reads.{OnlyReads};
 ghost use Rattle.meaning.specs.Files.{File, Files};
+ghost use Rattle.meaning.specs.Layouts.{StandsOn, pack_of};
 ghost use Rattle.meaning.specs.Stands.{Stands};
 ghost use Rattle.volume.specs.Copying.{copied, AreCopied, ArePartlyCopied, HomesComeLast, IsCopyStep};
 ghost use Rattle.volume.specs.FaultsFound.{NamesInSpace, Refuses};
@@ -33,9 +34,9 @@ impl<D: Disk> Volume<D> {
         // What the caller sees to.
         requires { (D.state from.old).size ≡ (E.state to.old).size }
 
-        // The copy stands for the files, with a closed gate, and no block of it is open.
+        // The copy stands for the files in their layout, with a closed gate, and no block of it is open.
         ensures stood { (D.state from.new).honest → (E.state to.new).honest
-            → OnOk result ((files : Files File) × Stands (D.state from.old).size (D.state from.old).contents files
+            → OnOk result ((files : Files File) × StandsOn (pack_of (E.state to.new)) (D.state from.old).contents files
             × RestsAt (E.state to.new) files) }
         ensures files { (D.state from.new).honest → (E.state to.new).honest → (files : Files File)
             → Stands (D.state from.old).size (D.state from.old).contents files

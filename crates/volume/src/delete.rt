@@ -5,6 +5,7 @@ ghost use Rattle.std.specs.Ordering.{nat_cmp};
 ghost use Rattle.std.specs.FinMap.Entries.{find};
 ghost use Rattle.blockdisk.specs.Disk.{LeavesOnly, SameDisk, one_more};
 ghost use Rattle.words36.specs.declared.names.FileName.{FileName};
+ghost use Rattle.meaning.specs.Layouts.{pack_of};
 ghost use Rattle.meaning.specs.declared.code.ErrorCode.{ErrorCode};
 ghost use Rattle.meaning.specs.declared.code.ErrorCode.TheVariants.{NoDirectory, NotFound};
 ghost use Rattle.meaning.specs.declared.put.Put.{Put};
@@ -129,7 +130,7 @@ impl<D: Disk> Volume<D> {
         // f without the file.
         ensures crash { (D.state self.new.disk).honest → (f : Files File) → RestsAt (D.state self.old.disk) f
             → LeavesOnly (D.state self.old.disk) (D.state self.new.disk)
-            (StandsForOneOf (D.state self.old.disk).size f (files_removed f ppn name.now)) }
+            (StandsForOneOf (pack_of (D.state self.old.disk)) f (files_removed f ppn name.now)) }
         // At Ok all that a crash may leave stands for the latter.
         ensures done { (D.state self.new.disk).honest → (f : Files File) → RestsAt (D.state self.old.disk) f
             → OnOk result (RestsAt (D.state self.new.disk) (files_removed f ppn name.now)) }

@@ -4,6 +4,7 @@ ghost use Rattle.std.specs.Ordering.{nat_cmp};
 ghost use Rattle.std.specs.FinMap.Entries.{find};
 ghost use Rattle.blockdisk.specs.Disk.{LeavesOnly, SameDisk, one_more};
 ghost use Rattle.words36.specs.declared.names.FileName.{FileName};
+ghost use Rattle.meaning.specs.Layouts.{pack_of};
 ghost use Rattle.meaning.specs.declared.code.ErrorCode.{ErrorCode};
 ghost use Rattle.meaning.specs.declared.code.ErrorCode.TheVariants.{NoDirectory, NotEmpty};
 ghost use Rattle.meaning.specs.Files.{File, Files};
@@ -90,7 +91,7 @@ impl<D: Disk> Volume<D> {
         // f without the directory.
         ensures crash { (D.state self.new.disk).honest → (f : Files File) → RestsAt (D.state self.old.disk) f
             → LeavesOnly (D.state self.old.disk) (D.state self.new.disk)
-            (StandsForOneOf (D.state self.old.disk).size f (directory_removed f ppn)) }
+            (StandsForOneOf (pack_of (D.state self.old.disk)) f (directory_removed f ppn)) }
         // At Ok all that a crash may leave stands for f without the directory.
         ensures done { (D.state self.new.disk).honest → (f : Files File) → RestsAt (D.state self.old.disk) f
             → OnOk result (RestsAt (D.state self.new.disk) (directory_removed f ppn)) }

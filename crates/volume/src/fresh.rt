@@ -3,10 +3,11 @@ ghost use Rattle.blockdisk.specs.Disk.{LeavesOnly, Near, SameDisk, Modifies, Non
 ghost use Rattle.blockdisk.specs.declared.fault.Fault.TheVariants.{Device as Failed, Damaged};
 ghost use Rattle.alloctab.specs.TableBlocks.{number_of, table_words};
 ghost use Rattle.changeset.specs.Rest.{AtRest};
+ghost use Rattle.meaning.specs.Layouts.{StandsOn, pack_in};
 ghost use Rattle.meaning.specs.Maps.{empty};
 ghost use Rattle.meaning.specs.Regions.{IsVolumeSize};
 ghost use Rattle.meaning.specs.Log.{IsGateOpen};
-ghost use Rattle.meaning.specs.Stands.{HasMap, Stands};
+ghost use Rattle.meaning.specs.Stands.{HasMap};
 ghost use Rattle.volume.specs.Homes.{IsInitBlock, IsBare, bare_map, bit_below, fresh_words};
 ghost use Rattle.volume.specs.declared.error.VolumeError.{VolumeError};
 ghost use Rattle.volume.specs.declared.error.VolumeError.TheVariants.{NotVolume, Device};
@@ -30,7 +31,7 @@ use words36::{BLOCK_WORDS, Block, Word};
 pub fn init<D: Disk>(disk: &mut D) -> Result<(), VolumeError>
     // The disk is a volume then, and stands for no files: whatever a crash leaves.
     ensures stands { (D.state disk.new).honest
-        → OnOk result (AtRest (D.state disk.new) (λ c. Stands (D.state disk.old).size c empty)) }
+        → OnOk result (AtRest (D.state disk.new) (λ c. StandsOn (pack_in 1 (D.state disk.old).size) c empty)) }
     ensures map { (D.state disk.new).honest
         → OnOk result (HasMap (D.state disk.old).size (D.state disk.new).contents (bare_map (D.state disk.old).size)) }
     ensures settled { (D.state disk.new).honest → OnOk result (NoneOpen (D.state disk.new)) }

@@ -10,7 +10,7 @@ ghost use Rattle.volume.specs.declared.error.VolumeError.TheVariants.{NotVolume,
 
 use crate::VolumeError;
 use blockdisk::{Disk, Fault};
-use meaning::layout::{HOME_COPIES, LAYOUT, is_in_space, is_volume_size, log_images, table_blocks};
+use meaning::layout::{HOME_COPIES, Layout, is_in_space, is_volume_size, log_images, table_blocks};
 use words36::{BLOCK_WORDS, Block, Word};
 
 /// FILSER in SIXBIT, the first word of a home copy.
@@ -38,7 +38,7 @@ pub fn home_block(size: u32, master: u32) -> Block
 {
     let mut words = [Word::ZERO; BLOCK_WORDS];
     words[0] = Word::from_bits(HOME_WORD);
-    words[1] = Word::from_bits(LAYOUT);
+    words[1] = Word::from_bits(Layout::One.number());
     words[2] = Word::from_bits(u64::from(size));
     words[3] = Word::from_bits(u64::from(table_blocks(size)));
     words[4] = Word::from_bits(u64::from(log_images(size)));

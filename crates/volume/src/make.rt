@@ -6,6 +6,7 @@ ghost use Rattle.std.specs.Ordering.{nat_cmp};
 ghost use Rattle.std.specs.FinMap.Entries.{find};
 ghost use Rattle.blockdisk.specs.Disk.{LeavesOnly, SameDisk, one_more};
 ghost use Rattle.words36.specs.declared.names.FileName.{FileName};
+ghost use Rattle.meaning.specs.Layouts.{pack_of};
 ghost use Rattle.meaning.specs.declared.code.ErrorCode.{ErrorCode};
 ghost use Rattle.meaning.specs.declared.code.ErrorCode.TheVariants.{NameExists, NoRoom};
 ghost use Rattle.meaning.specs.Files.{File, Files};
@@ -233,7 +234,7 @@ impl<D: Disk> Volume<D> {
         // f with the directory.
         ensures crash { (D.state self.new.disk).honest → (f : Files File) → RestsAt (D.state self.old.disk) f
             → LeavesOnly (D.state self.old.disk) (D.state self.new.disk)
-            (StandsForOneOf (D.state self.old.disk).size f (files_made f ppn protection)) }
+            (StandsForOneOf (pack_of (D.state self.old.disk)) f (files_made f ppn protection)) }
         // At Ok all that a crash may leave stands for f with the directory.
         ensures done { (D.state self.new.disk).honest → (f : Files File) → RestsAt (D.state self.old.disk) f
             → OnOk result (RestsAt (D.state self.new.disk) (files_made f ppn protection)) }

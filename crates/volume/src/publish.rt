@@ -1,6 +1,7 @@
 ghost use Rattle.std.specs.Prelude.{◌≡◌, ◌⊎◌, ◌↔◌, ◌<◌, ◌≤◌, ℕ, Bool, List, false, true, length, OnOk};
 ghost use Rattle.std.specs.Prelude.{OnErr, IfOk, IfErr, IsErrOf, IsSome, Some, None};
 ghost use Rattle.blockdisk.specs.Disk.{LeavesOnly, SameDisk, one_more};
+ghost use Rattle.meaning.specs.Layouts.{pack_of};
 ghost use Rattle.meaning.specs.declared.code.ErrorCode.{ErrorCode};
 ghost use Rattle.meaning.specs.declared.code.ErrorCode.TheVariants.{NoRoom};
 ghost use Rattle.meaning.specs.declared.put.Put.{Put};
@@ -105,7 +106,7 @@ fn publish_written<D: Disk>(
     ensures crash { (D.state disk.new).honest → (f : Files File) → RestsAt (D.state disk.old) f → (p : PendingVersion)
         → pending_at (core_of map.old).pending key ≡ Some p
         → (body : List ℕ) → length body ≡ p.version.words → HasBody (D.state disk.old).contents p.version.blocks body
-        → LeavesOnly (D.state disk.old) (D.state disk.new) (StandsForOneOf (D.state disk.old).size f
+        → LeavesOnly (D.state disk.old) (D.state disk.new) (StandsForOneOf (pack_of (D.state disk.old)) f
         (files_published f p.prime.ppn p.prime.file (file_of p.prime body))) }
     ensures done { (D.state disk.new).honest → (f : Files File) → RestsAt (D.state disk.old) f → (p : PendingVersion)
         → pending_at (core_of map.old).pending key ≡ Some p
@@ -178,7 +179,7 @@ impl<D: Disk> Volume<D> {
             → (body : List ℕ) → length body ≡ p.version.words
             → HasBody (D.state self.old.disk).contents p.version.blocks body
             → LeavesOnly (D.state self.old.disk) (D.state self.new.disk)
-            (StandsForOneOf (D.state self.old.disk).size f
+            (StandsForOneOf (pack_of (D.state self.old.disk)) f
             (files_published f p.prime.ppn p.prime.file (file_of p.prime (splice body block words.now)))) }
         // At Ok all that a crash may leave stands for the latter.
         ensures done { (D.state self.new.disk).honest → (f : Files File) → RestsAt (D.state self.old.disk) f

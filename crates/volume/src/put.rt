@@ -2,6 +2,7 @@ ghost use Rattle.std.specs.Prelude.{◌≡◌, ◌↔◌, ◌⊎◌, ◌+◌, �
 ghost use Rattle.std.specs.Prelude.{IfNone, IfSome, IsSome, OnOk, IsErrOf};
 ghost use Rattle.std.specs.List.{AllByRecursion};
 ghost use Rattle.blockdisk.specs.Disk.{LeavesOnly, SameDisk, Modifies, one_more};
+ghost use Rattle.meaning.specs.Layouts.{StandsOn, pack_of};
 ghost use Rattle.meaning.specs.declared.code.ErrorCode.{ErrorCode};
 ghost use Rattle.meaning.specs.declared.code.ErrorCode.TheVariants.{NoRoom};
 ghost use Rattle.meaning.specs.Costs.{blocks_of, cost_of_blocks, version_cost};
@@ -11,7 +12,6 @@ ghost use Rattle.meaning.specs.Maps.{times};
 ghost use Rattle.meaning.specs.Regions.{IsVolumeSize};
 ghost use Rattle.meaning.specs.Retrieval.{HasBody, most_blocks};
 ghost use Rattle.meaning.specs.Splices.{splice, length_after};
-ghost use Rattle.meaning.specs.Stands.{Stands};
 ghost use Rattle.alloctab.specs.TableState.{holds, space, uses};
 ghost use Rattle.retrieval.specs.Bodies.{IsOwn};
 ghost use Rattle.retrieval.specs.Versions.{VersionState};
@@ -229,7 +229,7 @@ pub(crate) fn put_in_core<D: Disk>(
 
     // Its writes are quiet: whatever a crash leaves at any moment stands for the files from before.
     ensures quiet { (D.state disk.new).honest → (f : Files File) → RestsAt (D.state disk.old) f
-        → LeavesOnly (D.state disk.old) (D.state disk.new) (λ c. Stands (D.state disk.old).size c f) }
+        → LeavesOnly (D.state disk.old) (D.state disk.new) (λ c. StandsOn (pack_of (D.state disk.old)) c f) }
     ensures rests { (D.state disk.new).honest → (f : Files File) → RestsAt (D.state disk.old) f
         → RestsAt (D.state disk.new) f }
     // At Ok the version has the words put.
@@ -315,7 +315,7 @@ impl<D: Disk> Volume<D> {
         // Its writes are quiet: whatever a crash leaves at any moment stands for the files from before.
         ensures quiet { (D.state self.new.disk).honest → (f : Files File) → RestsAt (D.state self.old.disk) f
             → LeavesOnly (D.state self.old.disk) (D.state self.new.disk)
-            (λ c. Stands (D.state self.old.disk).size c f) }
+            (λ c. StandsOn (pack_of (D.state self.old.disk)) c f) }
         ensures rests { (D.state self.new.disk).honest → (f : Files File) → RestsAt (D.state self.old.disk) f
             → RestsAt (D.state self.new.disk) f }
         // At Ok the version has the words put.

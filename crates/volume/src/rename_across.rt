@@ -4,6 +4,7 @@ ghost use Rattle.std.specs.Ordering.{nat_cmp};
 ghost use Rattle.std.specs.FinMap.Entries.{find};
 ghost use Rattle.blockdisk.specs.Disk.{LeavesOnly, SameDisk, one_more};
 ghost use Rattle.words36.specs.declared.names.FileName.{FileName};
+ghost use Rattle.meaning.specs.Layouts.{pack_of};
 ghost use Rattle.meaning.specs.declared.code.ErrorCode.{ErrorCode};
 ghost use Rattle.meaning.specs.declared.code.ErrorCode.TheVariants.{NameExists, NoDirectory, NoRoom, NotFound};
 ghost use Rattle.meaning.specs.declared.put.Put.{Put};
@@ -225,7 +226,7 @@ fn move_across<D: Disk>(
     ensures held { (k : ℕ) (v : LiveVersion) → slot (core_of core.old).live k ≡ Some v
         → (prime : PrimeValue) × (slot (core_of core.new).live k ≡ Some (record v { prime = prime })) }
     ensures crash { (D.state disk.new).honest → (f : Files File) → RestsAt (D.state disk.old) f
-        → LeavesOnly (D.state disk.old) (D.state disk.new) (StandsForOneOf (D.state disk.old).size f
+        → LeavesOnly (D.state disk.old) (D.state disk.new) (StandsForOneOf (pack_of (D.state disk.old)) f
         (files_moved f ppn name.now to_ppn to.now protection)) }
     ensures done { (D.state disk.new).honest → (f : Files File) → RestsAt (D.state disk.old) f
         → OnOk result (RestsAt (D.state disk.new) (files_moved f ppn name.now to_ppn to.now protection)) }
@@ -289,7 +290,7 @@ impl<D: Disk> Volume<D> {
         // What it does to the files.
         ensures crash { (D.state self.new.disk).honest → (f : Files File) → RestsAt (D.state self.old.disk) f
             → LeavesOnly (D.state self.old.disk) (D.state self.new.disk)
-            (StandsForOneOf (D.state self.old.disk).size f (files_moved f ppn name.now to_ppn to.now protection)) }
+            (StandsForOneOf (pack_of (D.state self.old.disk)) f (files_moved f ppn name.now to_ppn to.now protection)) }
         ensures done { (D.state self.new.disk).honest → (f : Files File) → RestsAt (D.state self.old.disk) f
             → OnOk result (RestsAt (D.state self.new.disk) (files_moved f ppn name.now to_ppn to.now protection)) }
 

@@ -4,6 +4,7 @@ ghost use Rattle.blockdisk.specs.Disk.{Near, NoneOpen, SameDisk, Still, Modifies
 ghost use Rattle.changeset.specs.Crashes.{IsRecovered, SyncsFirst};
 ghost use Rattle.changeset.specs.Rest.{AtRest};
 ghost use Rattle.meaning.specs.Files.{File, Files};
+ghost use Rattle.meaning.specs.Layouts.{StandsOn, pack_in, pack_of};
 ghost use Rattle.meaning.specs.Log.{IsGateOpen};
 ghost use Rattle.meaning.specs.Maps.{empty};
 ghost use Rattle.meaning.specs.Regions.{IsVolumeSize};
@@ -41,14 +42,14 @@ pub fn read_volume<D: Disk>(alloc: Global, disk: &mut D) -> Result<DiskMap, Volu
     ensures synced { (D.state disk.new).honest
         → SyncsFirst D.state disk.old disk.new (IsErrOf result Device) (StandsLike (D.state disk.old)) }
 
-    // At Ok the disk was recovered and nothing else, it stood for some files, and these it stands for; and the map
-    // is the disk's.
+    // At Ok the disk was recovered and nothing else, it stood for some files, and these it stands for, in the layout in
+    // which it stood for them; and the map is the disk's.
     ensures recovered { (D.state disk.new).honest
         → IfOk result (λ map. IsRecovered (D.state disk.old).size (D.state disk.old).contents
         (D.state disk.new).contents) }
     ensures stood { (D.state disk.new).honest
-        → IfOk result (λ map. (files : Files File) × Stands (D.state disk.old).size (D.state disk.old).contents files
-        × RestsAt (D.state disk.new) files) }
+        → IfOk result (λ map. (files : Files File)
+        × StandsOn (pack_of (D.state disk.new)) (D.state disk.old).contents files × RestsAt (D.state disk.new) files) }
     ensures rest { (D.state disk.new).honest → IfOk result (λ map. IsAtRest (D.state disk.new) (known_of map)) }
     ensures files { (D.state disk.new).honest → (files : Files File)
         → Stands (D.state disk.old).size (D.state disk.old).contents files
@@ -87,7 +88,7 @@ impl<D: Disk> Volume<D> {
     /// `NotVolume` where the disk has not from 64 to 131072 blocks, with nothing written; `Device`.
     pub fn init(disk: &mut D) -> Result<(), VolumeError>
         ensures stands { (D.state disk.new).honest
-            → OnOk result (AtRest (D.state disk.new) (λ c. Stands (D.state disk.old).size c empty)) }
+            → OnOk result (AtRest (D.state disk.new) (λ c. StandsOn (pack_in 1 (D.state disk.old).size) c empty)) }
         ensures settled { (D.state disk.new).honest → OnOk result (NoneOpen (D.state disk.new)) }
         ensures shut { (D.state disk.new).honest
             → OnOk result (IsGateOpen (D.state disk.old).size (D.state disk.new).contents → ⊥) }
@@ -124,7 +125,8 @@ impl<D: Disk> Volume<D> {
         ensures recovered { IfOk result (λ volume. (D.state volume.disk).honest
             → IsRecovered (D.state disk).size (D.state disk).contents (D.state volume.disk).contents) }
         ensures stood { IfOk result (λ volume. (D.state volume.disk).honest → (files : Files File)
-            × Stands (D.state disk).size (D.state disk).contents files × RestsAt (D.state volume.disk) files) }
+            × StandsOn (pack_of (D.state volume.disk)) (D.state disk).contents files
+            × RestsAt (D.state volume.disk) files) }
         ensures files { (files : Files File) → Stands (D.state disk).size (D.state disk).contents files
             → IfOk result (λ volume. (D.state volume.disk).honest → RestsAt (D.state volume.disk) files) }
         ensures settled { IfOk result (λ volume. (D.state volume.disk).honest → NoneOpen (D.state volume.disk)) }

@@ -1,11 +1,11 @@
-use Rattle.std.proofs.Common.{sym}
+use Rattle.std.proofs.Common.{sym, ◌∙◌}
 use Rattle.filser.proofs.Imaging.{copied_all, copy_refused}
 use Rattle.filser.proofs.convert.copy.Goals as goal
 
 pub returns-clause-copied : goal.returns-clause-copied
 returns-clause-copied g c = rw (c.end.ensures, sym c.new-watched.ensures) (λ h k.
     let p = c.copy_image-copied.ensures in
-    copied_all c.copy_image-copied.result _ _ _ _ (p.stood h k) (p.settled k) (p.last h k) (p.rests h) (p.kept h))
+    copied_all c.copy_image-copied.result _ _ _ _ (p.same_target.size ∙ sym c.requires) (p.stood h k) (p.settled k) (p.last h k) (p.rests h) (p.kept h))
 
 pub returns-clause-refused : goal.returns-clause-refused
 returns-clause-refused g c error is =

@@ -9,7 +9,7 @@ use Rattle.meaning.specs.declared.call.Call.TheVariants.{Rename}
 use Rattle.meaning.specs.declared.call.Reply.TheVariants as replies
 use Rattle.volume.specs.Rest.{IsSoundCore}
 use Rattle.monitor.specs.Changing.{changed_job, changed_reply}
-use Rattle.monitor.specs.Serving.{pack_of}
+use Rattle.monitor.specs.Serving.{pack_one}
 use Rattle.monitor.specs.Sides.{job_of}
 use Rattle.monitor.proofs.Answering.{contrary}
 use Rattle.monitor.proofs.ChangeAnswers.{rename_stops}
@@ -44,7 +44,7 @@ returns-in-Err g c = record {
       refusing_serves g.D.Disk.state g.met.D.Disk.only_now volume.disk volume.core volume.failed ready.alive job
       c.args.number c.args.address c.args.channel input c.requires.there c.requires.side c.requires.free
       c.requires.inside (subst (IsSoundCore d volume.core) ready.alive ready.sound) ready.placed c.in-Err.code
-      (λ h s known w. rename_stops s (job_of w job) c.args.address (place_of input.ppn input.file) (pack_of d)
+      (λ h s known w. rename_stops s (job_of w job) c.args.address (place_of input.ppn input.file) (pack_one d)
       (number_of c.in-Err.code) (c.in-Err.ensures.answered h ready.alive s known (job_of w job) c.args.address refl
       (asks_for w job c.args.address (c.bits.result / 2 ^ 27)
       c.requires.named (ap (λ x. x / 2 ^ 27) (c.bits.ensures.value ∙ c.word_at.ensures.value)))))
@@ -100,7 +100,7 @@ returns-in_default-owner_at g c = record {
       (λ h s known w.
       let e = c.args.address in
       let place = place_at (job_of w job) e in
-      arrival_homeless (pack_of d) s (job_of w job) e (place_of input.ppn input.file) place refl moves
+      arrival_homeless (pack_one d) s (job_of w job) e (place_of input.ppn input.file) place refl moves
       (c.in_default.ensures.answered h ready.alive s known (job_of w job) e refl
       (asks_for w job e (c.bits.result / 2 ^ 27)
       c.requires.named (ap (λ x. x / 2 ^ 27) (c.bits.ensures.value ∙ c.word_at.ensures.value))))
@@ -127,7 +127,7 @@ returns-in-Err-may_come g c = record {
       c.requires.inside sound ready.placed c.in-Err-may_come.code
       (λ h s known w.
       let e = c.args.address in
-      arrival_refused (pack_of d) s (job_of w job) e (place_of input.ppn input.file) (place_of c.in-Some.ppn name)
+      arrival_refused (pack_one d) s (job_of w job) e (place_of input.ppn input.file) (place_of c.in-Some.ppn name)
       (at_place w job e c.in-Some.ppn name c.in-Some.ensures.there c.name_at-name.ensures.0 c.name_at-name.ensures.1)
       moves (c.in_default.ensures.answered h ready.alive s known (job_of w job) e refl
       (asks_for w job e (c.bits.result / 2 ^ 27)

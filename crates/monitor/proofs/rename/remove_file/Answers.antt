@@ -1,7 +1,7 @@
 use Rattle.std.proofs.Common.{◌≤◌, refl, ap, subst}
 use Rattle.meaning.specs.Codes.{number_of}
 use Rattle.volume.specs.Rest.{IsSoundCore}
-use Rattle.monitor.specs.Serving.{pack_of}
+use Rattle.monitor.specs.Serving.{pack_one}
 use Rattle.monitor.specs.Sides.{job_of}
 use Rattle.meaning.specs.Stands.{place_of}
 use Rattle.monitor.proofs.ChangeAnswers.{rename_stops}
@@ -26,7 +26,7 @@ returns-in-Err g c = record {
       refusing_serves g.D.Disk.state g.met.D.Disk.only_now volume.disk volume.core volume.failed ready.alive job
       c.args.number c.args.address c.args.channel input c.requires.there c.requires.side c.requires.free
       c.requires.inside (subst (IsSoundCore d volume.core) ready.alive ready.sound) ready.placed c.in-Err.code
-      (λ h s known w. rename_stops s (job_of w job) c.args.address (place_of input.ppn input.file) (pack_of d)
+      (λ h s known w. rename_stops s (job_of w job) c.args.address (place_of input.ppn input.file) (pack_one d)
       (number_of c.in-Err.code) (c.in-Err.ensures.answered h ready.alive s known (job_of w job) c.args.address refl
       (asks_none w job c.args.address c.requires.deletes)))
       moment timely jobs n among (record job { core = c.refuse.new.core }) c.refuse.result

@@ -11,7 +11,7 @@ use Rattle.monitor.proofs.Placing.{placed_left}
 use Rattle.monitor.proofs.Promised.{quiet_serves}
 use Rattle.monitor.proofs.ReadingJobs.{job_held, closed_reading, bare_readers}
 use Rattle.monitor.proofs.Resetting.{reset_row}
-use Rattle.monitor.specs.Serving.{pack_of}
+use Rattle.monitor.specs.Serving.{pack_one}
 use Rattle.meaning.specs.declared.call.Event.TheVariants.{Call as Calls}
 use Rattle.monitor.proofs.reset.serve_reset.Goals as goal
 
@@ -48,7 +48,7 @@ returns g c = record {
       (λ code e. cc e) (λ is. absurd is) jobs n among keyed reading
       (λ h s serves.
       row (state old.disk) map map' false jobs jobs' keyed reading c.close_channels.ensures.closed.leaves
-      (pack_of (state old.disk)) (Calls n Reset moment) Done
+      (pack_one (state old.disk)) (Calls n Reset moment) Done
       (reset_row (state old.disk) jobs jobs' n moment timely (job, among.there, ap (λ j. slice_set jobs n (Some j)) is))
       refl s serves);
 }

@@ -1,53 +1,67 @@
-use Rattle.std.proofs.Common.{⊎_elim, inl, inr, sym, subst}
+use Rattle.std.proofs.Common.{◌≡◌, ⊎_elim, inl, inr, sym, subst, ◌∙◌}
 use Rattle.std.specs.Prelude.{IsTrue}
 use Rattle.std.proofs.lemmas.Result.{IfOk-weaker, IfErr-weaker}
 use Rattle.meaning.specs.Crashes.{may_change}
 use Rattle.meaning.specs.Jobs.{State}
+use Rattle.meaning.specs.Layouts.{pack_in, pack_of, StandsOn}
 use Rattle.meaning.specs.Published.{without_serials}
 use Rattle.meaning.specs.Runs.{Serving, IsStart}
-use Rattle.meaning.specs.Stands.{Stands}
 use Rattle.meaning.specs.Step.{step}
-use Rattle.monitor.specs.Serving.{pack_of, Serves}
+use Rattle.meaning.proofs.Layouts.{stands_in_any}
+use Rattle.monitor.specs.Serving.{Serves}
+use Rattle.monitor.specs.Runs.{ServesFiles}
 use Rattle.monitor.proofs.Along.{along, no_fault, stopped_like, stands_again, ok_each, err_both, ok_either, ok_and}
+use Rattle.monitor.proofs.Along.{ok_pair, start_in}
 use Rattle.monitor.proofs.restart.start_after_crash.Goals as goal
 
 pub returns-clause-found : goal.returns-clause-found
-returns-clause-found g c h size t s events replies new runs starts stopped =
+returns-clause-found g c h size pack blocks t s events replies new runs starts stopped =
     let d = g.D.Disk.state c.args.stopped.now in
     let e = g.E.Disk.state c.args.left in
     let first = stopped_like g.E.Disk.state d t starts e.contents stopped in
-    let found = along (pack_of d) d (λ x is. g.met.D.Disk.only_now c.args.stopped.now x h is) first.0 t
+    let found = along pack d (λ x is. g.met.D.Disk.only_now c.args.stopped.now x h is) first.0 t
     s events replies new runs first.1 in
-    let files = without_serials found.0.files in (
+    let files = without_serials found.0.files in
+    let here : StandsOn (pack_in pack.layout e.size) e.contents files =
+    subst (λ n. StandsOn (pack_in pack.layout n) e.contents files) (sym size)
+    (first.2 pack.layout files (subst (λ n. StandsOn (pack_in pack.layout n) first.0 files) blocks found.2)) in (
       found.0,
       found.1,
-      ok_each (IsStart files) (λ m. (g.E.Disk.state m.disk).honest)
+      ok_pair (λ m. (g.E.Disk.state m.disk).honest) (λ m. pack_of (g.E.Disk.state m.disk) ≡ pack)
+          (λ m. ServesFiles (g.E.Disk.state m.disk) m.map m.failed m.jobs files) c.start.result
+          (start_in (λ m. (g.E.Disk.state m.disk).honest) (λ m. g.E.Disk.state m.disk) _ e pack files (blocks ∙ sym size)
+          (subst (λ n. StandsOn (pack_in pack.layout n) e.contents files) (size ∙ sym blocks) here) c.start.result
+          c.start.ensures.same c.start.ensures.stood)
+          (ok_each (IsStart files) (λ m. (g.E.Disk.state m.disk).honest)
           (λ u m. Serves (g.E.Disk.state m.disk) m.map m.failed m.jobs (Serving u)) c.start.result
-          (c.start.ensures.started files (subst (λ n. Stands n e.contents files) (sym size) (first.2 files found.2))),
+          (c.start.ensures.started files (stands_in_any (pack_in pack.layout e.size) e.contents files here))),
     )
 
 pub returns-clause-refused : goal.returns-clause-refused
-returns-clause-refused g c h size t s events replies new runs starts stopped =
+returns-clause-refused g c h size pack blocks t s events replies new runs starts stopped =
     let d = g.D.Disk.state c.args.stopped.now in
     let e = g.E.Disk.state c.args.left in
     let first = stopped_like g.E.Disk.state d t starts e.contents stopped in
-    let found = along (pack_of d) d (λ x is. g.met.D.Disk.only_now c.args.stopped.now x h is) first.0 t
+    let found = along pack d (λ x is. g.met.D.Disk.only_now c.args.stopped.now x h is) first.0 t
     s events replies new runs first.1 in
     let files = without_serials found.0.files in
-    err_both _ _ _ c.start.result (λ refused is kept h'. no_fault e (g.E.Disk.state refused.1) files
-    (subst (λ n. Stands n e.contents files) (sym size) (first.2 files found.2)) refused.0 (is h') (kept h'))
-    c.start.ensures.refused c.start.ensures.kept
+    let here : StandsOn (pack_in pack.layout e.size) e.contents files =
+    subst (λ n. StandsOn (pack_in pack.layout n) e.contents files) (sym size)
+    (first.2 pack.layout files (subst (λ n. StandsOn (pack_in pack.layout n) first.0 files) blocks found.2)) in
+    err_both _ _ _ c.start.result (λ refused is kept h'. no_fault e (g.E.Disk.state refused.1) pack.layout files
+    here refused.0 (is h') (kept h')) c.start.ensures.refused c.start.ensures.kept
 
 pub returns-clause-between : goal.returns-clause-between
-returns-clause-between g c size t u s event reply between left not_later =
+returns-clause-between g c size pack blocks t u s event reply between left not_later =
     let d = g.D.Disk.state c.args.stopped.now in
     let e = g.E.Disk.state c.args.left in
-    let after = (step (pack_of d) 0 s event).1 in
-    let starts = λ (x : State) (is : Stands d.size e.contents (without_serials x.files)).
+    let after = (step pack 0 s event).1 in
+    let starts = λ (x : State) (is : StandsOn pack e.contents (without_serials x.files)).
     ok_each (IsStart (without_serials x.files)) (λ m. (g.E.Disk.state m.disk).honest)
     (λ v m. Serves (g.E.Disk.state m.disk) m.map m.failed m.jobs (Serving v)) c.start.result
     (c.start.ensures.started (without_serials x.files)
-    (subst (λ n. Stands n e.contents (without_serials x.files)) (sym size) is)) in
+    (stands_in_any (pack_in pack.layout e.size) e.contents (without_serials x.files)
+    (subst (λ n. StandsOn (pack_in pack.layout n) e.contents (without_serials x.files)) (blocks ∙ sym size) is))) in
     ok_either _ _ _ c.start.result (⊎_elim (λ later. absurd (not_later later))
     (λ either. ⊎_elim (λ is. inl (starts s is))
     (λ is. inr (ok_and (IsTrue (may_change reply)) _ _ c.start.result is.0 (starts after is.1))) either)

@@ -5,7 +5,8 @@ use Rattle.changeset.specs.Crashes.{IsRecovered}
 use Rattle.changeset.specs.declared.error.LogError.TheVariants.{Device as LogDevice}
 use Rattle.meaning.specs.Log.{with_puts}
 use Rattle.meaning.specs.Files.{File, Files}
-use Rattle.meaning.specs.Stands.{DiskMap, Stands}
+use Rattle.meaning.specs.Layouts.{pack_of, StandsOn}
+use Rattle.meaning.specs.Stands.{DiskMap}
 use Rattle.volume.specs.declared.error.VolumeError.TheVariants.{BadLog, Device}
 use Rattle.volume.specs.declared.map.DiskMap.{DiskMap as CoreMap}
 use Rattle.volume.specs.Cores.{known_of}
@@ -85,7 +86,7 @@ returns-in-Ok-clause-stood g c h =
     (c.read_map.ensures.same.was_honest h) in
     let none : NoneOpen s1 = c.in-Ok.ensures.settled (c.read_map.ensures.same.was_honest h) in
     ok_on (λ read. (m : DiskMap) × IsHeld s1.size (known_of read) m s1.contents) (λ read. (files : Files File)
-    × Stands s.size s.contents files × RestsAt s2 files) c.read_map.result
+    × StandsOn (pack_of s2) s.contents files × RestsAt s2 files) c.read_map.result
     (λ read held. stood_before s s1 s2 (known_of read) held.0 c.recover.ensures.same.size c.read_map.ensures.same.size
     recovered none reads held.1) (c.read_map.ensures.held h)
 

@@ -1,39 +1,50 @@
 use Rattle.std.proofs.Common.{◌≡◌, ◌≤◌, ℕ, Some, refl, subst, ◌∙◌, sym}
 use Rattle.meaning.specs.Jobs as machine
 use Rattle.meaning.specs.Jobs.{State, slot, job_at}
-use Rattle.meaning.specs.Runs.{Service, Serving}
+use Rattle.meaning.specs.Layouts.{pack_of}
+use Rattle.meaning.specs.Runs.{Service, Serving, Answers}
 use Rattle.meaning.specs.declared.call.Call.TheVariants.{In}
 use Rattle.meaning.specs.declared.call.Reply.TheVariants.{NoMemory, Device, Failed, DateRange, Refused}
 use Rattle.monitor.specs.Calls.{KeepsCore}
 use Rattle.blockdisk.specs.Disk.{LeavesOnly}
 use Rattle.meaning.specs.Crashes.{StandsForEither}
 use Rattle.meaning.specs.declared.call.Event.TheVariants.{Call as Calls}
-use Rattle.monitor.specs.Serving.{pack_of, Serves}
+use Rattle.monitor.specs.Serving.{pack_one, Serves}
 use Rattle.monitor.proofs.Apart.{IsApart, IsStill, in_still, apart}
 use Rattle.monitor.proofs.EventCrashes.{untouched_event, call_event}
-use Rattle.monitor.proofs.Called.{IsCalled, called_late, all_same}
+use Rattle.monitor.proofs.Called.{called_late, all_same}
+use Rattle.monitor.proofs.ServedPacks.{led_here}
 use Rattle.monitor.specs.Refusals.{IsRefused}
 use Rattle.monitor.proofs.monitor.Monitor.call.Goals as goal
 
 pub returns-then-moment-gt-LAST_DATE-clause-answered : goal.returns-then-moment-gt-LAST_DATE-clause-answered
 returns-then-moment-gt-LAST_DATE-clause-answered g c =
-    subst (λ m. (g.D.Disk.state m.disk).honest
-    → IsCalled (g.D.Disk.state m.disk) m.map m.failed m.jobs (g.D.Disk.state m.disk) m.map m.failed m.jobs
-    c.args.job c.args.moment DateRange c.args.call.now) c.self.view_is
-    (λ h. called_late (g.D.Disk.state c.self.inside.volume.disk) c.self.inside.volume.core c.self.inside.volume.failed
-    c.self.inside.jobs c.args.job c.args.call.now c.args.moment (sym c.has_failed.ensures.value
-    ∙ c.if-has_failed.false) c.if-moment-gt-LAST_DATE.true (c.self.invariant (sym c.has_failed.ensures.value
-    ∙ c.if-has_failed.false)).0 (c.self.invariant (sym c.has_failed.ensures.value ∙ c.if-has_failed.false)).2)
+    let d = g.D.Disk.state c.self.inside.volume.disk in
+    let v = c.self.inside.volume in
+    let alive = sym c.has_failed.ensures.value ∙ c.if-has_failed.false in
+    subst (λ m. (g.D.Disk.state m.disk).honest → (old : Service) → Serves (g.D.Disk.state m.disk) m.map m.failed m.jobs
+    old → (new : Service) × Serves (g.D.Disk.state m.disk) m.map m.failed m.jobs new
+    × Answers (pack_of (g.D.Disk.state m.disk)) old (Calls c.args.job c.args.call.now c.args.moment) DateRange new)
+    c.self.view_is
+    (λ h old serves. led_here d v.core v.failed c.self.inside.jobs (Serves d v.core v.failed c.self.inside.jobs)
+    (Calls c.args.job c.args.call.now c.args.moment) DateRange old serves
+    (called_late d v.core v.failed c.self.inside.jobs c.args.job c.args.call.now c.args.moment alive
+    c.if-moment-gt-LAST_DATE.true (c.self.invariant alive).0 (c.self.invariant alive).2 old serves))
 
 pub returns-clause-answered : goal.returns-clause-answered
 returns-clause-answered g c =
-    subst (λ m. (g.D.Disk.state c.serve.new.volume.disk).honest
-    → IsCalled (g.D.Disk.state m.disk) m.map m.failed m.jobs (g.D.Disk.state c.serve.new.volume.disk)
-    c.serve.new.volume.core c.serve.new.volume.failed c.serve.new.jobs
-    c.args.job c.args.moment c.serve.result c.args.call.now) c.self.view_is
-    (λ h old serves. c.serve.ensures.serving.answered h old
-    (subst (λ b. Serves (g.D.Disk.state c.self.inside.volume.disk) c.self.inside.volume.core b c.self.inside.jobs old)
-    (sym c.has_failed.ensures.value ∙ c.if-has_failed.false) serves))
+    let d = g.D.Disk.state c.self.inside.volume.disk in
+    let v = c.self.inside.volume in
+    let w = c.serve.new.volume in
+    subst (λ m. (g.D.Disk.state w.disk).honest → (old : Service) → Serves (g.D.Disk.state m.disk) m.map m.failed m.jobs
+    old → (new : Service) × Serves (g.D.Disk.state w.disk) w.core w.failed c.serve.new.jobs new
+    × Answers (pack_of (g.D.Disk.state m.disk)) old (Calls c.args.job c.args.call.now c.args.moment) c.serve.result new)
+    c.self.view_is
+    (λ h old serves. led_here d v.core v.failed c.self.inside.jobs
+    (Serves (g.D.Disk.state w.disk) w.core w.failed c.serve.new.jobs)
+    (Calls c.args.job c.args.call.now c.args.moment) c.serve.result old serves
+    (c.serve.ensures.serving.answered h old (subst (λ b. Serves d v.core b c.self.inside.jobs old)
+    (sym c.has_failed.ensures.value ∙ c.if-has_failed.false) serves)))
 
 pub returns-then-has_failed-clause-crash : goal.returns-then-has_failed-clause-crash
 returns-then-has_failed-clause-crash g c h s serves =
@@ -79,12 +90,12 @@ returns-clause-still g c =
     → c.args.call.now ≡ In channel address → c.args.moment.date ≤ 4095 → (s : State)
     → Serves (g.D.Disk.state m.disk) m.map m.failed m.jobs (Serving s)
     → (own : machine.Job) → job_at s c.args.job ≡ Some own → (c.serve.result ≡ NoMemory → ⊥)
-    → (c.serve.result ≡ Device → ⊥) → IsStill after (pack_of (g.D.Disk.state m.disk)) s c.args.job c.args.moment
+    → (c.serve.result ≡ Device → ⊥) → IsStill after (pack_one (g.D.Disk.state m.disk)) s c.args.job c.args.moment
     c.serve.result own channel address) c.self.view_is
     (λ h channel address asked timely s serves own there room works.
     let d = g.D.Disk.state c.self.inside.volume.disk in
     let led = c.serve.ensures.serving.answered h (Serving s) (refl, serves.1) in
-    in_still after (pack_of d) s c.args.job c.args.moment c.serve.result own channel address c.args.call.now
+    in_still after (pack_one d) s c.args.job c.args.moment c.serve.result own channel address c.args.call.now
     asked there timely room works led.0 led.1 led.2)
 
 pub returns-clause-apart : goal.returns-clause-apart
@@ -96,9 +107,11 @@ returns-clause-apart g c =
     → IsApart after (pack_of (g.D.Disk.state m.disk)) s c.args.job c.args.moment c.serve.result c.args.call.now)
     c.self.view_is
     (λ h s serves.
-    let led = c.serve.ensures.serving.answered h (Serving s) (refl, serves.1) in
-    apart after (pack_of (g.D.Disk.state c.self.inside.volume.disk)) s c.args.job c.args.moment c.serve.result
-    c.args.call.now led.0 led.1 led.2)
+    let d = g.D.Disk.state c.self.inside.volume.disk in
+    let led = led_here d c.self.inside.volume.core c.self.inside.volume.failed c.self.inside.jobs after
+    (Calls c.args.job c.args.call.now c.args.moment) c.serve.result (Serving s) serves
+    (c.serve.ensures.serving.answered h (Serving s) (refl, serves.1)) in
+    apart after (pack_of d) s c.args.job c.args.moment c.serve.result c.args.call.now led.0 led.1 led.2)
 
 pub returns-then-moment-gt-LAST_DATE-clause-apart : goal.returns-then-moment-gt-LAST_DATE-clause-apart
 returns-then-moment-gt-LAST_DATE-clause-apart g c =
@@ -109,10 +122,11 @@ returns-then-moment-gt-LAST_DATE-clause-apart g c =
     (λ h s serves.
     let m = c.self.inside in
     let d = g.D.Disk.state m.volume.disk in
-    let led = called_late d m.volume.core m.volume.failed m.jobs c.args.job c.args.call.now c.args.moment
-    (sym c.has_failed.ensures.value ∙ c.if-has_failed.false) c.if-moment-gt-LAST_DATE.true
-    (c.self.invariant (sym c.has_failed.ensures.value ∙ c.if-has_failed.false)).0
-    (c.self.invariant (sym c.has_failed.ensures.value ∙ c.if-has_failed.false)).2 (Serving s) serves in
+    let alive = sym c.has_failed.ensures.value ∙ c.if-has_failed.false in
+    let led = led_here d m.volume.core m.volume.failed m.jobs (Serves d m.volume.core m.volume.failed m.jobs)
+    (Calls c.args.job c.args.call.now c.args.moment) DateRange (Serving s) serves
+    (called_late d m.volume.core m.volume.failed m.jobs c.args.job c.args.call.now c.args.moment alive
+    c.if-moment-gt-LAST_DATE.true (c.self.invariant alive).0 (c.self.invariant alive).2 (Serving s) serves) in
     apart (Serves d m.volume.core m.volume.failed m.jobs) (pack_of d) s c.args.job c.args.moment DateRange
     c.args.call.now led.0 led.1 led.2)
 

@@ -1,8 +1,9 @@
 use Rattle.std.proofs.Common.{refl, sym, ap, subst, ◌∙◌}
 use Rattle.blockdisk.specs.Disk.{LeavesOnly}
 use Rattle.meaning.specs.Crashes.{StandsForEither}
+use Rattle.meaning.specs.Layouts.{pack_of}
 use Rattle.meaning.specs.Runs.{Service, Serving, Answers}
-use Rattle.monitor.specs.Serving.{pack_of, Serves}
+use Rattle.monitor.specs.Serving.{Serves}
 use Rattle.monitor.specs.Events.{IsDecided, IsNoCall, IsLightEvent}
 use Rattle.monitor.proofs.Apart.{leaves_others}
 use Rattle.monitor.proofs.EventCrashes.{untouched_event, of_other}

@@ -1,7 +1,8 @@
 use Rattle.std.proofs.Common.{subst, sym, ◌∙◌}
 use Rattle.meaning.specs.Runs.{Service, Answers}
 use Rattle.meaning.specs.declared.call.Event.TheVariants.{Examine}
-use Rattle.monitor.specs.Serving.{pack_of, Serves}
+use Rattle.meaning.specs.Layouts.{pack_of}
+use Rattle.monitor.specs.Serving.{Serves}
 use Rattle.monitor.proofs.CoreWords.{examine_answered}
 use Rattle.monitor.proofs.monitor.Monitor.examine.Goals as goal
 

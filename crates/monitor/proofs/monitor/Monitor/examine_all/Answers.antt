@@ -1,9 +1,10 @@
 use Rattle.std.proofs.Common.{◌+◌, ◌<◌, ℕ, subst, sym, ◌∙◌, slice_index}
 use Rattle.std.specs.Prelude.{IfSome}
+use Rattle.meaning.specs.Layouts.{pack_of}
 use Rattle.meaning.specs.Runs.{Service, Answers}
 use Rattle.meaning.specs.declared.call.Event.TheVariants.{Examine}
 use Rattle.meaning.specs.declared.call.Reply.TheVariants.{Value}
-use Rattle.monitor.specs.Serving.{pack_of, Serves}
+use Rattle.monitor.specs.Serving.{Serves}
 use Rattle.monitor.proofs.CoreWords.{all_answered}
 use Rattle.monitor.proofs.monitor.Monitor.examine_all.Goals as goal
 

@@ -2,12 +2,13 @@ use Rattle.std.proofs.Common.{◌≡◌, ◌∙◌, sym, ap, ℤ, pos, ◌-ℤ�
 use Rattle.std.proofs.Common.{false, to_z, of_z, w64, FitsSigned, ◌<◌, ◌^◌, arith}
 use Rattle.std.proofs.lemmas.Int.{to_z-of_z, ints}
 use Rattle.std.specs.Int.Signed.{mag}
+use Rattle.meaning.specs.Layouts.{pack_of}
 use Rattle.meaning.specs.Published.{without_serials}
 use Rattle.meaning.specs.Regions.{space_start}
 use Rattle.meaning.specs.Jobs.{State}
 use Rattle.meaning.specs.Room.{room}
 use Rattle.volume.proofs.Answering.{rest_holds}
-use Rattle.monitor.specs.Serving.{pack_of, IsState}
+use Rattle.monitor.specs.Serving.{IsState}
 use Rattle.monitor.proofs.Rooms.{booked_is}
 use Rattle.monitor.proofs.monitor.Monitor.room.Goals as goal
 

@@ -48,8 +48,7 @@ loop-event-preserved g c =
     record {
       runs = subst (λ es. Ran state first new es c.push.new.self.items) (sym took)
           (subst (Ran state first new (so_far ++ event ∷ [])) (sym grown)
-          (ran_more state first old new so_far replies event reply is.same same does.same does.answered
-          does.crash stays is.runs));
+          (ran_more state first old new so_far replies event reply does.same does.answered does.crash stays is.runs));
       count = ap length grown ∙ length-append replies (reply ∷ []) ∙ ap (λ n. n + 1) is.count;
       room = omega (arith, is.room, c.push.ensures.capacity);
       same = same;

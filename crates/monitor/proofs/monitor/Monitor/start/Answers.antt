@@ -1,4 +1,8 @@
+use Rattle.std.proofs.Common.{subst}
 use Rattle.std.proofs.lemmas.Result.{err_from_is_err_and}
+use Rattle.meaning.specs.Layouts.{pack_of}
+use Rattle.meaning.specs.Stands.{Stands}
+use Rattle.meaning.proofs.Layouts.{stands_in_any}
 use Rattle.monitor.proofs.Started.{started, start_keyed, start_reading}
 use Rattle.monitor.proofs.Placing.{placed_none}
 use Rattle.monitor.proofs.monitor.Monitor.start.Goals as goal
@@ -21,7 +25,11 @@ returns-in-Ok-clause-started g c files stands s start h = (
 pub returns-in-Ok-clause-stood : goal.returns-in-Ok-clause-stood
 returns-in-Ok-clause-stood g c h =
     let stood = c.in_ok-volume.ensures.stood h in
-    (stood.0, stood.1, λ s start. returns-in-Ok-clause-started g c stood.0 stood.1 s start h)
+    let d = g.D.Disk.state c.args.disk in
+    let opened = g.D.Disk.state c.in_ok-volume.volume.disk in
+    let before : Stands d.size d.contents stood.0 = subst (λ n. Stands n d.contents stood.0)
+    c.in_ok-volume.ensures.same.size (stands_in_any (pack_of opened) d.contents stood.0 stood.1) in
+    (stood.0, stood.1, λ s start. returns-in-Ok-clause-started g c stood.0 before s start h)
 
 pub returns-in_err-volume-clause-kept : goal.returns-in_err-volume-clause-kept
 returns-in_err-volume-clause-kept g c =

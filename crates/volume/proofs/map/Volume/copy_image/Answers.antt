@@ -3,12 +3,14 @@ use Rattle.blockdisk.specs.Disk.{LeavesOnly, NoneOpen}
 use Rattle.blockdisk.specs.Laws.{leaves_start, same_contents}
 use Rattle.changeset.specs.Crashes.{IsRecovered}
 use Rattle.meaning.specs.Files.{File, Files}
-use Rattle.meaning.specs.Stands.{Stands}
+use Rattle.meaning.specs.Layouts.{pack_of, StandsOn}
+use Rattle.meaning.specs.Room.{Pack}
 use Rattle.volume.specs.Copying.{AreCopied, HomesComeLast}
 use Rattle.volume.specs.Rest.{RestsAt, StandsLike, StandsLikeBefore}
 use Rattle.volume.specs.declared.error.CopyError.TheVariants.{Source}
 use Rattle.volume.specs.declared.error.VolumeError.TheVariants.{Device}
-use Rattle.volume.proofs.CopiedImages.{copy_rests, ok_both, ok_any, rest_on}
+use Rattle.volume.proofs.CopiedImages.{copy_pack, copy_rests, ok_both, ok_any}
+use Rattle.volume.proofs.ReadWords.{rests_read}
 use Rattle.volume.proofs.Starting.{crash_read, synced_read}
 use Rattle.volume.proofs.map.Volume.copy_image.Goals as goal
 
@@ -23,9 +25,13 @@ returns-in-Ok-clause-stood g c h k =
     let stood = c.in-Ok.ensures.stood h1 in
     let size : t.size ≡ s1.size = step.same_target.size ∙ sym c.requires ∙ sym c.read_volume.ensures.same.size in
     ok_both c.copy_all.result (AreCopied s1.size s1.contents t.contents) (NoneOpen t)
-    ((files : Files File) × Stands s.size s.contents files × RestsAt t files) (c.copy_all.ensures.copied h k)
+    ((files : Files File) × StandsOn (pack_of t) s.contents files × RestsAt t files) (c.copy_all.ensures.copied h k)
     (c.copy_all.ensures.settled k)
-    (λ copy none. (stood.0, stood.1, copy_rests s1 t stood.0 size none copy stood.2))
+    (λ copy none. (
+      stood.0,
+      subst (λ (p : Pack). StandsOn p s.contents stood.0) (sym (copy_pack s1 t stood.0 size none copy stood.2)) stood.1,
+      copy_rests s1 t stood.0 size none copy stood.2,
+    ))
 
 pub returns-in-Ok-clause-files : goal.returns-in-Ok-clause-files
 returns-in-Ok-clause-files g c h k files stands =
@@ -46,7 +52,7 @@ returns-in-Ok-clause-rests g c h files stands =
     let s1 = g.D.Disk.state c.read_volume.new.disk in
     let s2 = g.D.Disk.state c.copy_all.new.from in
     let h1 = c.copy_all.ensures.step.same_source.was_honest h in
-    ok_any c.copy_all.result (RestsAt s2 files) (rest_on s1 s2 files c.copy_all.ensures.step.same_source.size
+    ok_any c.copy_all.result (RestsAt s2 files) (rests_read s1 s2 files c.copy_all.ensures.step.same_source.size
     (c.copy_all.ensures.step.reads h) (c.in-Ok.ensures.files h1 files stands))
 
 pub returns-in-Ok-clause-crash : goal.returns-in-Ok-clause-crash

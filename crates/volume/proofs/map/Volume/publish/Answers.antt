@@ -86,6 +86,7 @@ returns-in-Ok-put-clause-crash g c = rw (← c.self.view_is) (λ h f rests p the
     let put = c.in-Ok-put.ensures.put p
     (ap (λ (x : VolumeCore). pending_at x.pending c.args.pending.key) c.find_supplies.ensures.core ∙ there) in
     both_leave s mid (g.D.Disk.state c.publish_written.new.disk) f _ c.put_in_core-put.ensures.same.size
+    (c.put_in_core-put.ensures.rests (c.publish_written.ensures.same.was_honest h) f rests)
     (c.put_in_core-put.ensures.quiet (c.publish_written.ensures.same.was_honest h) f rests)
     (c.publish_written.ensures.crash h f
     (c.put_in_core-put.ensures.rests (c.publish_written.ensures.same.was_honest h) f rests)
