@@ -20,7 +20,7 @@ use Rattle.monitor.proofs.EventCrashes.{untouched_event}
 use Rattle.commands.specs.Asking.{HasDone}
 use Rattle.commands.specs.Machines.{Machine, AlwaysStands, GoesBy, IsAnswered, AreShown}
 use Rattle.commands.specs.Monitors.{machine_of}
-use Rattle.commands.proofs.OnePack.{crash_one, led_one, stands_one}
+use Rattle.monitor.proofs.OnePack.{crash_one, led_one, stands_one}
 use Rattle.commands.proofs.GoingLaws.{goes_on, goes_answered, goes_nowhere}
 
 module _ {D : Type 0} (state : D → DiskState) (only_now : (disk : D) (contents : Contents) → (state disk).honest

@@ -27,5 +27,4 @@ pub mod PuttingLaws
 pub mod WordLaws
 pub mod NameLaws
 pub mod StoppedLaws
-pub mod OnePack
 pub mod AtOnce

@@ -18,7 +18,7 @@ use std::io::{Read, Write};
 use words36::{FileName, Moment, Ppn, Word};
 
 impl<D: Disk> FileService for Monitor<D> {
-    ghost use Rattle.commands.proofs.OnePack.{stands_one};
+    ghost use Rattle.monitor.proofs.OnePack.{stands_one};
 
     ghost machine = { λ m. machine_of (D.state m.disk) m.map m.failed m.jobs };
 

@@ -75,6 +75,7 @@ pub mod ReadsPinned
 pub mod ReadsPublished
 pub mod ServedEvents
 pub mod EventCrashes
+pub mod OnePack
 pub mod Listed
 pub mod Releases
 pub mod Along

@@ -3,7 +3,7 @@ use Rattle.blockdisk.specs.Disk.{Still}
 use Rattle.blockdisk.specs.Laws.{still_start}
 use Rattle.meaning.specs.Layouts.{pack_in}
 use Rattle.monitor.specs.Serving.{Serves}
-use Rattle.commands.proofs.OnePack.{crash_one, led_one}
+use Rattle.monitor.proofs.OnePack.{crash_one, led_one}
 use Rattle.commands.proofs.monitored.MonitorFileService.event.Goals as goal
 
 pub returns : goal.returns
