@@ -91,3 +91,4 @@ pub mod PutRuns
 pub mod ErrandRuns
 pub mod ShortLaws
 pub mod ReadyLaws
+pub mod CauseLaws
