@@ -37,7 +37,7 @@ GoesUntilRefused moment IsEnd (Ask event next) =
     ⊎ ((reply : Reply) → (IsTrue (is_wanted event reply) → GoesUntilRefused moment IsEnd (next reply))
     × (IsFalse (is_wanted event reply) → next reply ≡ fails moment reply))
 
--- Ends: OK; what COPY and a file that is read come to, whose IN behind the last block has to tell the file's end.
+-- Ends: OK; what COPY and a file that is read come to, whose IN after the last block has to tell the file's end.
 
 abbrev pub SaysOk : Moment → Plan → Type 0
 SaysOk moment plan = plan ≡ ends moment ok
@@ -59,7 +59,7 @@ IsAsWanted moment (Asks event reply) =
 IsAsWanted moment (Looks owner answer) = ⊥
 
 -- The line is refused at the first act whose reply is not the one wanted, and says that reply. An IN is also refused
--- where it told the file's end too soon, or not behind the last block.
+-- where it told the file's end too soon, or not after the last block.
 pub record IsRefusedAt (moment : Moment) (acts : List Act) (said : Spoken) : Type 0 where
   pub before : List Act
   pub event : Event
