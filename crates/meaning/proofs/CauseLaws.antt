@@ -2,7 +2,10 @@
 use Rattle.std.proofs.Common.{◌≡◌, ◌⊎◌, inl, inr, ⊎_elim, ℕ, zero, suc, ◌+◌, ◌*◌, ◌/◌, ◌%◌, Bool, true, false}
 use Rattle.std.proofs.Common.{if◌then◌else◌, IsTrue, IsFalse, List, [], ◌∷◌, ◌++◌, length, take, drop, replicate}
 use Rattle.std.proofs.Common.{Some, refl, sym, ap, subst, ◌∙◌}
+use Rattle.std.specs.Prelude.{Option, unwrap_or}
 use Rattle.std.specs.List.{AllByRecursion}
+use Rattle.meaning.specs.Plans.{asks_rename, deletes, protects, asks_make_dir, shows, begins}
+use Rattle.meaning.specs.Causes.{EndsSo, SaysSo}
 use Rattle.words36.specs.declared.moment.Moment.{Moment}
 use Rattle.meaning.specs.Texts.{Spoken, prints, printed, refuses}
 use Rattle.meaning.specs.Plans.{Plan, Ask, Show, Say, Act, Asks, Looks, Conducts, each, calls, ends, fails, ok}
@@ -16,6 +19,11 @@ use Rattle.meaning.specs.Errands.{part_address, keeps, gets}
 use Rattle.meaning.specs.Causes.{is_done, is_word, is_wanted, GoesUntilRefused, SaysOk, ClosesAtEnd, PrintsAtEnd}
 use Rattle.meaning.specs.Causes.{IsAsWanted, IsRefusedAt}
 use Rattle.meaning.specs.declared.command.Spec.{Spec}
+use Rattle.meaning.specs.declared.command.Command.{Command}
+use Rattle.meaning.specs.declared.command.Command.TheVariants.{Login as LoginLine, Directory as DirectoryLine}
+use Rattle.meaning.specs.declared.command.Command.TheVariants.{Copy as CopyLine, Rename as RenameLine}
+use Rattle.meaning.specs.declared.command.Command.TheVariants.{Delete as DeleteLine, TypeOut as TypeLine}
+use Rattle.meaning.specs.declared.command.Command.TheVariants.{Protect as ProtectLine, MakeDir as MakeLine}
 use Rattle.meaning.specs.declared.encoding.Encoding.{Encoding}
 use Rattle.meaning.specs.declared.encoding.Encoding.TheVariants.{Characters, Words}
 use Rattle.meaning.specs.declared.call.Call.TheVariants.{Close, Reset}
@@ -247,6 +255,22 @@ pub gets_go_on : (moment : Moment) (me : ℕ) (encoding : Encoding) (spec : Spec
 gets_go_on moment me encoding spec = each_goes moment (PrintsAtEnd moment encoding) (enters me)
     (reads_file moment encoding spec) (tt, tt) (reads_go_on moment encoding spec)
 
+pub lines_go_on : (moment : Moment) (me : ℕ) (command : Command)
+    → GoesUntilRefused moment (EndsSo moment me command) (begins moment me command)
+lines_go_on moment me (LoginLine owner) = refl
+lines_go_on moment me (DirectoryLine owner) = refl
+lines_go_on moment me (CopyLine to from) = copies_go_on moment to from
+lines_go_on moment me (RenameLine to from) = each_goes moment (SaysOk moment) (asks_rename moment to from)
+    (ends moment ok) (tt, (tt, (tt, (tt, (tt, (tt, (tt, (tt, (tt, (tt, (tt, (tt, (tt, tt))))))))))))) (inl refl)
+lines_go_on moment me (DeleteLine spec) = each_goes moment (SaysOk moment) (deletes moment spec) (ends moment ok)
+    (tt, (tt, (tt, (tt, (tt, (tt, (tt, (tt, (tt, (tt, (tt, tt))))))))))) (inl refl)
+lines_go_on moment me (TypeLine spec) = reads_go_on moment Characters spec
+lines_go_on moment me (ProtectLine spec protection) = each_goes moment (SaysOk moment)
+    (protects moment spec protection) (ends moment ok)
+    (tt, (tt, (tt, (tt, (tt, (tt, (tt, (tt, (tt, (tt, (tt, (tt, (tt, (tt, tt)))))))))))))) (inl refl)
+lines_go_on moment me (MakeLine owner protection) = each_goes moment (SaysOk moment)
+    (asks_make_dir moment owner protection) (ends moment ok) (tt, (tt, (tt, tt))) (inl refl)
+
 -- Acts.
 
 -- all channels are closed in the end, and this is said
@@ -261,7 +285,8 @@ ends_by moment told said (Asks event reply ∷ act ∷ acts) led = absurd led.1
 
 -- a reply that is not wanted
 refused_here : (moment : Moment) (event : Event) (reply : Reply) (acts : List Act) (said : Spoken)
-    → IsFalse (is_wanted event reply) ⊎ (event ≡ takes moment) → Conducts (fails moment reply) acts said
+    → IsFalse (is_wanted event reply) ⊎ ((event ≡ takes moment) × (reply ≡ Done))
+    → Conducts (fails moment reply) acts said
     → IsRefusedAt moment (Asks event reply ∷ acts) said
 refused_here moment event reply acts said why led =
     let end = ends_by moment (refuses reply) said acts led in
@@ -316,25 +341,26 @@ module _ (moment : Moment) (IsEnd : Plan → Type 0) (IsSaid : Spoken → Type 0
 
 end_or_fails : (moment : Moment) (next : Plan) (reply : Reply)
     → ((status : ℕ) × (reply ≡ Stopped status) × IsTrue (is_end status) × (if_end moment next reply ≡ next))
-    ⊎ (if_end moment next reply ≡ fails moment reply)
-end_or_fails moment next Done = inr refl
-end_or_fails moment next (Value w) = inr refl
-end_or_fails moment next (Refused w) = inr refl
+    ⊎ ((if_end moment next reply ≡ fails moment reply) × (IsFalse (is_done reply) ⊎ (reply ≡ Done)))
+end_or_fails moment next Done = inr (refl, inr refl)
+end_or_fails moment next (Value w) = inr (refl, inl refl)
+end_or_fails moment next (Refused w) = inr (refl, inl refl)
 end_or_fails moment next (Stopped w) = by (is_end w) refl
   where
     by : (b : Bool) → is_end w ≡ b
         → ((status : ℕ) × (Stopped w ≡ Stopped status) × IsTrue (is_end status)
         × ((if is_end w then next else fails moment (Stopped w)) ≡ next))
-        ⊎ ((if is_end w then next else fails moment (Stopped w)) ≡ fails moment (Stopped w))
+        ⊎ (((if is_end w then next else fails moment (Stopped w)) ≡ fails moment (Stopped w))
+        × (IsFalse (is_done (Stopped w)) ⊎ (Stopped w ≡ Done)))
     by true e = inl (w, refl, e, ap (λ b. if b then next else fails moment (Stopped w)) e)
-    by false e = inr (ap (λ b. if b then next else fails moment (Stopped w)) e)
-end_or_fails moment next NoChannel = inr refl
-end_or_fails moment next AddressCheck = inr refl
-end_or_fails moment next NoJob = inr refl
-end_or_fails moment next NoMemory = inr refl
-end_or_fails moment next Device = inr refl
-end_or_fails moment next Failed = inr refl
-end_or_fails moment next DateRange = inr refl
+    by false e = inr (ap (λ b. if b then next else fails moment (Stopped w)) e, inl refl)
+end_or_fails moment next NoChannel = inr (refl, inl refl)
+end_or_fails moment next AddressCheck = inr (refl, inl refl)
+end_or_fails moment next NoJob = inr (refl, inl refl)
+end_or_fails moment next NoMemory = inr (refl, inl refl)
+end_or_fails moment next Device = inr (refl, inl refl)
+end_or_fails moment next Failed = inr (refl, inl refl)
+end_or_fails moment next DateRange = inr (refl, inl refl)
 
 until_by : (moment : Moment) (IsSaid : Spoken → Type 0) (next : Plan) (acts : List Act) (said : Spoken)
     → ((acts : List Act) → Conducts next acts said → IsSaid said ⊎ IsRefusedAt moment acts said)
@@ -345,7 +371,9 @@ until_by moment IsSaid next (Asks event reply ∷ acts) said behind (same, led) 
     (λ (status, is, told, on). ⊎_elim inl
     (λ r. inr (refused_later moment (Asks event reply) acts said (inr (same, status, is, told)) r))
     (behind acts (subst (λ p. Conducts p acts said) on led)))
-    (λ off. inr (refused_here moment event reply acts said (inr same) (subst (λ p. Conducts p acts said) off led)))
+    (λ (off, why). inr (refused_here moment event reply acts said
+    (⊎_elim (λ is. inl (subst (λ e. IsFalse (is_wanted e reply)) (sym same) is)) (λ is. inr (same, is)) why)
+    (subst (λ p. Conducts p acts said) off led)))
     (end_or_fails moment next reply)
 
 ok_at_end : (moment : Moment) (plan : Plan) (acts : List Act) (said : Spoken) → SaysOk moment plan
@@ -372,11 +400,6 @@ prints_at_end moment encoding plan acts said (words, is) led =
     (λ acts led. inl (words, (ends_by moment (prints (printed encoding words)) said acts led).2))
     (subst (λ p. Conducts p acts said) is led)
 
-pub copy_refusals : (moment : Moment) (to from : Spec) (acts : List Act) (said : Spoken)
-    → Conducts (copies moment to from) acts said → (said ≡ ok) ⊎ IsRefusedAt moment acts said
-copy_refusals moment to from acts said led = acts_go_on moment (ClosesAtEnd moment) (λ said. said ≡ ok)
-    (closes_at_end moment) (copies moment to from) acts said (copies_go_on moment to from) led
-
 pub read_refusals : (moment : Moment) (encoding : Encoding) (spec : Spec) (acts : List Act) (said : Spoken)
     → Conducts (reads_file moment encoding spec) acts said
     → ((words : List ℕ) × (said ≡ prints (printed encoding words))) ⊎ IsRefusedAt moment acts said
@@ -396,3 +419,39 @@ pub get_refusals : (moment : Moment) (me : ℕ) (encoding : Encoding) (spec : Sp
 get_refusals moment me encoding spec acts said led = acts_go_on moment (PrintsAtEnd moment encoding) (IsPrint encoding)
     (prints_at_end moment encoding) (gets moment me encoding spec) acts said
     (gets_go_on moment me encoding spec) led
+
+shows_at_end : (moment : Moment) (me : ℕ) (owner : Option ℕ) (plan : Plan) (acts : List Act) (said : Spoken)
+    → EndsSo moment me (DirectoryLine owner) plan → Conducts plan acts said
+    → SaysSo me (DirectoryLine owner) said ⊎ IsRefusedAt moment acts said
+shows_at_end moment me owner plan acts said is led =
+    inl (by acts (subst (λ p. Conducts p acts said) is led))
+  where
+    by : (acts : List Act) → Conducts (shows (unwrap_or owner me)) acts said → SaysSo me (DirectoryLine owner) said
+    by [] led = let wrong = led in cc
+    by (Asks event reply ∷ acts) led = absurd led
+    by (Looks other answer ∷ []) (same, led) = (answer, let e = led in cc)
+    by (Looks other answer ∷ act ∷ acts) (same, led) = absurd led
+
+says_at_end : (moment : Moment) (told : Spoken) (plan : Plan) (acts : List Act) (said : Spoken) → plan ≡ Say told
+    → Conducts plan acts said → (said ≡ told) ⊎ IsRefusedAt moment acts said
+says_at_end moment told plan acts said is led = inl (by acts (subst (λ p. Conducts p acts said) is led))
+  where
+    by : (acts : List Act) → Conducts (Say told) acts said → said ≡ told
+    by [] led = let e = led in cc
+    by (act ∷ acts) led = absurd led
+
+line_at_end : (moment : Moment) (me : ℕ) (command : Command) (plan : Plan) (acts : List Act) (said : Spoken)
+    → EndsSo moment me command plan → Conducts plan acts said → SaysSo me command said ⊎ IsRefusedAt moment acts said
+line_at_end moment me (LoginLine owner) = says_at_end moment (prints [])
+line_at_end moment me (DirectoryLine owner) = shows_at_end moment me owner
+line_at_end moment me (CopyLine to from) = closes_at_end moment
+line_at_end moment me (RenameLine to from) = ok_at_end moment
+line_at_end moment me (DeleteLine spec) = ok_at_end moment
+line_at_end moment me (TypeLine spec) = prints_at_end moment Characters
+line_at_end moment me (ProtectLine spec protection) = ok_at_end moment
+line_at_end moment me (MakeLine owner protection) = ok_at_end moment
+
+pub line_refusals : (moment : Moment) (me : ℕ) (command : Command) (acts : List Act) (said : Spoken)
+    → Conducts (begins moment me command) acts said → SaysSo me command said ⊎ IsRefusedAt moment acts said
+line_refusals moment me command acts said led = acts_go_on moment (EndsSo moment me command) (SaysSo me command)
+    (line_at_end moment me command) (begins moment me command) acts said (lines_go_on moment me command) led

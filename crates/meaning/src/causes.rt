@@ -1,16 +1,18 @@
 ghost use Rattle.std.specs.Prelude.{◌≡◌, ◌⊎◌, ℕ, List, Some};
 ghost use Rattle.words36.specs.declared.moment.Moment.{Moment};
-ghost use Rattle.meaning.specs.Causes.{GoesUntilRefused, SaysOk, ClosesAtEnd, PrintsAtEnd, IsRefusedAt};
+ghost use Rattle.meaning.specs.Causes.{GoesUntilRefused, SaysOk, PrintsAtEnd, EndsSo, SaysSo, IsRefusedAt};
 ghost use Rattle.meaning.specs.Errands.{gets, keeps};
-ghost use Rattle.meaning.specs.Plans.{Act, Conducts, copies, ok, reads_file};
+ghost use Rattle.meaning.specs.Plans.{Act, Conducts, begins, ok, reads_file};
 ghost use Rattle.meaning.specs.Texts.{Spoken, prints, printed};
+ghost use Rattle.meaning.specs.declared.command.Command.{Command};
 ghost use Rattle.meaning.specs.declared.command.Spec.{Spec};
 ghost use Rattle.meaning.specs.declared.encoding.Encoding.{Encoding};
 
-/// What COPY, a file that is read, and the errands ask goes on while each reply is the one wanted, and comes to its
-/// end; after the first other reply the line is refused, and says that reply.
+/// What a line, a file that is read or an errand asks goes on while each reply is the one wanted, and comes to its end;
+/// after the first other reply it is refused, and says that reply.
 pub fn plans_go_on()
-    ensures copies { (moment : Moment) (to from : Spec) → GoesUntilRefused moment (ClosesAtEnd moment) (copies moment to from) }
+    ensures lines { (moment : Moment) (me : ℕ) (command : Command)
+        → GoesUntilRefused moment (EndsSo moment me command) (begins moment me command) }
     ensures reads { (moment : Moment) (encoding : Encoding) (spec : Spec)
         → GoesUntilRefused moment (PrintsAtEnd moment encoding) (reads_file moment encoding spec) }
     ensures puts { (moment : Moment) (me : ℕ) (encoding : Encoding) (spec : Spec) (words : List ℕ)
@@ -21,8 +23,8 @@ pub fn plans_go_on()
 
 /// A line is refused only at a reply that it did not want, and prints the text of the first one.
 pub fn refusals_have_causes()
-    ensures copies { (moment : Moment) (to from : Spec) (acts : List Act) (said : Spoken)
-        → Conducts (copies moment to from) acts said → (said ≡ ok) ⊎ IsRefusedAt moment acts said }
+    ensures lines { (moment : Moment) (me : ℕ) (command : Command) (acts : List Act) (said : Spoken)
+        → Conducts (begins moment me command) acts said → SaysSo me command said ⊎ IsRefusedAt moment acts said }
     ensures reads { (moment : Moment) (encoding : Encoding) (spec : Spec) (acts : List Act) (said : Spoken)
         → Conducts (reads_file moment encoding spec) acts said
         → ((words : List ℕ) × (said ≡ prints (printed encoding words))) ⊎ IsRefusedAt moment acts said }

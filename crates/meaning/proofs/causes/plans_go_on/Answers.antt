@@ -1,8 +1,8 @@
-use Rattle.meaning.proofs.CauseLaws.{copies_go_on, reads_go_on, puts_go_on, gets_go_on}
+use Rattle.meaning.proofs.CauseLaws.{lines_go_on, reads_go_on, puts_go_on, gets_go_on}
 use Rattle.meaning.proofs.causes.plans_go_on.Goals as goal
 
-pub returns-clause-copies : goal.returns-clause-copies
-returns-clause-copies c = copies_go_on
+pub returns-clause-lines : goal.returns-clause-lines
+returns-clause-lines c = lines_go_on
 
 pub returns-clause-reads : goal.returns-clause-reads
 returns-clause-reads c = reads_go_on

@@ -1,8 +1,8 @@
-use Rattle.meaning.proofs.CauseLaws.{copy_refusals, read_refusals, put_refusals, get_refusals}
+use Rattle.meaning.proofs.CauseLaws.{line_refusals, read_refusals, put_refusals, get_refusals}
 use Rattle.meaning.proofs.causes.refusals_have_causes.Goals as goal
 
-pub returns-clause-copies : goal.returns-clause-copies
-returns-clause-copies c = copy_refusals
+pub returns-clause-lines : goal.returns-clause-lines
+returns-clause-lines c = line_refusals
 
 pub returns-clause-reads : goal.returns-clause-reads
 returns-clause-reads c = read_refusals
