@@ -122,7 +122,8 @@ module _ (moment : Moment) (IsEnd : Plan → Type 0) where
       examines_goes a (λ word. fetches moment count (a + 1) (λ words. next (word ∷ words)))
       (λ word. fetches_goes count (a + 1) (λ words. next (word ∷ words)) (λ words. g (word ∷ words)))
 
-  takes_over_goes : (n word : ℕ) (next : List ℕ → Plan) → ((words : List ℕ) → GoesUntilRefused moment IsEnd (next words))
+  takes_over_goes : (n word : ℕ) (next : List ℕ → Plan)
+      → ((words : List ℕ) → GoesUntilRefused moment IsEnd (next words))
       → GoesUntilRefused moment IsEnd (takes_over moment n word next)
   takes_over_goes n word next g =
       each_goes (deposits block_address (replicate 128 word) ++ goes_to moment n ∷ takes moment ∷ [])
@@ -164,7 +165,8 @@ module _ (moment : Moment) (IsEnd : Plan → Type 0) where
 
   -- a file that is read
 
-  types_runs_goes : (more count : ℕ) (next : List ℕ → Plan) → ((words : List ℕ) → GoesUntilRefused moment IsEnd (next words))
+  types_runs_goes : (more count : ℕ) (next : List ℕ → Plan)
+      → ((words : List ℕ) → GoesUntilRefused moment IsEnd (next words))
       → GoesUntilRefused moment IsEnd (types_runs moment more count next)
   unfolding types_runs
   types_runs_goes zero count next g = g []
@@ -172,14 +174,17 @@ module _ (moment : Moment) (IsEnd : Plan → Type 0) where
       (fetches_goes count block_address (λ words. types_runs moment more count (λ others. next (words ++ others)))
       (λ words. types_runs_goes more count (λ others. next (words ++ others)) (λ others. g (words ++ others))))
 
-  types_blocks_goes : (blocks : ℕ) (next : List ℕ → Plan) → ((words : List ℕ) → GoesUntilRefused moment IsEnd (next words))
+  types_blocks_goes : (blocks : ℕ) (next : List ℕ → Plan)
+      → ((words : List ℕ) → GoesUntilRefused moment IsEnd (next words))
       → GoesUntilRefused moment IsEnd (types_blocks moment blocks next)
   types_blocks_goes blocks next g = each_goes (lists (blocks_at_once * 128)) _ (want_lists (blocks_at_once * 128))
       (types_runs_goes (blocks / blocks_at_once) (blocks_at_once * 128) _
       (λ words. each_goes (lists 128) _ (want_lists 128)
-      (types_runs_goes (blocks % blocks_at_once) 128 (λ others. next (words ++ others)) (λ others. g (words ++ others)))))
+      (types_runs_goes (blocks % blocks_at_once) 128 (λ others. next (words ++ others))
+      (λ others. g (words ++ others)))))
 
-  types_last_goes : (n size : ℕ) (next : List ℕ → Plan) → ((words : List ℕ) → GoesUntilRefused moment IsEnd (next words))
+  types_last_goes : (n size : ℕ) (next : List ℕ → Plan)
+      → ((words : List ℕ) → GoesUntilRefused moment IsEnd (next words))
       → GoesUntilRefused moment IsEnd (types_last moment n size next)
   types_last_goes n size next g = sizes_goes n size
       (λ count. each moment (lists count ++ goes_to moment n ∷ takes moment ∷ [])
@@ -187,7 +192,8 @@ module _ (moment : Moment) (IsEnd : Plan → Type 0) where
       (λ count. each_goes (lists count ++ goes_to moment n ∷ takes moment ∷ []) _
       (tt, (tt, (tt, (tt, tt)))) (fetches_goes count block_address next g))
 
-  types_body_goes : (blocks size : ℕ) (next : List ℕ → Plan) → ((words : List ℕ) → GoesUntilRefused moment IsEnd (next words))
+  types_body_goes : (blocks size : ℕ) (next : List ℕ → Plan)
+      → ((words : List ℕ) → GoesUntilRefused moment IsEnd (next words))
       → GoesUntilRefused moment IsEnd (types_body moment blocks size next)
   types_body_goes zero size next g = g []
   types_body_goes (suc more) size next g =
@@ -196,7 +202,8 @@ module _ (moment : Moment) (IsEnd : Plan → Type 0) where
 
   -- a file that is put
 
-  fills_parts_goes : (encoding : Encoding) (more : ℕ) (words : List ℕ) (next : Plan) → GoesUntilRefused moment IsEnd next
+  fills_parts_goes : (encoding : Encoding) (more : ℕ) (words : List ℕ) (next : Plan)
+      → GoesUntilRefused moment IsEnd next
       → GoesUntilRefused moment IsEnd (fills_parts moment encoding more words next)
   unfolding fills_parts
   fills_parts_goes encoding zero words next g = g
@@ -213,7 +220,8 @@ module _ (moment : Moment) (IsEnd : Plan → Type 0) where
 abbrev closing : Moment → Plan
 closing moment = until_end moment (each moment (calls moment (Close 2 0) ∷ []) (ends moment ok))
 
-pub copies_go_on : (moment : Moment) (to from : Spec) → GoesUntilRefused moment (ClosesAtEnd moment) (copies moment to from)
+pub copies_go_on : (moment : Moment) (to from : Spec)
+    → GoesUntilRefused moment (ClosesAtEnd moment) (copies moment to from)
 copies_go_on moment to from = each_goes moment (ClosesAtEnd moment) (finds moment from ++ writes moment to ++ lists 128)
     (examines moment (file_words + 3) (λ size. copies_body moment (blocks_said size) size (closing moment)))
     (all_append WantsDone (finds moment from ++ writes moment to) (lists 128)
@@ -318,7 +326,8 @@ refused_later moment act acts said was r = record {
 module _ (moment : Moment) (IsEnd : Plan → Type 0) (IsSaid : Spoken → Type 0)
     (at_end : (plan : Plan) (acts : List Act) (said : Spoken) → IsEnd plan → Conducts plan acts said
     → IsSaid said ⊎ IsRefusedAt moment acts said) where
-  acts_go_on : (plan : Plan) (acts : List Act) (said : Spoken) → GoesUntilRefused moment IsEnd plan → Conducts plan acts said
+  acts_go_on : (plan : Plan) (acts : List Act) (said : Spoken) → GoesUntilRefused moment IsEnd plan
+      → Conducts plan acts said
       → IsSaid said ⊎ IsRefusedAt moment acts said
   acts_go_on (Say told) acts said g led = at_end (Say told) acts said g led
   acts_go_on (Show owner next) acts said g led = at_end (Show owner next) acts said g led
