@@ -1,10 +1,9 @@
 -- What the errands of job 1 come to.
 use Rattle.std.proofs.Common.{◌≡◌, ◌⊎◌, inl, inr, ⊎_elim, ◌<◌, ℕ, true, false, List, [], ◌∷◌, length, Option, Some}
-use Rattle.std.proofs.Common.{None, Ok, refl}
+use Rattle.std.proofs.Common.{None, refl}
 use Rattle.std.proofs.Common.{sym, ap, subst, ◌∙◌}
-use Rattle.std.specs.Io.KnownBytes.{Appends, Consumes, IsAtEnd}
 use Rattle.words36.specs.declared.moment.Moment.{Moment}
-use Rattle.meaning.specs.Copies.{AreShort, HasFiles, IsPut, IsLineRefused, IsPrinted, HasHalfwordExtension}
+use Rattle.meaning.specs.Copies.{AreShort, HasFiles, IsLineRefused, IsPrinted, HasHalfwordExtension}
 use Rattle.meaning.specs.Causes.{IsRefusedAt}
 use Rattle.meaning.specs.Errands.{AreWords, gets, keeps, unfit}
 use Rattle.meaning.specs.Files.{Files}
@@ -19,11 +18,9 @@ use Rattle.meaning.specs.declared.command.Spec.{Spec}
 use Rattle.meaning.specs.declared.encoding.Encoding.{Encoding}
 use Rattle.meaning.proofs.CauseLaws.{put_refusals, get_refusals}
 use Rattle.meaning.proofs.ErrandRuns.{puts_are_exact, gets_are_exact}
-use Rattle.commands.specs.Errands.{Delivery, Errand}
-use Rattle.commands.specs.Machines.{Machine, ActsBy}
+use Rattle.commands.specs.Machines.{Machine}
 use Rattle.commands.specs.Outcomes.{IsStored, DeliveriesKeepFiles, ErrandsShowFiles}
 use Rattle.commands.specs.Streams.{spoken}
-use Rattle.commands.specs.declared.answer.Tally.{Tally}
 use Rattle.commands.proofs.GoingLaws.{acts_went}
 
 -- nothing is asked where the input is no file's
@@ -52,8 +49,11 @@ delivered pack s moment me encoding spec read None acts said last there few are 
     inr (c.0, inl (are, c.1))
 delivered pack s moment me encoding spec read (Some words) acts said last there few are led went = ⊎_elim
     (λ put. inl (words, are, put))
-    (λ refused. inr (refused, ⊎_elim (λ is. absurd (not_refused s.files said ok last refused is refl)) inr
-    (put_refusals moment me encoding spec words acts said led)))
+    (λ refused. inr (
+      refused,
+      ⊎_elim (λ is. absurd (not_refused s.files said ok last refused is refl)) inr
+          (put_refusals moment me encoding spec words acts said led),
+    ))
     (puts_are_exact pack moment me s encoding spec words said last there few (acts, led, went))
 
 -- the same of a file that is got
@@ -62,9 +62,12 @@ got : (pack : Pack) (s : State) (moment : Moment) (me : ℕ) (encoding : Encodin
     → Conducts (gets moment me encoding spec) acts said → Went pack (Serving s) acts last
     → IsPrinted me s encoding spec said last ⊎ (IsLineRefused s.files said last × IsRefusedAt moment acts said)
 got pack s moment me encoding spec acts said last there few short led went = ⊎_elim inl
-    (λ refused. inr (refused, ⊎_elim
-    (λ (words, is). absurd (not_refused s.files said (prints (printed encoding words)) last refused is refl)) (λ r. r)
-    (get_refusals moment me encoding spec acts said led)))
+    (λ refused. inr (
+      refused,
+      ⊎_elim
+          (λ (words, is). absurd (not_refused s.files said (prints (printed encoding words)) last refused is refl)) (λ r. r)
+          (get_refusals moment me encoding spec acts said led),
+    ))
     (gets_are_exact pack moment me s encoding spec said last there few short (acts, led, went))
 
 module _ {S : Type 0} (machine : S → Machine) where
