@@ -90,14 +90,6 @@ file_begun prime = record {
   body = [];
 }
 
-abbrev pub output_begun : Output → Prime → machine.Output
-output_begun o prime = record {
-  place = place_of prime.ppn prime.file;
-  kind = kind_of o.kind;
-  pending = file_begun prime;
-  next = o.next;
-}
-
 -- what is answered, as the machine does; for want of memory only where it looks further
 abbrev pub IsAnswer : {X : Type 0} → Result X CallError → Reply → Type 0
 IsAnswer (Ok x) reply = reply ≡ replies.Done
