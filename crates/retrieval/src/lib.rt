@@ -57,6 +57,7 @@ pub use body::get_words;
 pub use build::{prime_block, prime_block_for};
 pub use error::{BodyError, RetrievalError};
 pub use mode::Mode;
+pub use parse::is_prime_of;
 pub use prime::Prime;
 pub use put::put_words;
 pub use read::read_version;

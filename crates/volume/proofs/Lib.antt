@@ -99,3 +99,5 @@ pub mod MovingAcross
 pub mod MovingLaw
 pub mod MovingTransactions
 pub mod RunsRead
+pub mod PrimesRead
+pub mod HomesKept
