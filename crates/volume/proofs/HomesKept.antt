@@ -1,5 +1,5 @@
 -- Blocks 0 to 2 stay: no call writes them, and none puts them.
-use Rattle.std.proofs.Common.{◌≡◌, ◌⊎◌, ⊎_elim, inl, inr, ℕ, ◌<◌, ◌≤◌, List, refl, ◌∙◌, arith}
+use Rattle.std.proofs.Common.{◌≡◌, ◌⊎◌, ⊎_elim, inl, ℕ, ◌<◌, ◌≤◌, List, refl, sym, ◌∙◌, subst, arith}
 use Rattle.std.specs.List.{AllByRecursion}
 use Rattle.words36.specs.declared.names.FileName.{FileName}
 use Rattle.blockdisk.specs.Disk.{Contents, DiskState, MayLeave, Keeps, Near, Modifies, LeavesOnly}
@@ -51,6 +51,19 @@ homes_near In s s' out leaves = leaves_weaker s s' (Near In s) (HasHomesFrom s) 
 pub homes_modified : (In : ℕ → Type 0) (s s' : DiskState) → ((n : ℕ) → n ≤ 2 → In n → ⊥)
     → ((c : Contents) → s.left_since s.clock c → MayLeave s c) → Modifies In s s' → LeavesOnly s s' (HasHomesFrom s)
 homes_modified In s s' out only_now modified = homes_near In s s' out (modifies_near In s s' only_now modified)
+
+-- a commit after a read, and one after other writes
+pub homes_committed : (In : ℕ → Type 0) (s mid s' : DiskState) → ((n : ℕ) → n ≤ 2 → In n → ⊥)
+    → ((c : Contents) → s.left_since s.clock c → MayLeave s c) → Keeps s mid → LeavesOnly mid s' (Near In mid)
+    → LeavesOnly s s' (HasHomesFrom s)
+homes_committed In s mid s' out only_now keeps near = homes_on s mid s' (homes_read s mid only_now keeps)
+    (homes_near In mid s' out near)
+
+pub homes_written : (In Out : ℕ → Type 0) (s mid s' : DiskState) → ((n : ℕ) → n ≤ 2 → In n → ⊥)
+    → ((n : ℕ) → n ≤ 2 → Out n → ⊥) → ((c : Contents) → s.left_since s.clock c → MayLeave s c) → Modifies In s mid
+    → LeavesOnly mid s' (Near Out mid) → LeavesOnly s s' (HasHomesFrom s)
+homes_written In Out s mid s' out later only_now modified near =
+    homes_on s mid s' (homes_modified In s mid out only_now modified) (homes_near Out mid s' later near)
 
 pub homes_stay : (In : ℕ → Type 0) (s s' : DiskState) → ((n : ℕ) → n ≤ 2 → In n → ⊥) → Modifies In s s'
     → KeepsHomes s.contents s'.contents
@@ -109,3 +122,11 @@ moved_low size k k' ppn name to old v words puts whole is inside n low =
     moved_elsewhere size k k' ppn name to old v words puts whole is n
     (λ same. let from = inside.from in omega arith)
     (out_of_chain size k k' ppn name to old v words puts whole is n (inl (omega arith)))
+
+-- The block of a new directory is one of the free space.
+pub made_past : (size : ℕ) (k k' : Known) (ppn protection first : ℕ) (puts : List Put) (whole : IsWholeMap size k)
+    (made : IsMade size k k' ppn protection first puts) → (n : ℕ) → n ≤ 2
+    → (n ≡ first) ⊎ (IsGateOrLog size n ⊎ IsPutIn puts n) → ⊥
+made_past size k k' ppn protection first puts whole made n low = ⊎_elim
+    (λ same. space_past size n low (subst (InSpace size) (sym same) made.inside.0))
+    (past_homes size puts (made_low size k k' ppn protection first puts whole made) n low)

@@ -101,3 +101,4 @@ pub mod MovingTransactions
 pub mod RunsRead
 pub mod PrimesRead
 pub mod HomesKept
+pub mod PublishingHomes

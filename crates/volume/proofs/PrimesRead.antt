@@ -1,59 +1,22 @@
 -- The prime block of a file that gets another place is read: what it says.
-use Rattle.std.proofs.Common.{◌≡◌, ℕ, List, [], ◌∷◌, length, Some, refl, sym, ap, subst, ◌∙◌}
+use Rattle.std.proofs.Common.{◌≡◌, ℕ, false, List, [], ◌∷◌, Some, refl, sym, ap, subst, ◌∙◌}
 use Rattle.words36.specs.declared.names.FileName.{FileName}
 use Rattle.blockdisk.specs.Disk.{DiskState}
 use Rattle.meaning.specs.Blocks.{head_or_zero}
 use Rattle.meaning.specs.Directories.{IsFileEntry}
 use Rattle.meaning.specs.Faults.{IsMasterEntryOf}
-use Rattle.meaning.specs.Retrieval.{Prime, Run, Extension, prime_of, prime_block, extension_numbers, first_extension}
+use Rattle.meaning.specs.Retrieval.{Extension, prime_of, prime_block, extension_numbers, first_extension}
 use Rattle.meaning.specs.Retrieval.{IsPrime}
 use Rattle.meaning.specs.Stands.{place_of}
-use Rattle.retrieval.specs.Modes.{mode_number}
-use Rattle.retrieval.specs.PrimeWords.{IsPrimeOf}
-use Rattle.retrieval.specs.Primes.{with_length}
-use Rattle.retrieval.specs.Spelling.{SpellsPrime}
-use Rattle.retrieval.specs.declared.prime.Prime.{Prime as PrimeValue}
 use Rattle.volume.specs.Facts.{Facts}
 use Rattle.volume.specs.Known.{IsHeld, IsWholeDirectory}
 use Rattle.volume.specs.Live.{VolumeCore, as_known}
-use Rattle.volume.specs.Moving.{IsPrimeMoved}
 use Rattle.volume.specs.Pins.{IsKeyOf}
 use Rattle.volume.specs.PrimeBlocks.{file_prime, IsFilePrime}
 use Rattle.volume.specs.Rest.{IsAtRest, IsSoundCore}
-use Rattle.volume.specs.declared.live.LiveVersion.{LiveVersion}
 use Rattle.volume.proofs.FoundDirectories.{all_at}
 
--- What core says of the file's place, with its length.
-says : (v : LiveVersion) (prime : PrimeValue) (ppn : ℕ) (name : FileName)
-    → IsPrimeMoved v.prime prime ppn name v.prime.protection
-    → with_length prime v.version.words ≡ file_prime ppn name v
-says v prime ppn name is = λ i. record {
-  place = record { ppn = is.owner i; name = is.file i };
-  protection = is.protected i;
-  mode = mode_number (is.mode i);
-  time = (is.moment i).minute;
-  date = (is.moment i).date;
-  words = v.version.words;
-}
-
-pub prime_found : (words : List ℕ) (v : LiveVersion) (prime : PrimeValue) (ppn : ℕ) (name : FileName)
-    → IsPrimeMoved v.prime prime ppn name v.prime.protection → IsPrimeOf words prime v.version
-    → IsFilePrime words ppn name v
-prime_found words v prime ppn name is of = record {
-  runs = of.runs;
-  spells = subst (λ (p : Prime). SpellsPrime words p of.runs (head_or_zero v.version.ribs))
-      (says v prime ppn name is) of.spells;
-}
-
-pub prime_lost : (words : List ℕ) (v : LiveVersion) (prime : PrimeValue) (ppn : ℕ) (name : FileName)
-    → IsPrimeMoved v.prime prime ppn name v.prime.protection → IsFilePrime words ppn name v
-    → IsPrimeOf words prime v.version
-prime_lost words v prime ppn name is found = record {
-  runs = found.runs;
-  spells = subst (λ (p : Prime). SpellsPrime words p found.runs (head_or_zero v.version.ribs))
-      (sym (says v prime ppn name is)) found.spells;
-}
-
+-- the first of the extensions, or 0
 first_of : (further : List Extension) → first_extension further ≡ head_or_zero (extension_numbers further)
 first_of [] = refl
 first_of (extension ∷ further) = refl
@@ -96,7 +59,8 @@ prime_holds s c sound h ppn name key file =
           words_are = λ i. prime_block (said i) runs (next i);
           ppn_fits = master.ppn;
           ext_fits = entry.ext_fits;
-          fits = subst (IsPrime 1) said version.retrieved.fits;
+          fits = subst (λ (l : ℕ). IsPrime l (file_prime ppn name file.version)) held.known.layout
+              (subst (IsPrime rest.map.layout) said version.retrieved.fits);
           few = version.retrieved.few;
           are_runs = version.retrieved.are_runs;
         };

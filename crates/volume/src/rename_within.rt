@@ -173,7 +173,7 @@ pub(crate) fn read_prime<D: Disk>(
         Err(error) => return Err(error),
     };
     if !is_file_prime(versions, key, ppn, name, &words) {
-        return Err(CallError::Failed);
+        return Err(CallError::Failed); // only a broken promise of the disk explains it
     }
     Ok(words)
 }
