@@ -4,8 +4,6 @@ use Rattle.std.proofs.Common.{if◌then◌else◌, IsTrue, IsFalse, List, [], �
 use Rattle.std.proofs.Common.{Some, refl, sym, ap, subst, ◌∙◌}
 use Rattle.std.specs.Prelude.{Option, unwrap_or}
 use Rattle.std.specs.List.{AllByRecursion}
-use Rattle.meaning.specs.Plans.{asks_rename, deletes, protects, asks_make_dir, shows, begins}
-use Rattle.meaning.specs.Causes.{EndsSo, SaysSo}
 use Rattle.words36.specs.declared.moment.Moment.{Moment}
 use Rattle.meaning.specs.Texts.{Spoken, prints, printed, refuses}
 use Rattle.meaning.specs.Plans.{Plan, Ask, Show, Say, Act, Asks, Looks, Conducts, each, calls, ends, fails, ok}
@@ -14,10 +12,11 @@ use Rattle.meaning.specs.Plans.{lists, deposits, examines, fetches, takes_over, 
 use Rattle.meaning.specs.Plans.{same_words, block_address, file_words, blocks_said, blocks_at_once}
 use Rattle.meaning.specs.Plans.{copies_blocks, copies_last, copies_body, copies}
 use Rattle.meaning.specs.Plans.{types_runs, types_blocks, types_last, types_body, reads_file}
+use Rattle.meaning.specs.Plans.{asks_rename, deletes, protects, asks_make_dir, shows, begins}
 use Rattle.meaning.specs.Errands.{enters, creates, fills, announces, fills_parts, fills_all, parts_of, part_words}
 use Rattle.meaning.specs.Errands.{part_address, keeps, gets}
 use Rattle.meaning.specs.Causes.{is_done, is_word, is_wanted, GoesUntilRefused, SaysOk, ClosesAtEnd, PrintsAtEnd}
-use Rattle.meaning.specs.Causes.{IsAsWanted, IsRefusedAt}
+use Rattle.meaning.specs.Causes.{EndsSo, SaysSo, IsAsWanted, IsRefusedAt}
 use Rattle.meaning.specs.declared.command.Spec.{Spec}
 use Rattle.meaning.specs.declared.command.Command.{Command}
 use Rattle.meaning.specs.declared.command.Command.TheVariants.{Login as LoginLine, Directory as DirectoryLine}
