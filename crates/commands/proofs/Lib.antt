@@ -29,3 +29,6 @@ pub mod NameLaws
 pub mod StoppedLaws
 pub mod OnePack
 pub mod AtOnce
+pub mod DayLaws
+pub mod RefusalLaws
+pub mod DayRows
