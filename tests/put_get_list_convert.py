@@ -194,6 +194,7 @@ def lists(tries):
     tries.write("L.IMG", image_of())
     one = b"FOO    TXT     1  <057>   4-Jan-1975\nTotal 1 blocks in 1 files [10,20]\n"
     tries.expect(["list", "L.IMG", "10,20"], b"", [one], 0)
+    tries.expect(["list", "L.IMG", "[10,20]"], b"", [one], 0)
     tries.expect(["list", "L.IMG"], b"", [one], 0)
     tries.expect(["run", "L.IMG"], b"LOGIN [1,2]\nMAKDIR [11,5]<000>\nMAKDIR [1,7]\n", [b"Job 1 [1,2]\nOK\nOK\n"], 0)
     tries.expect(["list", "L.IMG"], b"", [b"No files [1,7]\n" + one + b"No files [11,5]\n"], 0)
@@ -209,6 +210,32 @@ def tabs(*fields):
 def dated(year, month, day):
     """The number of a date, as the disk has it."""
     return str(((year - 1964) * 12 + month - 1) * 31 + day - 1)
+
+
+def days(tries):
+    """A date is a number, or the text of a day as `list --tsv` or DIRECTORY prints it; a PPN may have brackets."""
+    put = ["put", "Y.IMG", "[10,20]", "DAY", "--date"]
+    months = "Jan Feb Mar Apr May Jun Jul Aug Sep Oct Nov Dec".split()
+    tries.write("Y.IMG", image_of())
+    foo = tabs("10,20", "FOO", "TXT", "057", "00", "1975-01-04", "00:00", "2", "1")
+    listed = [(1964, 1, 1), (1975, 1, 4), (1969, 7, 20), (1972, 2, 31), (1974, 12, 31)]
+    listed += [(1970, month + 1, 9 + month) for month in range(12)]
+    for year, month, day in listed:
+        iso, name = f"{year}-{month:02}-{day:02}", months[month - 1]
+        texts = [dated(year, month, day), "+" + dated(year, month, day), iso, f"{day}-{name}-{year}",
+                 f"{day:02}-{name.upper()}-{year}", f"{day}-{name.lower()}-{year}"]
+        for text in texts:
+            # The day before is put first, so that each text is seen to count.
+            tries.expect(put + ["0"], HELLO, [b"OK\n"], 0)
+            tries.expect(put + [text], HELLO, [b"OK\n"], 0)
+            seen = tabs("10,20", "DAY", "", "057", "00", iso, "00:00", "2", "1")
+            tries.expect(["list", "--tsv", "Y.IMG", "[10,20]"], b"", [seen + foo], 0)
+    tries.expect(["get", "Y.IMG", "[10,20]", "day", "--date", "4-Jan-1975"], b"", [HELLO], 0)
+    tries.expect(["run", "Y.IMG", "--date", "4-Jan-1975"], b"LOGIN [10,20]\nCOPY A=DAY\n",
+                 [b"Job 1 [10,20]\nOK\n"], 0)
+    tries.expect(["list", "Y.IMG", "10,20"], b"", [
+        b"A              1  <057>   4-Jan-1975\nDAY            1  <057>  20-Dec-1970\n"
+        b"FOO    TXT     1  <057>   4-Jan-1975\nTotal 3 blocks in 3 files [10,20]\n"], 0)
 
 
 def tables(tries):
@@ -326,7 +353,7 @@ def refusals(tries):
     tries.write("R.IMG", image_of())
     before = tries.read("R.IMG")
     for data in [b"\0", b"HELLO\x80", b"\xff" * 40000, b"A" * 40000 + b"\0"]:
-        tries.expect(put + ["FOO.TXT"], data, [b"?Not ASCII\n"], 1)
+        tries.expect(put + ["FOO.TXT"], data, [b"?Not ASCII\n"], 1, b"filser: standard input: byte ")
     for data in [b"\0" * 7, b"\0" * 1025, b"\0\0\0\x10\0\0\0\0", b"\0" * 8 + b"\x80" + b"\0" * 7]:
         tries.expect(put + ["FOO.TXT", "--words"], data, [b"?Bad words\n"], 1)
     tries.expect(put + ["FOO.TXT"], b"A" * 40000, [b"?No room\n"], 1)
@@ -342,7 +369,7 @@ def refusals(tries):
     tries.expect(["get", "R.IMG", "11,5", "FOO"], b"", [b"?No such directory\n"], 1)
     for name in ["", "TOOLONG", "FOO.TEXT", "FOO[10,20]", "F O", "*"]:
         tries.expect(put + [name], HELLO, [b""], 2)
-    for owner in ["0,20", "10", "10,8", "[10,20]", "1000000,1"]:
+    for owner in ["0,20", "10", "10,8", "[10,20", "[0,20]", "1000000,1"]:
         tries.expect(["get", "R.IMG", owner, "FOO.TXT"], b"", [b""], 2)
     tries.expect(["get", "NONE.IMG", "10,20", "FOO.TXT"], b"", [b"?Device fault\n"], 4)
     tries.expect(["check", "."], b"", [b"?Device fault\n"], 4)
@@ -369,7 +396,7 @@ def main():
         return 2
     with tempfile.TemporaryDirectory() as folder:
         tries = Tries(os.path.abspath(sys.argv[1]), folder)
-        for part in [check, row, lists, tables, back, converts, progress, refusals]:
+        for part in [check, row, lists, tables, days, back, converts, progress, refusals]:
             part(tries)
     print(f"put_get_list_convert: {tries.count - tries.failed} as they should be, {tries.failed} not")
     return 1 if tries.failed else 0

@@ -90,6 +90,13 @@ def tells(name, what):
     return f"filser: {name}: {what}\n".encode()
 
 
+def tells_lines(count, first):
+    """What is told of lines that were refused."""
+    if count == 1:
+        return tells("standard input", f"line {first} was refused")
+    return tells("standard input", f"{count} lines were refused, the first is line {first}")
+
+
 def as_another():
     """From now on this process is of somebody who may do with a file what all may."""
     if os.getuid() == 0:
@@ -298,6 +305,7 @@ def an_input_that_breaks_off(tries):
         far.sendall(b"LOGIN [10,20]\nFOO\nDIR")
         far.close()
         told = tells("standard input", "line 3: Connection reset by peer (os error 104)")
+        # The run has status 4, so it isn't told which line was refused.
         tries.expect([], None, JOB + b"?Command error\n", 4, told, stream=near)
 
 
@@ -305,7 +313,7 @@ def an_image_is_made(tries):
     """A new image has the bytes of a new volume, and is served."""
     tries.expect(["init", "V.IMG", "64"], b"", b"", 0)
     tries.same("V.IMG", image_of(FRESH))
-    tries.expect(["run", "V.IMG"], LOGIN + b"DIRECTORY\n", JOB + b"?No such directory\n", 1)
+    tries.expect(["run", "V.IMG"], LOGIN + b"DIRECTORY\n", JOB + b"?No such directory\n", 1, tells_lines(1, 2))
     tries.expect(["run", "V.IMG"], b"", b"", 0)
 
 
@@ -326,8 +334,8 @@ def an_image_is_served(tries):
     tries.write("V1.IMG", image)
     listing = JOB + b"FOO    TXT     1  <057>   4-Jan-1975\nTotal 1 blocks in 1 files [10,20]\n"
     tries.expect(["run", "V1.IMG"], LOGIN + b"DIRECTORY\n", listing, 0)
-    tries.expect(["run", "V1.IMG"], b"DIRECTORY\n", b"?Not logged in\n", 1)
-    tries.expect(["run", "V1.IMG"], b"LOGIN [0,20]\n", b"?Command error\n", 1)
+    tries.expect(["run", "V1.IMG"], b"DIRECTORY\n", b"?Not logged in\n", 1, tells_lines(1, 1))
+    tries.expect(["run", "V1.IMG"], b"LOGIN [0,20]\n", b"?Command error\n", 1, tells_lines(1, 1))
     dated = ["run", "V1.IMG", "--date", "4095", "--minute", "605"]
     tries.expect(dated, b"login [10,20]\ndirectory\n", listing, 0)
     tries.same("V1.IMG", image)
@@ -339,10 +347,83 @@ def a_script_is_served(tries):
     tries.write("V1.IMG", image)
     lines = b"1 LOGIN 10,20 1000\n1 DEP 200 17\n1 EXA 200"
     tries.expect(["calls", "V1.IMG"], lines, b"DONE\nDONE\nVALUE 000000000017\n", 0)
-    tries.expect(["calls", "V1.IMG"], b"1 RESET\n", b"NOJOB\n", 1)
-    tries.expect(["calls", "V1.IMG"], b"DIRECTORY\n", b"SYNTAX\n", 1)
-    tries.expect(["calls", "V1.IMG", "--date", "32767"], b"1 RESET\n", b"DATE\n", 1)
+    tries.expect(["calls", "V1.IMG"], b"1 RESET\n", b"NOJOB\n", 1, tells_lines(1, 1))
+    tries.expect(["calls", "V1.IMG"], b"DIRECTORY\n", b"SYNTAX\n", 1, tells_lines(1, 1))
+    late = b"filser: --date 32767: this volume has dates up to 4095 (4-Jan-1975)\n"
+    tries.expect(["calls", "V1.IMG", "--date", "32767"], b"1 RESET\n", b"DATE\n", 1, late + tells_lines(1, 1))
     tries.same("V1.IMG", image)
+
+
+def lines_that_are_refused(tries):
+    """How many lines were refused, and the number of the first: by the line feeds before it, so empty lines count."""
+    image = image_of(V1)
+    tries.write("V1.IMG", image)
+    error, job, absent = b"?Command error\n", JOB, b"?File not found\n"
+    for kind, lines, printed, told in [
+        ("run", b"", b"", b""),
+        ("run", LOGIN + b"\n\n", job, b""),
+        ("run", b"\n\r\nFOO\n" + LOGIN, error + job, tells_lines(1, 3)),
+        ("run", LOGIN + b"FOO\nFOO\n\nTYPE BAR", job + error * 2 + absent, tells_lines(3, 2)),
+        ("run", LOGIN + b"\n\nDELETE BAR", job + absent, tells_lines(1, 4)),
+        ("run", b"A" * 255 + b"\n" + b"A" * 256 + b"\n" + b"A" * 1000 + b"\n", error * 3, tells_lines(3, 1)),
+        ("run", LOGIN + b"\n" * 300 + b"FOO\n" * 300, job + error * 300, tells_lines(300, 302)),
+        ("calls", b"1 LOGIN 10,20 1000\n\n1 EXA 1000\n1 EXA 0", b"DONE\nADDRESS\nVALUE 000000000000\n",
+         tells_lines(1, 3)),
+        ("calls", b"1 EXA 0\n\nFOO\n1 EXA 0\n", b"NOJOB\nSYNTAX\nNOJOB\n", tells_lines(3, 1)),
+    ]:
+        tries.expect([kind, "V1.IMG"], lines, printed, 1 if told else 0, told)
+    # A file that begins like a refusal is none.
+    tries.expect(["put", "V1.IMG", "10,20", "Q"], b"?File not found\n", b"OK\n", 0)
+    tries.expect(["run", "V1.IMG"], LOGIN + b"TYPE Q\n", job + absent, 0)
+
+
+def inputs_that_are_no_file(tries):
+    """Why the input of `put` can't be a file: the first byte that isn't text, a length that isn't one of words, or the
+    first word that is too large. Bytes are decimal, and places are counted from 1."""
+    image = image_of(V1)
+    tries.write("V1.IMG", image)
+    put = ["put", "V1.IMG", "10,20", "BAR"]
+    hint = "isn't text (1 to 127); --words stores any words"
+    for data, byte, place in [
+        (b"\0", 0, 1),
+        (b"HELLO\x80\xff", 128, 6),
+        (b"HE\xc3\xa9", 195, 3),
+        (b"A" * 5000 + b"\0" + b"\xff", 0, 5001),
+        (b"\x7f" * 1024 + b"\xc8", 200, 1025),
+    ]:
+        told = tells("standard input", f"byte {byte} at {place} {hint}")
+        tries.expect(put, data, b"?Not ASCII\n", 1, told)
+    large, largest = b"\0\0\0\x10\0\0\0\0", b"\0\0\0\x0f\xff\xff\xff\xff"
+    for data, told in [
+        (b"\0" * 7, "7 bytes, which is no multiple of eight"),
+        (large + b"\0", "9 bytes, which is no multiple of eight"),
+        (large, "word 1 has bits above its 36"),
+        (largest * 700 + b"\x80" + b"\0" * 7 + large, "word 701 has bits above its 36"),
+    ]:
+        tries.expect(put + ["--words"], data, b"?Bad words\n", 1, tells("standard input", told))
+    tries.same("V1.IMG", image)
+    tries.expect(put + ["--words"], largest, b"OK\n", 0)
+    # Another refusal has no reason beside its text.
+    tries.expect(["put", "V1.IMG", "10,77", "BAR"], HELLO, b"?No such directory\n", 1)
+    tries.expect(["get", "V1.IMG", "10,20", "NONE"], b"", b"?File not found\n", 1)
+
+
+def dates_past_the_volume(tries):
+    """A date that no call takes is told before anything is served, and nothing changes."""
+    image = image_of(V1)
+    tries.write("V1.IMG", image)
+    for date, number in [("4096", 4096), ("1975-01-05", 4096), ("1-Feb-2052", 32767)]:
+        told = f"filser: --date {number}: this volume has dates up to 4095 (4-Jan-1975)\n".encode()
+        dated = ["--date", date]
+        refused = b"?Date out of range\n"
+        tries.expect(["put", "V1.IMG", "10,20", "BAR", *dated], HELLO, refused, 1, told)
+        tries.expect(["get", "V1.IMG", "10,20", "FOO.TXT", *dated], b"", refused, 1, told)
+        tries.expect(["run", "V1.IMG", *dated], LOGIN + b"TYPE FOO.TXT\n", JOB + refused, 1, told + tells_lines(1, 2))
+        tries.expect(["run", "V1.IMG", *dated], b"", b"", 0, told)
+    tries.same("V1.IMG", image)
+    # Of a file that is no volume nothing of the kind is told.
+    tries.write("V.IMG", b"")
+    tries.expect(["run", "V.IMG", "--date", "4096"], LOGIN, b"?Not a volume\n", 3)
 
 
 def spoiled_images(tries):
@@ -370,7 +451,7 @@ def a_fresh_volume(tries):
     """Without words the input is served on a new volume."""
     tries.expect([], LOGIN, JOB, 0)
     tries.expect([], b"", b"", 0)
-    tries.expect([], b"FOO\n", b"?Command error\n", 1)
+    tries.expect([], b"FOO\n", b"?Command error\n", 1, tells_lines(1, 1))
 
 
 def streams_that_are_missing(tries):
@@ -389,18 +470,38 @@ def arguments(tries):
     tries.expect_shown(["help"], b"Usage: filser ")
 
 
+def expect_argument(tries, words, argument, text):
+    """Words are refused, and it is told which argument is at fault, and what it should be."""
+    wanted = {
+        "PPN": "two octal numbers of 1 to 6 digits, neither of them zero, as 10,20 or [10,20]",
+        "NAME": "1 to 6 letters and digits, and at most 3 more after a full stop, as FOO.TXT",
+        "--date": "a day from 1964-01-01 to 2052-02-01, as 1975-01-04 or 4-Jan-1975, or its number",
+    }
+    tries.expect(words, b"", b"", 2, f"?Bad argument\nfilser: {argument} {text}: {wanted[argument]}\n".encode())
+    tries.judge(not os.listdir(tries.folder), f"{line_of(words)}: it made {os.listdir(tries.folder)}")
+
+
 def names_that_name_no_file(tries):
     """A directory or a file that no name stands for."""
-    for owner, name in [
-        ("0,20", "FOO"),
-        ("10", "FOO"),
-        ("[10,20]", "FOO"),
-        ("10,20", ".TXT"),
-        ("10,20", "FOO.TEXT"),
-        ("10,20", "TOOLONG"),
-        ("10,20", "FOO[10,20]"),
-    ]:
-        tries.expect_mistaken(["get", "V.IMG", owner, name], b"?Bad argument\n")
+    for owner in ["0,20", "20,0", "10", "10,", "10,x", "10,8", "10,20,30", "1000000,1", "[10,20", "10,20]", "[[10,20]]",
+                  "[]", "", " 10,20", "[10,20] ", "(10,20)"]:
+        expect_argument(tries, ["get", "V.IMG", owner, "FOO"], "PPN", owner)
+        expect_argument(tries, ["put", "V.IMG", owner, "TOOLONG"], "PPN", owner)
+        expect_argument(tries, ["list", "V.IMG", owner], "PPN", owner)
+    for name in [".TXT", "FOO.TEXT", "TOOLONG", "FOO[10,20]", "longname008.text", "", "F O", "*", "A.B.C"]:
+        expect_argument(tries, ["get", "V.IMG", "10,20", name], "NAME", name)
+        expect_argument(tries, ["put", "V.IMG", "[10,20]", name, "--date", "4-Foo-1975"], "NAME", name)
+
+
+def texts_that_name_no_day(tries):
+    """Dates that are neither a number nor a day of the calendar, whose months have 31 days each."""
+    for text in ["1963-12-31", "2052-02-02", "2053-01-01", "1975-13-01", "1975-00-10", "1975-01-00", "1975-01-32",
+                 "1975-1-04", "1975-01-4", "75-01-04", "01975-01-04", "1975-01-04-", "1975-01", "1975/01/04",
+                 "4-Foo-1975", "4-January-1975", "32-Jan-1975", "0-Jan-1975", "004-Jan-1975", "4-Jan-75", "4-1-1975",
+                 "Jan-4-1975", "31-Dec-1963", "2-Feb-2052", "", "x", "0x10", "4095 ", "1975-01-0:", "197/-01-04"]:
+        for words in [["run", "V.IMG"], ["calls", "V.IMG"], ["put", "V.IMG", "10,20", "FOO"],
+                      ["get", "V.IMG", "10,20", "FOO"]]:
+            expect_argument(tries, [*words, "--date", text], "--date", text)
 
 
 def numbers_out_of_range(tries):
@@ -409,8 +510,10 @@ def numbers_out_of_range(tries):
         (["init", "V.IMG"], "63", "<BLOCKS>"),
         (["init", "V.IMG"], "131073", "<BLOCKS>"),
         (["init", "V.IMG"], "0x40", "<BLOCKS>"),
-        (["run", "V.IMG", "--date"], "32768", "--date <N>"),
-        (["calls", "V.IMG", "--date"], "32768", "--date <N>"),
+        (["run", "V.IMG", "--date"], "32768", "--date <DATE>"),
+        (["calls", "V.IMG", "--date"], "32768", "--date <DATE>"),
+        (["put", "V.IMG", "10,20", "FOO", "--date"], "99999999999999999999", "--date <DATE>"),
+        (["get", "V.IMG", "10,20", "FOO", "--date"], "4294967296", "--date <DATE>"),
         (["run", "V.IMG", "--minute"], "1440", "--minute <N>"),
         (["calls", "V.IMG", "--minute"], "1440", "--minute <N>"),
     ]:
@@ -448,12 +551,16 @@ CASES = [
     names_where_no_image_is_made,
     an_image_is_served,
     a_script_is_served,
+    lines_that_are_refused,
+    inputs_that_are_no_file,
+    dates_past_the_volume,
     spoiled_images,
     files_that_are_no_images,
     a_fresh_volume,
     streams_that_are_missing,
     arguments,
     names_that_name_no_file,
+    texts_that_name_no_day,
     numbers_out_of_range,
     words_that_no_command_takes,
     help_and_version,

@@ -8,3 +8,4 @@ pub mod Reading
 pub mod Changes
 pub mod Reached
 pub mod TableLaws
+pub mod Inside

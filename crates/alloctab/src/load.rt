@@ -2,6 +2,7 @@ ghost use Rattle.std.specs.Prelude.{◌≡◌, ◌<◌, ◌*◌, ℕ, OnOk, IsEr
 ghost use Rattle.blockdisk.specs.Disk.{SameDisk, one_more};
 ghost use Rattle.changeset.specs.Reads.{OnlyReads};
 ghost use Rattle.meaning.specs.Regions.{IsVolumeSize, table_blocks};
+ghost use Rattle.alloctab.specs.Inside.{InTable};
 ghost use Rattle.alloctab.specs.Words.{word_bit, IsClearFrom};
 ghost use Rattle.alloctab.specs.Reading.{IsTableOf, IsBadTableBlock, ReadsBits};
 ghost use Rattle.alloctab.specs.declared.error.TableError.TheVariants.{TableWrong, NoMemory, Device};
@@ -21,6 +22,7 @@ fn read_bits<D: Disk>(disk: &mut D, i: u32, set: &mut [Word]) -> Result<(), Tabl
         → OnOk result (ReadsBits (D.state disk.old).size (D.state disk.old).contents i set.old set.new) }
     ensures wrong { (D.state disk.new).honest → (n : ℕ) → IsErrOf result (TableWrong n)
         → IsBadTableBlock (D.state disk.old).size (D.state disk.old).contents n }
+    ensures named { (n : ℕ) → IsErrOf result (TableWrong n) → InTable (D.state disk.old).size n }
     ensures long { length set.new ≡ length set.old }
     ensures past { IsClearFrom (D.state disk.old).size set.old → IsClearFrom (D.state disk.old).size set.new }
     ensures reads { (D.state disk.new).honest → OnlyReads (D.state disk.old) (D.state disk.new) }
@@ -51,6 +53,7 @@ pub fn read_table<D: Disk>(disk: &mut D, set: &mut [Word]) -> Result<(), TableEr
         → OnOk result (IsTableOf (D.state disk.old).size (D.state disk.old).contents (word_bit set.new)) }
     ensures wrong { (D.state disk.new).honest → (n : ℕ) → IsErrOf result (TableWrong n)
         → IsBadTableBlock (D.state disk.old).size (D.state disk.old).contents n }
+    ensures named { (n : ℕ) → IsErrOf result (TableWrong n) → InTable (D.state disk.old).size n }
     ensures long { length set.new ≡ length set.old }
     ensures past { IsClearFrom (D.state disk.old).size set.old → IsClearFrom (D.state disk.old).size set.new }
     ensures reads { (D.state disk.new).honest → OnlyReads (D.state disk.old) (D.state disk.new) }

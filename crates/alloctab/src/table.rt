@@ -13,6 +13,7 @@ ghost use Rattle.alloctab.specs.Lists.{digit};
 ghost use Rattle.alloctab.specs.TableBlocks.{table_words};
 ghost use Rattle.alloctab.specs.Reading.{IsTableOf, IsBadTableBlock};
 ghost use Rattle.alloctab.specs.Changes.{IsChangedBlock, SpellsTable};
+ghost use Rattle.alloctab.specs.Inside.{InTable};
 ghost use Rattle.alloctab.specs.Reached.{IsWrongBlock, wanted_bit};
 ghost use Rattle.alloctab.specs.declared.error.TableError.TheVariants.{TableWrong, NoMemory, Device};
 
@@ -82,6 +83,8 @@ impl Table {
         // Which refusal comes when, and what the disk is then.
         ensures wrong { (D.state disk.new).honest → (n : ℕ) → IsErrOf result (TableWrong n)
             → IsBadTableBlock (D.state disk.old).size (D.state disk.old).contents n }
+        // On every disk it names a block of the table.
+        ensures named { (n : ℕ) → IsErrOf result (TableWrong n) → InTable (D.state disk.old).size n }
 
         ensures reads { (D.state disk.new).honest → OnlyReads (D.state disk.old) (D.state disk.new) }
         ensures same { SameDisk (D.state disk.old) (D.state disk.new) }

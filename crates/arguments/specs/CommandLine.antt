@@ -21,6 +21,14 @@ optional id most = record (new_rule id) {
   parser = Some (vp.Signed (pos 0) (pos most));
 }
 
+-- a date, which is a text here, since it may be the text of a day; it may be left out, and is 0 then
+abbrev pub date_rule : Rule
+date_rule = record (new_rule (codes "date")) {
+  long = Some (codes "date");
+  value_names = 1;
+  defaults = codes "0" ∷ [];
+}
+
 -- an image's form, 1 or 2, which may be left out, and is 1 then
 abbrev pub form_rule : Rule
 form_rule = record (new_rule (codes "form")) {
@@ -43,7 +51,7 @@ init_app = formed (sized (with_rule (new_app (codes "init")) (wanted (codes "IMA
 
 -- with the date and the minute of what is written
 unfoldable pub dated : App → App
-dated app = with_rule (with_rule app (optional (codes "date") 32767)) (optional (codes "minute") 1439)
+dated app = with_rule (with_rule app date_rule) (optional (codes "minute") 1439)
 
 unfoldable pub run_app : App
 run_app = formed (dated (with_rule (new_app (codes "run")) (wanted (codes "IMAGE"))))

@@ -2,7 +2,8 @@
 ghost use Rattle.std.specs.Prelude.{◌≡◌, IfOk, codes, false};
 ghost use Rattle.clap.specs.Words.{app_of, new_rule, rule_of, with_rule};
 ghost use Rattle.clap.specs.declared.builder.command.Command.TheViews.{out-Command as fields_of};
-ghost use Rattle.arguments.specs.CommandLine.{dated, filed, flag, form_rule, formed, numbered, optional, sized, wanted};
+ghost use Rattle.arguments.specs.CommandLine.{date_rule, dated, filed, flag, form_rule, formed, numbered, optional};
+ghost use Rattle.arguments.specs.CommandLine.{sized, wanted};
 
 use clap::{Arg, ArgAction, Command};
 use std::alloc::{AllocError, Global};
@@ -26,16 +27,16 @@ fn blocks<'a>(alloc: Global) -> Arg<'a>
         .value_parser(clap::value_parser!(u32).range(64..=131072))
 }
 
+/// The date, as a number or as the text of a day.
 fn date<'a>(alloc: Global) -> Arg<'a>
-    ensures rule { rule_of result ≡ optional (codes "date") 32767 }
+    ensures rule { rule_of result ≡ date_rule }
     ensures local { result.global ≡ false }
 {
     Arg::new(alloc, "date")
         .long("date")
-        .value_name("N")
-        .help("Date of the files that are written, 0 to 32767")
+        .value_name("DATE")
+        .help("Date of the files that are written: 0 to 32767, 1975-01-04 or 4-Jan-1975")
         .default_value("0")
-        .value_parser(clap::value_parser!(u32).range(0..=32767))
 }
 
 fn minute<'a>(alloc: Global) -> Arg<'a>
@@ -137,7 +138,7 @@ pub(crate) fn filed<'a>(alloc: Global, command: Command<'a>) -> Result<Command<'
     ensures local { IfOk result (λ c. (fields_of c).has_globals ≡ (fields_of command.entry).has_globals) }
 {
     let command = with_argument(command, wanted(alloc, "IMAGE", "The image file"))?;
-    let owner = wanted(alloc, "PPN", "The directory, in octal, as 10,20");
+    let owner = wanted(alloc, "PPN", "The directory, in octal, as 10,20 or [10,20]");
     let command = with_argument(command, owner)?;
     let command = with_argument(command, wanted(alloc, "NAME", "The file, as FOO.TXT"))?;
     with_argument(command, words(alloc))
@@ -159,5 +160,5 @@ pub(crate) fn place<'a>(alloc: Global) -> Arg<'a>
     ensures rule { rule_of result ≡ new_rule (codes "PPN") }
     ensures local { result.global ≡ false }
 {
-    Arg::new(alloc, "PPN").help("The directory, in octal, as 10,20 [default: all]")
+    Arg::new(alloc, "PPN").help("The directory, in octal, as 10,20 or [10,20] [default: all]")
 }

@@ -22,11 +22,12 @@ Without a command, filser serves a session on a new volume of 64 blocks in
 memory, at date 0 and minute 0. The volume is gone at the end.
 
 Options of run, calls, put and get:
-  --date N    date of the files that are written, 0 to 32767 [default: 0]
-  --minute N  minute of that day, 0 to 1439 [default: 0]
+  --date DATE  date of the files that are written: a number from 0 to 32767,
+               1975-01-04 or 4-Jan-1975 [default: 0]
+  --minute N   minute of that day, 0 to 1439 [default: 0]
 Option of every command:
-  --form N    form of IMAGE: 1 has eight bytes to a word, 2 has nine bytes to
-              two words [default: 1]
+  --form N     form of IMAGE: 1 has eight bytes to a word, 2 has nine bytes to
+               two words [default: 1]
 
 Exit status, the highest that applies:
   0  everything was done

@@ -1,5 +1,5 @@
-use crate::service::{Language, printed};
-use commands::{Tally, refusal};
+use crate::service::{Language, counted, printed};
+use commands::refusal;
 use meaning::Reply;
 use std::alloc::Global;
 use std::process::Abort;
@@ -48,17 +48,17 @@ fn long_lines(rt: HostRuntime) -> Result<(), Fail> {
     Ok(())
 }
 
-/// These lines print so, and are counted so: whether one was refused, and whether one met a fault.
+/// These lines print so, and are counted so: how many were refused, which is the first, and whether one met a fault.
 fn expect_counted(
     rt: &impl Abort,
     alloc: Global,
     (calls, language): (usize, Language),
     (lines, text): (&[u8], &[u8]),
-    (refused, broke): (bool, bool),
+    (count, first, broke): (u64, u64, bool),
 ) -> Result<(), Fail> {
     let (found, tally) = printed(rt, alloc, calls, language, lines)?;
     assert!(rt; found.as_slice() == text, "{found:?}");
-    assert!(rt; tally == Tally { refused, broke });
+    assert!(rt; tally == counted(count, first, broke));
     Ok(())
 }
 
@@ -71,42 +71,42 @@ fn tallies(rt: HostRuntime) -> Result<(), Fail> {
             Language::Session,
             b"LOGIN [10,20]\nTYPE FOO.TXT\n".as_slice(),
             b"Job 1 [10,20]\nHELLO\r\n".as_slice(),
-            (false, false),
+            (0, 0, false),
         ),
         (
             64,
             Language::Session,
             b"LOGIN [10,20]\nTYPE FOO\nDIR",
             b"Job 1 [10,20]\n?File not found\n?Command error\n",
-            (true, false),
+            (2, 2, false),
         ),
         (
             1,
             Language::Session,
             b"LOGIN [10,20]\nDELETE FOO.TXT\nDIRECTORY\n",
             b"Job 1 [10,20]\n?Device fault\n?Service stopped\n",
-            (true, true),
+            (2, 2, true),
         ),
         (
             64,
             Language::Script,
             b"1 login 10,20 1000\r\n\n1 DEP 200 17\n1 EXA 200",
             b"DONE\nDONE\nVALUE 000000000017\n",
-            (false, false),
+            (0, 0, false),
         ),
         (
             64,
             Language::Script,
             b"1 RESET\n",
             b"NOJOB\n",
-            (true, false),
+            (1, 1, false),
         ),
         (
             1,
             Language::Script,
             b"1 LOGIN 1,2 1000\n1 DEP 300 000011000005\n1 MAKDIR 300\n1 RESET\n",
             b"DONE\nDONE\nDEVICE\nFAILED\n",
-            (true, true),
+            (2, 3, true),
         ),
     ] {
         expect_counted(&rt, rt.alloc(), (calls, language), (lines, text), tally)?;

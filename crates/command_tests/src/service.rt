@@ -1,5 +1,5 @@
 use blockdisk::{Disk, MemDisk, NoMemory};
-use commands::{Monitor, SessionError, Tally, script, session};
+use commands::{Monitor, Reason, RefusedLines, SessionError, Tally, script, session};
 use std::alloc::Global;
 use std::io::{Read, Write};
 use std::process::Abort;
@@ -116,3 +116,17 @@ pub fn printed(
 
 /// Lets a monitor go. A function that owns one to its end would prove that at each way out.
 pub fn drop_monitor(_monitor: Monitor<MemDisk>) {}
+
+/// The tally of a number of refused lines, the first of which has this number, and of whether a line met a fault.
+pub fn counted(count: u64, first: u64, broke: bool) -> Tally {
+    let lines = RefusedLines { count, first };
+    Tally {
+        refused: count > 0,
+        broke,
+        reason: if count > 0 {
+            Some(Reason::Lines(lines))
+        } else {
+            None
+        },
+    }
+}

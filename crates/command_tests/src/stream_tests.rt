@@ -1,4 +1,4 @@
-use crate::service::{Language, drop_monitor, serve, started};
+use crate::service::{Language, counted, drop_monitor, serve, started};
 use commands::{SessionError, Tally};
 use std::alloc::Global;
 use std::io::{self, ErrorKind, Read, Write};
@@ -104,10 +104,7 @@ const ORDERS: &[u8] = b"1 LOGIN 10,20 1000\n1 RESET\n1 EXA 0";
 /// The same is printed whatever pieces are read and written.
 #[test]
 fn small_pieces(rt: HostRuntime) -> Result<(), Fail> {
-    let tally = Tally {
-        refused: true,
-        broke: false,
-    };
+    let tally = counted(1, 3, false);
     for size in [1, 2, 7, 13, 300] {
         let stream = Stream { size, ..ENDLESS };
         let lines = (Language::Session, LINES);

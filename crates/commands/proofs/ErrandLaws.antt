@@ -16,12 +16,14 @@ use Rattle.meaning.specs.declared.call.Reply.{Reply}
 use Rattle.meaning.specs.declared.call.Reply.TheVariants.{NoMemory as NoMemoryReply, Failed}
 use Rattle.meaning.specs.declared.encoding.Encoding.{Encoding}
 use Rattle.commands.specs.Asking.{Led, Concludes}
-use Rattle.commands.specs.Errands.{fresh, Carries, Errand, IsUnread, Delivery, Checked}
+use Rattle.commands.specs.Errands.{fresh, Carries, Errand, IsUnread, Delivery, Checked, TellsMisfit}
 use Rattle.commands.specs.Machines.{Machine, AlwaysStands}
+use Rattle.commands.specs.Reasons.{HasWords, words_said}
 use Rattle.commands.specs.Sessions.{WritesText}
 use Rattle.commands.specs.Streams.{spoken}
 use Rattle.commands.specs.declared.answer.Tally.{Tally}
 use Rattle.commands.specs.declared.error.SessionError.{SessionError}
+use Rattle.commands.specs.declared.reason.Misfit.{Misfit}
 use Rattle.commands.specs.declared.error.SessionError.TheVariants.{Read, NoMemory}
 use Rattle.commands.proofs.GoingLaws.{goes_nowhere}
 use Rattle.commands.proofs.LedLaws.{led_on, led_still}
@@ -138,9 +140,9 @@ module _ {S : Type 0} (machine : S → Machine) (source left sink full : Option 
     (plan : Option (List ℕ) → Plan) where
   pub delivered : (result : Result Tally SessionError) (read : List ℕ) (words : Option (List ℕ))
       → Consumes source left read → IsAtEnd left → AreWords encoding read words
-      → Errand sink full machine a b (plan words) result
+      → Errand sink full machine a b (plan words) result → TellsMisfit encoding read result
       → Delivery source left sink full machine a b encoding plan result
-  delivered result read words consumed ended are p = record {
+  delivered result read words consumed ended are p tells = record {
     read = read;
     written = p.written;
     acts = p.acts;
@@ -148,7 +150,19 @@ module _ {S : Type 0} (machine : S → Machine) (source left sink full : Option 
     appended = p.appended;
     goes = p.goes;
     delivers = inl (ended, words, are, p.performs);
+    tells = tells;
   }
+
+-- what an input has that says words, or none
+pub words_are : {V : Type 0} (items : V → List ℕ) (encoding : Encoding) (bytes : List ℕ) (words : Result V Misfit)
+    → HasWords items encoding bytes words → AreWords encoding bytes (words_said items words)
+words_are items encoding bytes (Ok words) has = has
+words_are items encoding bytes (Err misfit) has = has.0
+
+tells_nothing : (encoding : Encoding) (read : List ℕ) (result : Result Tally SessionError) → IsUnread result
+    → TellsMisfit encoding read result
+tells_nothing encoding read (Ok tally) unread = absurd unread
+tells_nothing encoding read (Err error) unread = tt
 
 pub undelivered : {S : Type 0} (machine : S → Machine) (stands : AlwaysStands machine)
     (source left sink : Option (List ℕ)) (a : S) (encoding : Encoding) (plan : Option (List ℕ) → Plan)
@@ -162,6 +176,7 @@ undelivered machine stands source left sink a encoding plan result read consumed
   appended = Appends-nil sink;
   goes = goes_nowhere machine stands a;
   delivers = inr (unread, refl, refl);
+  tells = tells_nothing encoding read result unread;
 }
 
 pub unread_by : (error : SessionError) → (error ≡ Read) ⊎ (error ≡ NoMemory) → IsUnread (Err error)

@@ -28,3 +28,6 @@ pub mod WordLaws
 pub mod NameLaws
 pub mod StoppedLaws
 pub mod AtOnce
+pub mod DayLaws
+pub mod RefusalLaws
+pub mod DayRows

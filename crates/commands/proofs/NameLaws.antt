@@ -1,12 +1,12 @@
 -- Names of files, in the case in which they are given.
 use Rattle.std.proofs.Common.{◌≡◌, ℕ, ◌+◌, ◌<◌, ◌≤◌, nat_lt, if◌then◌else◌, Bool, true, false, List, [], ◌∷◌, length}
-use Rattle.std.proofs.Common.{map}
+use Rattle.std.proofs.Common.{map, Option, Some, None, IfNone, inl, inr}
 use Rattle.std.proofs.Common.{refl, ◌∙◌, ap, arith}
 use Rattle.std.proofs.lemmas.List.{length-map, length-append}
 use Rattle.std.proofs.lemmas.Bool.Decides.{nat_tests}
 use Rattle.meaning.specs.Lines.{Line, Bytes, TooLong, fitting, line_of, upper}
-use Rattle.meaning.specs.Spellings.{IsExtension}
-use Rattle.commands.specs.Files.{IsFileName}
+use Rattle.meaning.specs.Spellings.{IsExtension, IsPair, IsBracketed}
+use Rattle.commands.specs.Files.{IsFileName, IsOwnerName}
 
 bytes_in : Line → List ℕ → List ℕ
 bytes_in (Bytes text) other = text
@@ -76,3 +76,12 @@ unfolding is_long
 no_long_name text e name ext is =
     let q = named_fits text name ext is in
     let wrong : true ≡ false = ap is_long (e ∙ q.1) in cc
+
+-- no owner, with brackets or without
+pub no_owner : (found : Option ℕ) (text : List ℕ) → ((owner : ℕ) → IsPair 6 text owner → ⊥)
+    → IfNone found ((owner : ℕ) → IsBracketed text owner → ⊥) → IfNone found ((owner : ℕ) → IsOwnerName text owner → ⊥)
+no_owner (Some p) text plain bracketed = tt
+no_owner None text plain bracketed = λ owner named. elim named [
+  | inl p ↦ plain owner p
+  | inr b ↦ bracketed owner b
+]

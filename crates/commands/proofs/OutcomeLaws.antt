@@ -1,46 +1,74 @@
 -- What the errands of job 1 come to.
-use Rattle.std.proofs.Common.{◌≡◌, ◌⊎◌, inl, inr, ⊎_elim, ◌<◌, ℕ, true, List, [], ◌∷◌, length, Option, Some, None, Ok}
-use Rattle.std.proofs.Common.{refl}
-use Rattle.std.proofs.Common.{sym, ap, subst}
-use Rattle.std.specs.Io.KnownBytes.{Appends, Consumes, IsAtEnd}
+use Rattle.std.proofs.Common.{◌≡◌, ◌⊎◌, inl, inr, ⊎_elim, ◌<◌, ℕ, true, false, List, [], ◌∷◌, length, Option, Some}
+use Rattle.std.proofs.Common.{None, refl}
+use Rattle.std.proofs.Common.{sym, ap, subst, ◌∙◌}
 use Rattle.words36.specs.declared.moment.Moment.{Moment}
-use Rattle.meaning.specs.Copies.{AreShort, HasFiles, IsPut, IsLineRefused, IsPrinted, HasHalfwordExtension}
+use Rattle.meaning.specs.Copies.{AreShort, HasFiles, IsLineRefused, IsPrinted, HasHalfwordExtension}
+use Rattle.meaning.specs.Causes.{IsRefusedAt}
 use Rattle.meaning.specs.Errands.{AreWords, gets, keeps, unfit}
+use Rattle.meaning.specs.Files.{Files}
 use Rattle.meaning.specs.Jobs.{State}
-use Rattle.meaning.specs.Plans.{Act, Say, Conducts}
+use Rattle.meaning.specs.Plans.{Act, Say, Conducts, ok}
+use Rattle.meaning.specs.Published.{Version}
 use Rattle.meaning.specs.Room.{Pack}
 use Rattle.meaning.specs.Runs.{Service, Serving}
-use Rattle.meaning.specs.Texts.{Spoken, complains}
+use Rattle.meaning.specs.Texts.{Spoken, complains, prints, printed}
 use Rattle.meaning.specs.Transcripts.{Went}
 use Rattle.meaning.specs.declared.command.Spec.{Spec}
 use Rattle.meaning.specs.declared.encoding.Encoding.{Encoding}
+use Rattle.meaning.proofs.CauseLaws.{put_refusals, get_refusals}
 use Rattle.meaning.proofs.ErrandRuns.{puts_are_exact, gets_are_exact}
-use Rattle.commands.specs.Errands.{Delivery, Errand}
-use Rattle.commands.specs.Machines.{Machine, ActsBy}
+use Rattle.commands.specs.Machines.{Machine}
 use Rattle.commands.specs.Outcomes.{IsStored, DeliveriesKeepFiles, ErrandsShowFiles}
 use Rattle.commands.specs.Streams.{spoken}
-use Rattle.commands.specs.declared.answer.Tally.{Tally}
 use Rattle.commands.proofs.GoingLaws.{acts_went}
 
 -- nothing is asked where the input is no file's
 complained : (pack : Pack) (s : State) (acts : List Act) (text : List ℕ) (said : Spoken) (last : Service)
-    → Conducts (Say (complains text)) acts said → Went pack (Serving s) acts last → IsLineRefused s.files said last
+    → Conducts (Say (complains text)) acts said → Went pack (Serving s) acts last
+    → IsLineRefused s.files said last × (said ≡ complains text)
 complained pack s [] text said last led went =
     let e : said ≡ complains text = let f = led in cc in
     let flag : said.refused ≡ true = ap (λ (x : Spoken). x.refused) e in
-    (flag, subst (HasFiles s.files) (sym went) refl)
+    ((flag, subst (HasFiles s.files) (sym went) refl), e)
 complained pack s (act ∷ acts) text said last led went = absurd led
+
+-- what isn't refused is no refusal
+not_refused : (files : Files Version) (said other : Spoken) (last : Service) → IsLineRefused files said last
+    → said ≡ other → other.refused ≡ false → ⊥
+not_refused files said other last refused e is =
+    let wrong : true ≡ false = sym refused.0 ∙ ap (λ (x : Spoken). x.refused) e ∙ is in cc
 
 delivered : (pack : Pack) (s : State) (moment : Moment) (me : ℕ) (encoding : Encoding) (spec : Spec) (read : List ℕ)
     (words : Option (List ℕ)) (acts : List Act) (said : Spoken) (last : Service) → 1 < length s.jobs
     → HasHalfwordExtension spec
     → AreWords encoding read words → Conducts (keeps moment me encoding spec words) acts said
-    → Went pack (Serving s) acts last → IsStored moment me s encoding spec read said last
+    → Went pack (Serving s) acts last → IsStored moment me s encoding spec read acts said last
 delivered pack s moment me encoding spec read None acts said last there few are led went =
-    inr (complained pack s acts (unfit encoding) said last led went)
+    let c = complained pack s acts (unfit encoding) said last led went in
+    inr (c.0, inl (are, c.1))
 delivered pack s moment me encoding spec read (Some words) acts said last there few are led went = ⊎_elim
-    (λ put. inl (words, are, put)) inr
+    (λ put. inl (words, are, put))
+    (λ refused. inr (
+      refused,
+      ⊎_elim (λ is. absurd (not_refused s.files said ok last refused is refl)) inr
+          (put_refusals moment me encoding spec words acts said led),
+    ))
     (puts_are_exact pack moment me s encoding spec words said last there few (acts, led, went))
+
+-- the same of a file that is got
+got : (pack : Pack) (s : State) (moment : Moment) (me : ℕ) (encoding : Encoding) (spec : Spec) (acts : List Act)
+    (said : Spoken) (last : Service) → 1 < length s.jobs → HasHalfwordExtension spec → AreShort s.files
+    → Conducts (gets moment me encoding spec) acts said → Went pack (Serving s) acts last
+    → IsPrinted me s encoding spec said last ⊎ (IsLineRefused s.files said last × IsRefusedAt moment acts said)
+got pack s moment me encoding spec acts said last there few short led went = ⊎_elim inl
+    (λ refused. inr (
+      refused,
+      ⊎_elim
+          (λ (words, is). absurd (not_refused s.files said (prints (printed encoding words)) last refused is refl)) (λ r. r)
+          (get_refusals moment me encoding spec acts said led),
+    ))
+    (gets_are_exact pack moment me s encoding spec said last there few short (acts, led, went))
 
 module _ {S : Type 0} (machine : S → Machine) where
   pub deliveries_keep_files : DeliveriesKeepFiles machine
@@ -69,6 +97,6 @@ module _ {S : Type 0} (machine : S → Machine) where
         e.appended,
         end.0,
         end.1,
-        gets_are_exact (machine old).pack moment me s encoding spec
-            (spoken e.written tally) end.0 there few short (e.acts, e.performs, went),
+        got (machine old).pack s moment me encoding spec e.acts
+            (spoken e.written tally) end.0 there few short e.performs went,
       )

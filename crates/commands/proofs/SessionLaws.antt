@@ -11,6 +11,7 @@ use Rattle.meaning.specs.Room.{Pack}
 use Rattle.meaning.specs.Runs.{Service, Answers}
 use Rattle.meaning.specs.declared.call.Call.TheVariants.{Reset}
 use Rattle.commands.specs.PartialLines.{IsPartialLine}
+use Rattle.commands.specs.Errands.{fresh}
 use Rattle.commands.specs.Machines.{Machine, AlwaysStands, GoesBy}
 use Rattle.commands.specs.Streams.{IsServedTranscript, IsServedSession, IsServedScript, spoken, Finished, Unfinished}
 use Rattle.commands.specs.Sessions.{SoFar, StepsOn, BreaksOff, EndsWell, Ends, Talked, Session, Script}
@@ -36,9 +37,9 @@ pub record Streams {S : Type 0} (language : Language) (source left sink full : O
 
 pub stream_starts : {S : Type 0} (language : Language) (machine : S
     → Machine) (stands : AlwaysStands machine) (source sink : Option (List ℕ)) (m : S) (moment : Moment) (talk : Talk)
-    → IsPartialLine talk.held [] → talk.who ≡ None → talk.tally.refused ≡ false → talk.tally.broke ≡ false
+    → IsPartialLine talk.held [] → talk.line ≡ 1 → talk.who ≡ None → talk.tally ≡ fresh
     → Streams language source source sink sink machine m m moment talk
-stream_starts language machine stands source sink m moment talk held who refused broke = record {
+stream_starts language machine stands source sink m moment talk held line who tally = record {
   read = [];
   written = [];
   acts = [];
@@ -52,7 +53,11 @@ stream_starts language machine stands source sink m moment talk held who refused
     ended = inl refl;
     unended = tt;
     held = held;
-    transcript = (refl, (λ i. record { text = []; refused = refused i; broke = broke i }), who);
+    line = line;
+    transcript = (refl, ap (spoken []) tally, who);
+    refused = [];
+    refuses = (refl, ap (spoken []) tally, who, refl);
+    reason = ap (λ (t : Tally). t.reason) tally;
   };
 }
 

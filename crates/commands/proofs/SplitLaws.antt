@@ -4,7 +4,7 @@ use Rattle.std.proofs.Common.{subst, append_assoc, append-nil, inl, inr}
 use Rattle.meaning.specs.Lines.{Line, without_return, fitting, lines_after, lines}
 use Rattle.commands.specs.Streams.{HasNoFeed, AreWholeLines}
 
-unless : {X : Type 0} (t : Bool) (x y : X) → not t ≡ true → cond t x y ≡ y
+pub unless : {X : Type 0} (t : Bool) (x y : X) → not t ≡ true → cond t x y ≡ y
 unless true x y e = cc
 unless false x y e = refl
 

@@ -1,7 +1,7 @@
 -- The steps of a session: a byte, a piece, the end.
-use Rattle.std.proofs.Common.{◌≡◌, ◌≢◌, ℕ, ◌+◌, ◌<◌, ◌≤◌, List, [], ◌∷◌, ◌++◌, length, take, drop, get_or, refl, sym}
+use Rattle.std.proofs.Common.{◌≡◌, ◌≢◌, ℕ, ◌+◌, ◌-◌, ◌^◌, ◌<◌, ◌≤◌, ◌||◌, min, List, [], ◌∷◌, ◌++◌, length, take, drop, get_or, refl, sym}
 use Rattle.std.proofs.Common.{◌∙◌, ap, subst, append_assoc, append-nil, inl, inr, Option, None, ◌⊎◌, Result, Ok, Err}
-use Rattle.std.proofs.Common.{IfErr, OnOk, OnErr}
+use Rattle.std.proofs.Common.{IfErr, OnOk, OnErr, Bool}
 use Rattle.std.proofs.lemmas.List.{take-append-drop, take_more, take_all}
 use Rattle.std.specs.Io.KnownBytes.{Appends}
 use Rattle.std.proofs.KnownBytes.{Appends-nil, Appends-trans}
@@ -18,7 +18,9 @@ use Rattle.meaning.specs.declared.call.Call.TheVariants.{Reset}
 use Rattle.meaning.specs.declared.call.Event.{Event}
 use Rattle.meaning.specs.declared.call.Event.TheVariants.{Call as Calls}
 use Rattle.commands.specs.Machines.{Machine, AlwaysStands, IsAnswered}
-use Rattle.commands.specs.Streams.{IsServedTranscript, spoken, AreWholeLines, Unfinished, IsCut}
+use Rattle.commands.specs.Errands.{fresh}
+use Rattle.commands.specs.Reasons.{capped, counts, feeds, mark, numbered}
+use Rattle.commands.specs.Streams.{IsServedTranscript, IsNumberedTranscript, spoken, AreWholeLines, Unfinished, IsCut}
 use Rattle.commands.specs.Sessions.{HeardIn, Hears, Replied, WritesText, Told, Closed, SoFar, StepsOn, BreaksOff}
 use Rattle.commands.specs.Sessions.{EndsWell, Spoke}
 use Rattle.commands.specs.declared.error.SessionError.{SessionError}
@@ -32,6 +34,8 @@ use Rattle.commands.specs.declared.run.Talk.{Talk}
 use Rattle.meaning.proofs.SpellingLaws.{are_append}
 use Rattle.commands.proofs.FieldLaws.{is_other}
 use Rattle.commands.proofs.GoingLaws.{goes_nowhere, goes_on, goes_answered}
+use Rattle.commands.proofs.RefusalLaws.{with_number, numbered_fed, numbered_ended, feeds_fed, refusals_on}
+use Rattle.commands.proofs.RefusalLaws.{refusals_heard, capped_more, reason_more}
 use Rattle.commands.proofs.SplitLaws.{lines_fed, lines_ended}
 use Rattle.commands.proofs.TranscriptLaws.{transcript_on, transcript_heard, heard_line, spoken_more, or-false}
 
@@ -166,23 +170,54 @@ step_byte language machine stands m sink moment talk held b other keeps = record
     ended = so.ended;
     unended = are_append (is_other_than 10) so.seen (b ∷ []) so.unended (is_other b 10 other, tt);
     held = keeps so.seen so.held;
+    line = so.line;
     transcript = subst (λ (l : List Act). IsServedTranscript language moment None (lines so.front) l
         (spoken (past ++ []) talk.tally) talk.who) (sym (append-nil done))
         (subst (λ (l : List ℕ). IsServedTranscript language moment None (lines so.front) done
         (spoken l talk.tally) talk.who) (sym (append-nil past)) so.transcript);
+    refused = so.refused;
+    refuses = subst (λ (l : List Act). IsNumberedTranscript language moment None (numbered so.front) l
+        (spoken (past ++ []) talk.tally) talk.who so.refused) (sym (append-nil done))
+        (subst (λ (l : List ℕ). IsNumberedTranscript language moment None (numbered so.front) done
+        (spoken l talk.tally) talk.who so.refused) (sym (append-nil past)) so.refuses);
+    reason = so.reason;
   };
 }
+
+-- The lines so far with those of the bytes behind them.
+refusals_more : (language : Language) (moment : Moment) (talk : Talk) (who : Option ℕ) (counted : Tally) (heard : Heard)
+    (read past : List ℕ) (done : List Act) (so : SoFar language moment talk read past done) (here : List Line)
+    (acts : List Act) (said : Spoken) (written unwritten : List ℕ) → said.text ≡ written ++ unwritten
+    → unwritten ≡ [] → counted.refused ≡ talk.tally.refused || said.refused
+    → counted.broke ≡ talk.tally.broke || said.broke → HeardIn language moment here heard
+    → Hears moment talk.who heard acts said who
+    → IsNumberedTranscript language moment None (numbered so.front ++ with_number (feeds so.front + 1) here)
+    (done ++ acts) (spoken (past ++ written) counted) who (so.refused ++ mark said.refused (feeds so.front + 1))
+refusals_more language moment talk who counted heard read past done so here acts said written unwritten parts whole
+    refused broke hears says =
+    subst (λ (s : Spoken). IsNumberedTranscript language moment None
+    (numbered so.front ++ with_number (feeds so.front + 1) here) (done ++ acts) s who
+    (so.refused ++ mark said.refused (feeds so.front + 1)))
+    (spoken_more past talk.tally counted said written unwritten parts whole refused broke)
+    (refusals_on language moment None (numbered so.front) (with_number (feeds so.front + 1) here) done acts
+    (spoken past talk.tally) said talk.who who so.refused (mark said.refused (feeds so.front + 1)) so.refuses
+    (refusals_heard language moment talk.who (feeds so.front + 1) here heard acts said who hears says))
+
+-- the number of the line after
+line_more : (line n : ℕ) → line ≡ capped n → min (line + 1) (2 ^ 64 - 1) ≡ capped (n + 1)
+line_more line n e = ap (λ (k : ℕ). min (k + 1) (2 ^ 64 - 1)) e ∙ capped_more n
 
 -- A line feed.
 pub step_feed : {S : Type 0} (language : Language) (machine : S
     → Machine) (result : Result (Unit {0}) SessionError) (a b : S) (p q : Option (List ℕ)) (moment : Moment)
     (talk after : Talk) (heard : Heard) (byte : ℕ) → byte ≡ 10 → IsPartialLine after.held []
+    → after.line ≡ min (talk.line + 1) (2 ^ 64 - 1)
     → ((seen : List ℕ) → IsPartialLine talk.held seen
     → HeardIn language moment (fitting seen (without_return seen)) heard)
-    → Told result machine a b p q moment talk.who after.who talk.tally after.tally heard
+    → Told result machine a b p q moment talk.who after.who talk.tally after.tally talk.line heard
     → OnOk result (StepsOn language machine a b p q moment talk after (byte ∷ []))
-step_feed language machine (Err error) a b p q moment talk after heard byte feed none hears t = tt
-step_feed language machine (Ok v) a b p q moment talk after heard byte feed none hears t = record {
+step_feed language machine (Err error) a b p q moment talk after heard byte feed none next hears t = tt
+step_feed language machine (Ok v) a b p q moment talk after heard byte feed none next hears t = record {
   acts = t.acts;
   goes = t.goes;
   written = t.written;
@@ -194,6 +229,17 @@ step_feed language machine (Ok v) a b p q moment talk after heard byte feed none
     ended = inr (read, ap (λ (n : ℕ). read ++ n ∷ []) feed);
     unended = tt;
     held = none;
+    line = next ∙ line_more talk.line (feeds so.front + 1) so.line
+        ∙ ap (λ (n : ℕ). capped (n + 1)) (sym (feeds_fed read so.front so.seen byte feed so.parted so.unended));
+    refused = so.refused ++ mark t.said.refused (feeds so.front + 1);
+    refuses = subst (λ (l : List (ℕ × Line)). IsNumberedTranscript language moment None l (done ++ t.acts)
+        (spoken (past ++ t.written) after.tally) after.who (so.refused ++ mark t.said.refused (feeds so.front + 1)))
+        (sym (numbered_fed read so.front so.seen byte feed so.parted so.ended so.unended))
+        (refusals_more language moment talk after.who after.tally heard read past done so
+        (fitting so.seen (without_return so.seen)) t.acts t.said t.written t.unwritten t.parts t.whole t.refused t.broke
+        (hears so.seen so.held) t.hears);
+    reason = t.reason ∙ ap (λ (n : ℕ). counts talk.tally.reason n t.said.refused) so.line
+        ∙ reason_more so.refused (feeds so.front + 1) t.said.refused talk.tally.reason so.reason;
     transcript = subst (λ (l : List Line). IsServedTranscript language moment None l (done ++ t.acts)
         (spoken (past ++ t.written) after.tally) after.who)
         (sym (lines_fed read so.front so.seen byte feed so.parted so.ended so.unended))
@@ -217,7 +263,7 @@ unfinished : {S : Type 0} (language : Language) (machine : S
     → (so : SoFar language moment talk read past done) → AreWholeLines (read ++ bytes)
     ⊎ ((no_bytes ≡ no_bytes) × at_end) → lines (read ++ bytes) ≡ lines so.front ++ here
     → HeardIn language moment here heard
-    → (t : Told (Err error) machine a b p q moment talk.who after.who talk.tally after.tally heard)
+    → (t : Told (Err error) machine a b p q moment talk.who after.who talk.tally after.tally talk.line heard)
     → Unfinished language at_end moment error (read ++ bytes) (past ++ t.written) (done ++ t.acts)
 unfinished language machine at_end error a b p q moment talk after heard here read bytes past done so
     ended same hears t =
@@ -251,7 +297,7 @@ pub break_feed : {S : Type 0} (language : Language) (machine : S
     (talk after : Talk) (heard : Heard) (byte : ℕ) → byte ≡ 10
     → ((seen : List ℕ) → IsPartialLine talk.held seen
     → HeardIn language moment (fitting seen (without_return seen)) heard)
-    → Told result machine a b p q moment talk.who after.who talk.tally after.tally heard
+    → Told result machine a b p q moment talk.who after.who talk.tally after.tally talk.line heard
     → IfErr result (λ error. BreaksOff language ⊥ machine a b p q moment talk error (byte ∷ []))
 break_feed language machine (Ok v) a b p q moment talk after heard byte feed hears t = tt
 break_feed language machine (Err error) a b p q moment talk after heard byte feed hears t = record {
@@ -269,7 +315,7 @@ break_feed language machine (Err error) a b p q moment talk after heard byte fee
 pub break_end : {S : Type 0} (language : Language) (machine : S → Machine) (error : SessionError) (a b : S)
     (p q : Option (List ℕ)) (moment : Moment) (talk after : Talk) (heard : Heard)
     → ((seen : List ℕ) → IsPartialLine talk.held seen → HeardIn language moment (fitting seen seen) heard)
-    → Told (Err error) machine a b p q moment talk.who after.who talk.tally after.tally heard
+    → Told (Err error) machine a b p q moment talk.who after.who talk.tally after.tally talk.line heard
     → BreaksOff language (Unit {0}) machine a b p q moment talk error []
 break_end language machine error a b p q moment talk after heard hears t = record {
   acts = t.acts;
@@ -285,7 +331,7 @@ break_end language machine error a b p q moment talk after heard hears t = recor
 pub end_well : {S : Type 0} (language : Language) (machine : S → Machine) (v : Unit {0}) (a b c : S)
     (p q : Option (List ℕ)) (moment : Moment) (talk after : Talk) (heard : Heard)
     → ((seen : List ℕ) → IsPartialLine talk.held seen → HeardIn language moment (fitting seen seen) heard)
-    → Told (Ok v) machine a b p q moment talk.who after.who talk.tally after.tally heard
+    → Told (Ok v) machine a b p q moment talk.who after.who talk.tally after.tally talk.line heard
     → Closed language machine b c moment
     → EndsWell language machine a c p q moment talk after.tally
 end_well language machine v a b c p q moment talk after heard hears t end = record {
@@ -306,6 +352,14 @@ end_well language machine v a b c p q moment talk after heard hears t end = reco
         (spoken past talk.tally) t.said talk.who after.who so.transcript
         (transcript_heard language moment talk.who (fitting so.seen so.seen) heard t.acts t.said after.who
         (hears so.seen so.held) t.hears)));
+    refused = so.refused ++ mark t.said.refused (feeds so.front + 1);
+    refuses = subst (λ (l : List (ℕ × Line)). IsNumberedTranscript language moment None l (done ++ t.acts)
+        (spoken (past ++ t.written) after.tally) after.who (so.refused ++ mark t.said.refused (feeds so.front + 1)))
+        (sym (numbered_ended read so.front so.seen so.parted so.ended so.unended))
+        (refusals_more language moment talk after.who after.tally heard read past done so (fitting so.seen so.seen)
+        t.acts t.said t.written t.unwritten t.parts t.whole t.refused t.broke (hears so.seen so.held) t.hears);
+    reason = t.reason ∙ ap (λ (n : ℕ). counts talk.tally.reason n t.said.refused) so.line
+        ∙ reason_more so.refused (feeds so.front + 1) t.said.refused talk.tally.reason so.reason;
     closing = end.acts;
     closes = end.closes;
     acts_are = sym (append_assoc done t.acts end.acts);
@@ -332,15 +386,16 @@ closed_still machine stands language a moment e = subst (λ (l : Language). Clos
 -- What was heard is told.
 
 pub told_nothing : {S : Type 0} (machine : S → Machine) (stands : AlwaysStands machine) (m : S) (sink : Option (List ℕ))
-    (moment : Moment) (who : Option ℕ) (tally : Tally) (heard : Heard) → heard ≡ Nothing
-    → Told (Ok tt) machine m m sink sink moment who who tally tally heard
-told_nothing machine stands m sink moment who tally heard e = record {
+    (moment : Moment) (who : Option ℕ) (tally : Tally) (number : ℕ) (heard : Heard) → heard ≡ Nothing
+    → Told (Ok tt) machine m m sink sink moment who who tally tally number heard
+told_nothing machine stands m sink moment who tally number heard e = record {
   acts = [];
   said = silent;
   hears = subst (λ (h : Heard). Hears moment who h [] silent who) (sym e) (refl, refl, refl);
   goes = goes_nowhere machine stands m;
   refused = or-false tally.refused;
   broke = or-false tally.broke;
+  reason = refl;
   written = [];
   unwritten = [];
   appended = Appends-nil sink;
@@ -350,18 +405,26 @@ told_nothing machine stands m sink moment who tally heard e = record {
   line = tt;
 }
 
+-- A line that was counted alone is counted with those before it.
+pub record IsCounted (tally : Tally) (number : ℕ) (line counted : Tally) : Type 0 where
+  pub refused : counted.refused ≡ tally.refused || line.refused
+  pub broke : counted.broke ≡ tally.broke || line.broke
+  pub reason : counted.reason ≡ counts tally.reason number line.refused
+
 module _ {V E S : Type 0} (machine : S → Machine) (bytes : V → List ℕ) (a b : S) (p q : Option (List ℕ))
-    (moment : Moment) (who after : Option ℕ) (tally counted : Tally) (heard : Heard) (some : heard ≢ Nothing) where
+    (moment : Moment) (who after : Option ℕ) (tally line counted : Tally) (number : ℕ) (heard : Heard)
+    (some : heard ≢ Nothing) (is : IsCounted tally number line counted) where
   told_put : (result : Result (Unit {0}) SessionError) (text : Result V E)
-      → Replied bytes text machine a b moment who after tally counted heard → WritesText bytes result p q text
-      → Told result machine a b p q moment who after tally counted heard
+      → Replied bytes text machine a b moment who after fresh line heard → WritesText bytes result p q text
+      → Told result machine a b p q moment who after tally counted number heard
   told_put (Ok u) (Ok v) s put = record {
     acts = s.acts;
     said = s.said;
     hears = s.hears;
     goes = s.goes;
-    refused = s.refused;
-    broke = s.broke;
+    refused = is.refused ∙ ap (λ (t : Bool). tally.refused || t) s.refused;
+    broke = is.broke ∙ ap (λ (t : Bool). tally.broke || t) s.broke;
+    reason = is.reason ∙ ap (counts tally.reason number) s.refused;
     written = bytes v;
     unwritten = [];
     appended = put.0;
@@ -375,8 +438,9 @@ module _ {V E S : Type 0} (machine : S → Machine) (bytes : V → List ℕ) (a 
     said = s.said;
     hears = s.hears;
     goes = s.goes;
-    refused = s.refused;
-    broke = s.broke;
+    refused = is.refused ∙ ap (λ (t : Bool). tally.refused || t) s.refused;
+    broke = is.broke ∙ ap (λ (t : Bool). tally.broke || t) s.broke;
+    reason = is.reason ∙ ap (counts tally.reason number) s.refused;
     written = put.1.1.0;
     unwritten = put.1.1.1;
     appended = put.1.1.2;
@@ -390,8 +454,9 @@ module _ {V E S : Type 0} (machine : S → Machine) (bytes : V → List ℕ) (a 
     said = s.said;
     hears = s.hears;
     goes = s.goes;
-    refused = s.refused;
-    broke = s.broke;
+    refused = is.refused ∙ ap (λ (t : Bool). tally.refused || t) s.refused;
+    broke = is.broke ∙ ap (λ (t : Bool). tally.broke || t) s.broke;
+    reason = is.reason ∙ ap (counts tally.reason number) s.refused;
     written = [];
     unwritten = s.said.text;
     appended = subst (λ (l : Option (List ℕ)). Appends p l []) (sym put.1) (Appends-nil p);
@@ -410,13 +475,16 @@ is_an_order heard order e n = let wrong = sym e ∙ n in cc
 
 module _ {V E S : Type 0} (machine : S → Machine) (bytes : V
     → List ℕ) (result : Result (Unit {0}) SessionError) (text : Result V E) (a b : S) (p q : Option (List ℕ))
-    (moment : Moment) (who after : Option ℕ) (tally counted : Tally) (heard : Heard) where
+    (moment : Moment) (who after : Option ℕ) (tally none line counted : Tally) (number : ℕ) (heard : Heard)
+    (is : IsCounted tally number line counted) (new : none ≡ fresh) where
   pub told_said : (meant : Option Command) → heard ≡ Said meant
-      → Spoke bytes text machine a b moment who after tally counted meant → WritesText bytes result p q text
-      → Told result machine a b p q moment who after tally counted heard
-  told_said meant e s put = told_put machine bytes a b p q moment who after tally counted heard
-      (is_something heard meant e) result text
-      (subst (Replied bytes text machine a b moment who after tally counted) (sym e) (record {
+      → Spoke bytes text machine a b moment who after none line meant → WritesText bytes result p q text
+      → Told result machine a b p q moment who after tally counted number heard
+  told_said meant e r put =
+      let s = subst (λ (t : Tally). Spoke bytes text machine a b moment who after t line meant) new r in
+      told_put machine bytes a b p q moment who after tally line counted number heard
+      (is_something heard meant e) is result text
+      (subst (Replied bytes text machine a b moment who after fresh line) (sym e) (record {
         acts = s.acts;
         said = s.said;
         hears = s.speaks;
@@ -427,8 +495,10 @@ module _ {V E S : Type 0} (machine : S → Machine) (bytes : V
       })) put
 
   pub told_ordered : (order : Option Event) → heard ≡ Ordered order
-      → Replied bytes text machine a b moment who after tally counted (Ordered order) → WritesText bytes result p q text
-      → Told result machine a b p q moment who after tally counted heard
-  told_ordered order e s put = told_put machine bytes a b p q moment who after tally counted heard
-      (is_an_order heard order e) result text
-      (subst (Replied bytes text machine a b moment who after tally counted) (sym e) s) put
+      → Replied bytes text machine a b moment who after none line (Ordered order) → WritesText bytes result p q text
+      → Told result machine a b p q moment who after tally counted number heard
+  told_ordered order e r put =
+      let s = subst (λ (t : Tally). Replied bytes text machine a b moment who after t line (Ordered order)) new r in
+      told_put machine bytes a b p q moment who after tally line counted number heard
+      (is_an_order heard order e) is result text
+      (subst (Replied bytes text machine a b moment who after fresh line) (sym e) s) put

@@ -27,17 +27,17 @@ or_assoc : (a b c : Bool) → (a || b) || c ≡ a || (b || c)
 or_assoc true b c = refl
 or_assoc false b c = refl
 
-joined-silent : (a b : Spoken) → a ≡ silent → b ≡ both_said a b
+pub joined-silent : (a b : Spoken) → a ≡ silent → b ≡ both_said a b
 joined-silent a b e = subst (λ (v : Spoken). b ≡ both_said v b) (sym e) refl
 
-joined-end : (a : Spoken) → a ≡ both_said a silent
+pub joined-end : (a : Spoken) → a ≡ both_said a silent
 joined-end a =
     let e : a.text ≡ a.text ++ [] = sym (append-nil a.text) in
     let f = or-false a.refused in
     let h = or-false a.broke in
     λ i. record { text = e i; refused = f i; broke = h i }
 
-joined_assoc : (a b c : Spoken) → both_said (both_said a b) c ≡ both_said a (both_said b c)
+pub joined_assoc : (a b c : Spoken) → both_said (both_said a b) c ≡ both_said a (both_said b c)
 joined_assoc a b c =
     let e = append_assoc a.text b.text c.text in
     let f = or_assoc a.refused b.refused c.refused in

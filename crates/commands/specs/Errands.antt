@@ -16,6 +16,7 @@ use Rattle.meaning.specs.declared.encoding.Encoding.{Encoding}
 use Rattle.meaning.specs.declared.style.Style.{Style}
 use Rattle.commands.specs.Asking.{Led}
 use Rattle.commands.specs.Machines.{Machine, GoesBy}
+use Rattle.commands.specs.Reasons.{IsInputReason}
 use Rattle.commands.specs.Streams.{IsCut, spoken}
 use Rattle.commands.specs.declared.answer.Tally.{Tally}
 use Rattle.commands.specs.declared.error.SessionError.{SessionError}
@@ -23,7 +24,7 @@ use Rattle.commands.specs.declared.error.SessionError.TheVariants.{Read, Write, 
 
 -- nothing was counted yet
 abbrev pub fresh : Tally
-fresh = record { refused = false; broke = false }
+fresh = record { refused = false; broke = false; reason = None }
 
 -- A plan was done to its end, and what it says is what is answered, with what was counted; or there was no memory, and
 -- it was begun.
@@ -66,6 +67,11 @@ Delivers encoding at_end plan read acts written result =
     (at_end × (words : Option (List ℕ)) × AreWords encoding read words × Performs (plan words) acts written result)
     ⊎ (IsUnread result × (acts ≡ []) × (written ≡ []))
 
+-- If an input that was answered can't be a file, the tally says why.
+abbrev pub TellsMisfit : Encoding → List ℕ → Result Tally SessionError → Type 0
+TellsMisfit encoding read (Ok tally) = IsInputReason encoding read tally.reason
+TellsMisfit encoding read (Err error) = Unit {0}
+
 -- What was taken from the reader and put into the writer, and what became of the service.
 pub record Delivery {S : Type 0} (source left sink full : Option (List ℕ)) (machine : S → Machine) (old new : S)
     (encoding : Encoding) (plan : Option (List ℕ) → Plan) (result : Result Tally SessionError) : Type 0 where
@@ -76,6 +82,7 @@ pub record Delivery {S : Type 0} (source left sink full : Option (List ℕ)) (ma
   pub appended : Appends sink full written
   pub goes : GoesBy machine old new acts
   pub delivers : Delivers encoding (IsAtEnd left) plan read acts written result
+  pub tells : TellsMisfit encoding read result
 
 -- Which directories are to be listed: one, or all that there are. There is no answer if they find no memory, or from a
 -- service that has failed.

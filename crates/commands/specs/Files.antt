@@ -1,13 +1,17 @@
 -- The parts of what names a file.
-use Rattle.std.specs.Prelude.{◌≡◌, ℕ, ◌≤◌, List, ◌++◌, length}
+use Rattle.std.specs.Prelude.{◌≡◌, ◌⊎◌, ℕ, ◌≤◌, List, ◌++◌, length}
 use Rattle.words36.specs.Sixbit.{sixbit}
-use Rattle.meaning.specs.Spellings.{is_letter, Are, IsName, IsExtension}
+use Rattle.meaning.specs.Spellings.{is_letter, Are, IsName, IsExtension, IsPair, IsBracketed}
 
 -- at most so many letters and digits, and the word that they pack into
 pub record AreLetters (most : ℕ) (text : List ℕ) (word : ℕ) : Type 0 where
   pub few : length text ≤ most
   pub letters : Are is_letter text
   pub value : word ≡ sixbit text
+
+-- p,n or [p,n], of at most six digits each
+abbrev pub IsOwnerName : List ℕ → ℕ → Type 0
+IsOwnerName text owner = IsPair 6 text owner ⊎ IsBracketed text owner
 
 -- NAME or NAME.EXT
 pub record IsFileName (text : List ℕ) (name ext : ℕ) : Type 0 where

@@ -11,3 +11,5 @@ pub mod Outcomes
 pub mod Monitors
 pub mod Orders
 pub mod Files
+pub mod DayTexts
+pub mod Reasons

@@ -1,12 +1,14 @@
 -- What the errands of job 1 come to, where the service has kept its promises.
-use Rattle.std.specs.Prelude.{◌≡◌, ◌⊎◌, ◌<◌, ℕ, List, length, Option, Some, Ok}
+use Rattle.std.specs.Prelude.{◌≡◌, ◌⊎◌, ◌<◌, ℕ, List, length, Option, None, Some, Ok}
 use Rattle.std.specs.Io.KnownBytes.{Appends, Consumes, IsAtEnd}
 use Rattle.words36.specs.declared.moment.Moment.{Moment}
 use Rattle.meaning.specs.Copies.{AreShort, IsPut, IsLineRefused, IsPrinted, HasHalfwordExtension}
-use Rattle.meaning.specs.Errands.{AreWords, gets, keeps}
+use Rattle.meaning.specs.Causes.{IsRefusedAt}
+use Rattle.meaning.specs.Errands.{AreWords, gets, keeps, unfit}
 use Rattle.meaning.specs.Jobs.{State}
+use Rattle.meaning.specs.Plans.{Act}
 use Rattle.meaning.specs.Runs.{Service, Serving}
-use Rattle.meaning.specs.Texts.{Spoken}
+use Rattle.meaning.specs.Texts.{Spoken, complains}
 use Rattle.meaning.specs.declared.command.Spec.{Spec}
 use Rattle.meaning.specs.declared.encoding.Encoding.{Encoding}
 use Rattle.commands.specs.Errands.{Delivery, Errand}
@@ -14,31 +16,34 @@ use Rattle.commands.specs.Machines.{Machine}
 use Rattle.commands.specs.Streams.{spoken}
 use Rattle.commands.specs.declared.answer.Tally.{Tally}
 
--- The file has the words that were read, or it was refused and nothing has changed.
-abbrev pub IsStored : Moment → ℕ → State → Encoding → Spec → List ℕ → Spoken → Service → Type 0
-IsStored moment me s encoding spec read said last =
+-- The file has the words that were read. Or it was refused and nothing has changed: no file can have these bytes, or a
+-- reply was not the one wanted.
+abbrev pub IsStored : Moment → ℕ → State → Encoding → Spec → List ℕ → List Act → Spoken → Service → Type 0
+IsStored moment me s encoding spec read acts said last =
     ((words : List ℕ) × AreWords encoding read (Some words) × IsPut moment me s encoding spec words said last)
-    ⊎ IsLineRefused s.files said last
+    ⊎ (IsLineRefused s.files said last
+    × (AreWords encoding read None × (said ≡ complains (unfit encoding)) ⊎ IsRefusedAt moment acts said))
 
 -- An input that was read to its end, and whose answer was written, is kept or refused.
 abbrev pub DeliveriesKeepFiles : {S : Type 0} → (S → Machine) → Type 0
 DeliveriesKeepFiles {S} machine =
     (source left sink full : Option (List ℕ)) (old new : S) (moment : Moment) (me : ℕ) (encoding : Encoding)
     (spec : Spec) (tally : Tally)
-    → Delivery source left sink full machine old new encoding (keeps moment me encoding spec) (Ok tally)
+    → (delivery : Delivery source left sink full machine old new encoding (keeps moment me encoding spec) (Ok tally))
     → (machine new).honest → (s : State) → (machine old).serves (Serving s) → 1 < length s.jobs
     → HasHalfwordExtension spec
     → (read : List ℕ) × (written : List ℕ) × Consumes source left read × IsAtEnd left × Appends sink full written
     × (last : Service) × (machine new).serves last
-    × IsStored moment me s encoding spec read (spoken written tally) last
+    × IsStored moment me s encoding spec read delivery.acts (spoken written tally) last
 
--- A file that is got is written as its version's words, or is refused; the files stay.
+-- A file that is got is written as its version's words, or is refused at a reply that was not wanted; the files stay.
 abbrev pub ErrandsShowFiles : {S : Type 0} → (S → Machine) → Type 0
 ErrandsShowFiles {S} machine =
     (sink full : Option (List ℕ)) (old new : S) (moment : Moment) (me : ℕ) (encoding : Encoding) (spec : Spec)
-    (tally : Tally) → Errand sink full machine old new (gets moment me encoding spec) (Ok tally)
+    (tally : Tally) → (errand : Errand sink full machine old new (gets moment me encoding spec) (Ok tally))
     → (machine new).honest → (s : State) → (machine old).serves (Serving s) → 1 < length s.jobs
     → HasHalfwordExtension spec
     → AreShort s.files
     → (written : List ℕ) × Appends sink full written × (last : Service) × (machine new).serves last
-    × (IsPrinted me s encoding spec (spoken written tally) last ⊎ IsLineRefused s.files (spoken written tally) last)
+    × (IsPrinted me s encoding spec (spoken written tally) last
+    ⊎ (IsLineRefused s.files (spoken written tally) last × IsRefusedAt moment errand.acts (spoken written tally)))

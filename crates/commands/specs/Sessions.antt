@@ -1,5 +1,5 @@
 -- A whole session, a whole call script, and the parts that they are made of.
-use Rattle.std.specs.Prelude.{◌≡◌, ◌≢◌, ◌<◌, ◌||◌, ℕ, List, [], ◌∷◌, ◌++◌, length, Option, None, Result, Ok}
+use Rattle.std.specs.Prelude.{◌≡◌, ◌≢◌, ◌<◌, ◌||◌, ◌+◌, ℕ, List, [], ◌∷◌, ◌++◌, length, Option, None, Result, Ok}
 use Rattle.std.specs.Prelude.{Err, IfOk, IfErr, OnOk, OnErr}
 use Rattle.std.specs.Io.KnownBytes.{Consumes, Appends, IsAtEnd}
 use Rattle.words36.specs.declared.moment.Moment.{Moment}
@@ -15,8 +15,9 @@ use Rattle.commands.specs.Fitting.{Fits}
 use Rattle.commands.specs.Languages.{ClosesSession}
 use Rattle.commands.specs.Machines.{Machine, GoesBy}
 use Rattle.meaning.specs.Scripts.{MeansEvent}
-use Rattle.commands.specs.Streams.{IsServedTranscript, IsServedSession, IsServedScript, spoken, HasNoFeed}
-use Rattle.commands.specs.Streams.{AreWholeLines, Finished, CutShort, IsCut, Unfinished}
+use Rattle.commands.specs.Reasons.{capped, counts, feeds, numbered, reason_of}
+use Rattle.commands.specs.Streams.{IsServedTranscript, IsNumberedTranscript, IsServedSession, IsServedScript, spoken}
+use Rattle.commands.specs.Streams.{HasNoFeed, AreWholeLines, Finished, CutShort, IsCut, Unfinished}
 use Rattle.commands.specs.declared.error.SessionError.{SessionError}
 use Rattle.commands.specs.declared.error.SessionError.TheVariants.{Read, Write, NoMemory}
 use Rattle.commands.specs.declared.answer.Tally.{Tally}
@@ -81,16 +82,17 @@ WritesText bytes result sink full (Ok v) =
     × (bytes v ≡ written ++ unwritten) × (0 < length unwritten)))
 WritesText bytes result sink full (Err error) = (result ≡ Err NoMemory) × (full ≡ sink)
 
--- What was heard was answered, and a beginning of its text was written.
+-- What was heard in the line of this number was answered and counted, and a beginning of its text was written.
 pub record Told {S : Type 0} (result : Result (Unit {0}) SessionError) (machine : S
     → Machine) (old new : S) (sink full : Option (List ℕ)) (moment : Moment) (who after : Option ℕ)
-    (tally counted : Tally) (heard : Heard) : Type 0 where
+    (tally counted : Tally) (number : ℕ) (heard : Heard) : Type 0 where
   pub acts : List Act
   pub said : Spoken
   pub hears : Hears moment who heard acts said after
   pub goes : GoesBy machine old new acts
   pub refused : counted.refused ≡ tally.refused || said.refused
   pub broke : counted.broke ≡ tally.broke || said.broke
+  pub reason : counted.reason ≡ counts tally.reason number said.refused
   pub written : List ℕ
   pub unwritten : List ℕ
   pub appended : Appends sink full written
@@ -117,7 +119,12 @@ pub record SoFar (language : Language) (moment : Moment) (talk : Talk) (read wri
   pub ended : AreWholeLines front
   pub unended : HasNoFeed seen
   pub held : IsPartialLine talk.held seen
+  pub line : talk.line ≡ capped (feeds front + 1)
   pub transcript : IsServedTranscript language moment None (lines front) acts (spoken written talk.tally) talk.who
+  pub refused : List ℕ
+  pub refuses : IsNumberedTranscript language moment None (numbered front) acts (spoken written talk.tally) talk.who
+      refused
+  pub reason : talk.tally.reason ≡ reason_of refused
 
 -- Whatever there was so far, it goes on by these bytes,
 pub record StepsOn {S : Type 0} (language : Language) (machine : S → Machine) (old new : S)

@@ -12,6 +12,7 @@ use Rattle.meaning.specs.declared.call.Call.TheVariants.{Reset}
 use Rattle.meaning.specs.declared.call.Reply.{Reply}
 use Rattle.commands.specs.Characters.{is_other_than}
 use Rattle.commands.specs.Languages.{LineSays, ClosesSession}
+use Rattle.commands.specs.Reasons.{mark, numbered, reason_of}
 use Rattle.commands.specs.declared.error.SessionError.{SessionError}
 use Rattle.commands.specs.declared.error.SessionError.TheVariants.{Read, Write, NoMemory}
 use Rattle.commands.specs.declared.answer.Tally.{Tally}
@@ -26,6 +27,17 @@ IsServedTranscript language moment who (line ∷ lines) acts said then_who =
     × LineSays language moment who line first here mid
     × IsServedTranscript language moment mid lines more there then_who
     × (acts ≡ first ++ more) × (said ≡ both_said here there)
+
+-- The same of lines with their numbers, and with the numbers of those that are refused.
+abbrev pub IsNumberedTranscript : Language → Moment → Option ℕ → List (ℕ × Line) → List Act → Spoken → Option ℕ
+    → List ℕ → Type 0
+IsNumberedTranscript language moment who [] acts said then_who refused =
+    (acts ≡ []) × (said ≡ silent) × (then_who ≡ who) × (refused ≡ [])
+IsNumberedTranscript language moment who (line ∷ lines) acts said then_who refused =
+    (first : List Act) × (more : List Act) × (here : Spoken) × (there : Spoken) × (mid : Option ℕ)
+    × (later : List ℕ) × LineSays language moment who line.1 first here mid
+    × IsNumberedTranscript language moment mid lines more there then_who later
+    × (acts ≡ first ++ more) × (said ≡ both_said here there) × (refused ≡ mark here.refused line.0 ++ later)
 
 -- A whole input, answered at a moment by a service that was `old` before it and is `new` after it.
 
@@ -56,12 +68,16 @@ HasNoFeed bytes = Are (is_other_than feed) bytes
 abbrev pub AreWholeLines : List ℕ → Type 0
 AreWholeLines bytes = (bytes ≡ []) ⊎ ((before : List ℕ) × (bytes ≡ before ++ feed ∷ []))
 
--- All was answered and written, and then what is done at the end, for which nothing is written.
+-- All was answered and written, and then what is done at the end, for which nothing is written. It is told which lines
+-- were refused.
 pub record Finished (language : Language) (moment : Moment) (read written : List ℕ) (acts : List Act)
     (tally : Tally) : Type 0 where
   pub talked : List Act
   pub who : Option ℕ
   pub transcript : IsServedTranscript language moment None (lines read) talked (spoken written tally) who
+  pub refused : List ℕ
+  pub refuses : IsNumberedTranscript language moment None (numbered read) talked (spoken written tally) who refused
+  pub reason : tally.reason ≡ reason_of refused
   pub closing : List Act
   pub closes : ClosesSession language moment closing
   pub acts_are : acts ≡ talked ++ closing

@@ -6,11 +6,13 @@ ghost use Rattle.meaning.specs.declared.command.Command.TheVariants.{Rename as R
 ghost use Rattle.meaning.specs.declared.command.Command.TheVariants.{Protect as ProtectLine, MakeDir as MakeLine};
 ghost use Rattle.commands.specs.Errands.{fresh};
 ghost use Rattle.commands.specs.Fitting.{Fits};
+ghost use Rattle.commands.specs.Reasons.{counts};
 ghost use Rattle.commands.specs.Sessions.{Spoke};
 
 use crate::changing::{delete, protect, rename};
 use crate::copying::copy;
 use crate::makdir::make_dir;
+use crate::reason::{Reason, with_line};
 use crate::service::FileService;
 use crate::survey::show;
 use crate::text;
@@ -32,6 +34,8 @@ pub struct Tally {
     pub refused: bool,
     /// Whether a line met a fault of the disk, or came after one.
     pub broke: bool,
+    /// Which lines were refused, or why the input can't be a file.
+    pub reason: Option<Reason>,
 }
 
 impl Tally {
@@ -42,6 +46,25 @@ impl Tally {
         Tally {
             refused: false,
             broke: false,
+            reason: None,
+        }
+    }
+
+    /// The same after one more line, which has this number, by what was counted of that line alone.
+    pub(crate) fn with_line(self, line: Tally, number: u64) -> Tally
+        ensures refused { result.refused ≡ self.refused || line.refused }
+        ensures broke { result.broke ≡ self.broke || line.broke }
+        ensures reason { result.reason ≡ counts self.reason number line.refused }
+    {
+        let reason = if line.refused {
+            with_line(self.reason, number)
+        } else {
+            self.reason
+        };
+        Tally {
+            refused: self.refused || line.refused,
+            broke: self.broke || line.broke,
+            reason,
         }
     }
 }

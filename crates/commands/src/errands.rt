@@ -1,9 +1,11 @@
-ghost use Rattle.std.specs.Prelude.{option_map};
+ghost use Rattle.std.specs.Prelude.{ℕ, List};
 ghost use Rattle.meaning.specs.Errands.{gets, keeps, surveys};
 ghost use Rattle.meaning.specs.Plans.{Say};
 ghost use Rattle.meaning.specs.Texts.{refuses};
 ghost use Rattle.commands.specs.Asking.{Concludes};
+ghost use Rattle.meaning.specs.declared.encoding.Encoding.{Encoding as Encodings};
 ghost use Rattle.commands.specs.Errands.{Delivery, Errand};
+ghost use Rattle.commands.specs.Reasons.{HasWords, IsInputReason, words_said};
 
 use crate::answer::{Tally, is_broken, refuse};
 use crate::concluding::conclude;
@@ -13,7 +15,7 @@ use crate::run::print;
 use crate::service::FileService;
 use crate::survey::survey;
 use crate::typing::read_out;
-use crate::{SessionError, text};
+use crate::{Misfit, Reason, SessionError, text};
 use meaning::{Encoding, Reply, Spec, Style};
 use std::alloc::{AllocError, Global};
 use std::io::{Read, Write};
@@ -103,6 +105,17 @@ pub fn write_refusal<W: Write, S: FileService>(
     Ok(tally)
 }
 
+/// What people are told of bytes that have these words, or none.
+fn reason_of(words: &Result<Vec<Word>, Misfit>) -> Option<Reason>
+    ensures { (encoding : Encodings) (bytes : List ℕ) → HasWords (λ v. v.items) encoding bytes words.now
+        → IsInputReason encoding bytes result }
+{
+    match words {
+        Ok(_) => None,
+        Err(misfit) => Some(Reason::Input(*misfit)),
+    }
+}
+
 /// Puts a file of these words, or says that there are none.
 fn put_words<S: FileService>(
     alloc: Global,
@@ -112,14 +125,14 @@ fn put_words<S: FileService>(
     owner: Ppn,
     encoding: Encoding,
     spec: Spec,
-    words: &Option<Vec<Word>>,
+    words: &Result<Vec<Word>, Misfit>,
 ) -> Result<Vec<u8>, AllocError>
     ensures { Concludes (λ bytes. bytes.items) result S.machine service.old service.new
-        (keeps moment owner encoding spec (option_map (λ v. v.items) words.now)) tally.old tally.new }
+        (keeps moment owner encoding spec (words_said (λ v. v.items) words.now)) tally.old tally.new }
 {
     match words {
-        Some(words) => { put_file(alloc, service, moment, tally, owner, encoding, spec, words) }
-        None => refuse(alloc, tally, unfit(encoding), false),
+        Ok(words) => { put_file(alloc, service, moment, tally, owner, encoding, spec, words) }
+        Err(_) => refuse(alloc, tally, unfit(encoding), false),
     }
 }
 
@@ -151,6 +164,7 @@ pub fn read_in<R: Read, W: Write, S: FileService>(
     let text = put_words(
         alloc, service, moment, &mut tally, owner, encoding, spec, &words,
     );
+    tally.reason = reason_of(&words);
     print(writer, text)?;
     Ok(tally)
 }

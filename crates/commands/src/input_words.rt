@@ -1,13 +1,14 @@
 ghost use Rattle.std.specs.Prelude.{◌≡◌, ◌<◌, ◌↔◌, ◌⊎◌, ◌*◌, ◌+◌, ◌≤◌, ◌^◌, ℕ, List, IfOk, IfErr, OnOk, IfSome, IsSome};
-ghost use Rattle.std.specs.Prelude.{length, option_map, true};
+ghost use Rattle.std.specs.Prelude.{length, IfNone};
 ghost use Rattle.std.specs.Io.KnownBytes.{Consumes, IsAtEnd};
 ghost use Rattle.words36.specs.Blocks.{number_at};
-ghost use Rattle.meaning.specs.Errands.{is_character, unfit, AreWords};
+ghost use Rattle.meaning.specs.Errands.{is_character, unfit};
 ghost use Rattle.meaning.specs.Spellings.{Are};
 ghost use Rattle.meaning.specs.declared.encoding.Encoding.TheVariants.{Characters, Words};
+ghost use Rattle.commands.specs.Reasons.{HasWords, IsMisfit};
 ghost use Rattle.commands.specs.declared.error.SessionError.TheVariants.{Read as ReadFault, NoMemory};
 
-use crate::SessionError;
+use crate::{Misfit, SessionError};
 use meaning::Encoding;
 use std::alloc::{AllocError, Global};
 use std::io::{ErrorKind, Read};
@@ -42,27 +43,29 @@ fn is_character(byte: u8) -> bool
     1 <= byte && byte <= 127
 }
 
-/// Whether all bytes are such characters.
-fn are_characters(bytes: &[u8]) -> bool
-    ensures { (result ≡ true) ↔ Are is_character bytes.now }
+/// Finds the first byte that isn't such a character.
+fn first_misfit(bytes: &[u8]) -> Option<Misfit>
+    ensures some { IfSome result (IsMisfit Characters bytes.now) }
+    ensures none { IfNone result (Are is_character bytes.now) }
+    ensures refused { IsSome result → Are is_character bytes.now → ⊥ }
 {
-    for byte in bytes {
+    for (i, byte) in bytes.iter().enumerate() {
         if !is_character(*byte) {
-            return false;
+            return Some(Misfit::Byte(*byte, i + 1));
         }
     }
-    true
+    None
 }
 
 /// The words of these characters.
-fn words_of_characters(alloc: Global, bytes: &[u8]) -> Result<Option<Vec<Word>>, AllocError>
-    ensures { IfOk result (λ words. AreWords Characters bytes.now (option_map (λ v. v.items) words)) }
+fn words_of_characters(alloc: Global, bytes: &[u8]) -> Result<Result<Vec<Word>, Misfit>, AllocError>
+    ensures { IfOk result (HasWords (λ v. v.items) Characters bytes.now) }
 {
-    if !are_characters(bytes) {
-        return Ok(None);
+    if let Some(misfit) = first_misfit(bytes) {
+        return Ok(Err(misfit));
     }
     match pack_ascii(alloc, bytes) {
-        Ok(words) => Ok(Some(words)),
+        Ok(words) => Ok(Ok(words)),
         Err(_) => Err(AllocError), // no byte is above 127
     }
 }
@@ -79,29 +82,29 @@ fn word_at(bytes: &[u8], place: usize) -> Option<Word>
 }
 
 /// The words that these bytes spell, eight bytes for each.
-fn words_of_bytes(alloc: Global, bytes: &[u8]) -> Result<Option<Vec<Word>>, AllocError>
-    ensures { IfOk result (λ words. AreWords Words bytes.now (option_map (λ v. v.items) words)) }
+fn words_of_bytes(alloc: Global, bytes: &[u8]) -> Result<Result<Vec<Word>, Misfit>, AllocError>
+    ensures { IfOk result (HasWords (λ v. v.items) Words bytes.now) }
 {
     if bytes.len() % WORD_BYTES != 0 {
-        return Ok(None);
+        return Ok(Err(Misfit::Length(bytes.len())));
     }
     let mut words = Vec::new(alloc);
     for place in 0..bytes.len() / WORD_BYTES {
         let Some(word) = word_at(bytes, place) else {
-            return Ok(None);
+            return Ok(Err(Misfit::Word(place + 1)));
         };
         words.push(word)?;
     }
-    Ok(Some(words))
+    Ok(Ok(words))
 }
 
-/// The words that a file gets of these bytes; none where they are no bytes of a file.
+/// The words that a file gets of these bytes, or why they can't be a file.
 pub fn words_of(
     alloc: Global,
     encoding: Encoding,
     bytes: &[u8],
-) -> Result<Option<Vec<Word>>, AllocError>
-    ensures { IfOk result (λ words. AreWords encoding bytes.now (option_map (λ v. v.items) words)) }
+) -> Result<Result<Vec<Word>, Misfit>, AllocError>
+    ensures { IfOk result (HasWords (λ v. v.items) encoding bytes.now) }
 {
     match encoding {
         Encoding::Characters => words_of_characters(alloc, bytes),
@@ -109,7 +112,7 @@ pub fn words_of(
     }
 }
 
-/// What is said of bytes that are none of a file.
+/// What is said of bytes that can't be a file.
 pub fn unfit(encoding: Encoding) -> &'static str
     ensures { result.now ≡ unfit encoding }
 {

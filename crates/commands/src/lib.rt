@@ -10,7 +10,7 @@
 //! 4. `session` reads to the end of the input, makes the calls that each line stands for, each by the
 //!    replies so far, and writes what they print: at Ok the writer got the text of all that the reader had,
 //!    the service went by these calls and a RESET of job 1 that prints nothing, and the tally is that of the
-//!    lines. (`ends`, `goes`, `served`) COPY and TYPE move a whole body by INs and OUTs until an IN tells its
+//!    lines, with the numbers of those that were refused. (`ends`, `goes`, `served`, `IsNumberedTranscript`) COPY and TYPE move a whole body by INs and OUTs until an IN tells its
 //!    end, and a refused line leaves nothing of it. (`Plan`, `Led`) At the moment before the first call and
 //!    after each, all that a crash may leave stands for the files after the calls so far; from one moment to
 //!    the next a crash leaves these, or those after one call more. (`ActsBy`) On every disk the failure count rises by
@@ -33,7 +33,8 @@
 //! 11. `put` reads and tests all of its input before its first call, and `get` and `list` write nothing before their
 //!    last one. Each does a plan by calls of job 1, which logs in for it, and writes what that says; what a crash
 //!    leaves is said as of a session. (`Delivery`, `Errand`, `Survey`) `list` of all directories says that the service
-//!    has stopped only if it has failed. (`AreAsked`) `check` writes what a volume has. (`Checked`)
+//!    has stopped only if it has failed. (`AreAsked`) `check` writes what a volume has. (`Checked`) If the
+//!    input of `put` can't be a file, the tally has the first byte or word that doesn't fit. (`IsMisfit`)
 #![tactic(auto)]
 
 mod answer;
@@ -41,6 +42,7 @@ mod asking;
 mod changing;
 mod concluding;
 mod copying;
+mod dates;
 mod errands;
 mod error;
 mod fields;
@@ -56,6 +58,7 @@ mod obeying;
 mod orders;
 mod putting;
 mod reading;
+mod reason;
 mod requests;
 mod restart;
 mod ring_requests;
@@ -69,6 +72,7 @@ mod text;
 mod typing;
 
 pub use answer::Tally;
+pub use dates::date_named;
 pub use error::SessionError;
 pub use laws::{
     errands_reach_files, lines_have_one_meaning, orders_have_one_reading,
@@ -78,6 +82,7 @@ pub use meaning::{Encoding, Style};
 pub use monitor::{Monitor, StartError};
 pub use monitored::{check, get, list, put, script, session};
 pub use names::{file_named, owner_named};
+pub use reason::{Misfit, Reason, RefusedLines};
 pub use restart::start_after_acts;
 pub use stream::write_text;
 pub use text::refusal;

@@ -1,19 +1,22 @@
 ghost use Rattle.std.specs.Prelude.{◌≡◌, map, IfSome, IfNone, ℕ};
 ghost use Rattle.meaning.specs.Lines.{upper};
-ghost use Rattle.meaning.specs.Spellings.{IsPair};
-ghost use Rattle.commands.specs.Files.{IsFileName};
+ghost use Rattle.commands.specs.Files.{IsFileName, IsOwnerName};
 
 use crate::fields::pair;
+use crate::grammar::bracketed;
 use crate::input::{InputLine, PartialLine};
 use crate::specs::file_name;
 use words36::{FileName, Ppn};
 
-/// The owner that `p,n` spells: one to six octal digits each, neither of them 0.
+/// The owner that `p,n` or `[p,n]` spells: one to six octal digits each, neither of them 0.
 pub fn owner_named(text: &[u8]) -> Option<Ppn>
-    ensures some { IfSome result (λ owner. IsPair 6 text.now owner) }
-    ensures none { IfNone result ((owner : ℕ) → IsPair 6 text.now owner → ⊥) }
+    ensures some { IfSome result (λ owner. IsOwnerName text.now owner) }
+    ensures none { IfNone result ((owner : ℕ) → IsOwnerName text.now owner → ⊥) }
 {
-    pair(text, 6)
+    match pair(text, 6) {
+        Some(owner) => Some(owner),
+        None => bracketed(text),
+    }
 }
 
 /// The file that `NAME` or `NAME.EXT` spells, with letters of either case.

@@ -35,6 +35,7 @@ pub enum Heard {
 #[derive(Drop)]
 pub struct Talk {
     held: PartialLine,
+    line: u64,
     who: Option<Ppn>,
     tally: Tally,
 }
@@ -65,35 +66,34 @@ pub fn print<W: Write>(
     }
 }
 
-/// Answers what was heard: makes its calls, and writes what it prints.
+/// Answers what was heard in a line of this number: makes its calls, writes what it prints, and counts the line.
 fn tell<S: FileService, W: Write>(
     alloc: Global,
     service: &mut S,
     writer: &mut W,
     moment: Moment,
     talk: &mut Talk,
+    number: u64,
     heard: Heard,
 ) -> Result<(), SessionError>
     requires { FitsIn heard }
     ensures held { talk.new.held ≡ talk.old.held }
+    ensures line { talk.new.line ≡ talk.old.line }
     ensures told { Told result S.machine service.old service.new (W.contents writer.old) (W.contents writer.new)
-        moment talk.old.who talk.new.who talk.old.tally talk.new.tally heard }
+        moment talk.old.who talk.new.who talk.old.tally talk.new.tally number heard }
 {
     match heard {
         Heard::Nothing => Ok(()),
         Heard::Said(meant) => {
-            let text = answer(
-                alloc,
-                service,
-                moment,
-                &mut talk.who,
-                &mut talk.tally,
-                meant,
-            );
+            let mut line = Tally::none();
+            let text = answer(alloc, service, moment, &mut talk.who, &mut line, meant);
+            talk.tally = talk.tally.with_line(line, number);
             print(writer, text)
         }
         Heard::Ordered(order) => {
-            let text = obey(alloc, service, &mut talk.tally, order);
+            let mut line = Tally::none();
+            let text = obey(alloc, service, &mut line, order);
+            talk.tally = talk.tally.with_line(line, number);
             print(writer, text)
         }
     }
@@ -119,8 +119,10 @@ fn take_byte<S: FileService, W: Write>(
         return Ok(());
     }
     let heard = heard_of(language, moment, talk.held.ended());
+    let number = talk.line;
     talk.held = PartialLine::new();
-    tell(alloc, service, writer, moment, talk, heard)
+    talk.line = number.saturating_add(1);
+    tell(alloc, service, writer, moment, talk, number, heard)
 }
 
 /// Takes some bytes of the input, and answers each line that ends in them.
@@ -171,7 +173,8 @@ fn finish<S: FileService, W: Write>(
         (W.contents writer.old) (W.contents writer.new) moment talk.old error []) }
 {
     let heard = heard_of(language, moment, talk.held.last());
-    tell(alloc, service, writer, moment, talk, heard)?;
+    let number = talk.line;
+    tell(alloc, service, writer, moment, talk, number, heard)?;
     close(alloc, service, moment, language);
     Ok(talk.tally)
 }
@@ -191,11 +194,9 @@ fn talk_in<R: Read, W: Write, S: FileService>(
 {
     let mut talk = Talk {
         held: PartialLine::new(),
+        line: 1,
         who: None,
-        tally: Tally {
-            refused: false,
-            broke: false,
-        },
+        tally: Tally::none(),
     };
     let mut piece = [0u8; PIECE_BYTES];
     for _ in 0..u64::MAX {

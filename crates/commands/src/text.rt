@@ -205,7 +205,7 @@ pub(crate) fn three_digits(number: u32) -> [u8; 3]
 }
 
 /// A month's name, where January is 0.
-fn month_text(month: u32) -> &'static str
+pub(crate) fn month_text(month: u32) -> &'static str
     ensures { result.now ≡ month_text month }
 {
     match month {

@@ -2,13 +2,15 @@
 use Rattle.std.proofs.Common.{◌≡◌, ◌≢◌, ◌⊎◌, inl, inr, ⊎_elim, ℕ, List, Option, Result, Ok, Err, MatchResult, refl, sym}
 use Rattle.std.proofs.Common.{◌∙◌, ap, subst}
 use Rattle.std.specs.Prelude.{IsErrOf}
-use Rattle.clap.specs.Words.{Kinds, IsAmong, kind_of}
+use Rattle.clap.specs.Words.{Kinds, Row, Text, kind_of}
 use Rattle.clap.specs.declared.error.Error.{Error}
 use Rattle.filser.specs.Endings.{AsksForHelp}
+use Rattle.filser.specs.Requests.{IsMistaken, IsUsage}
 use Rattle.filser.specs.Runs.{PrintsOnly}
 use Rattle.filser.specs.Statuses.{status_code}
 use Rattle.filser.specs.declared.asked.Request.{Request}
 use Rattle.filser.specs.declared.error.RequestError.{RequestError}
+use Rattle.filser.specs.declared.error.WrongArgument.{WrongArgument}
 use Rattle.filser.specs.declared.error.RequestError.TheVariants.{Usage, BadArgument, NoMemory}
 use Rattle.filser.specs.declared.status.Status.{Status}
 use Rattle.filser.specs.declared.status.Status.TheVariants.{Done, Refused, BadArguments, BadImage, Fault}
@@ -38,15 +40,22 @@ pub code_asked : (status : Status) (code : ℕ) → (code ≡ status_code status
 code_asked status code (inl e) differs two = differs (not_two status (sym e ∙ two))
 code_asked status code (inr e) differs two = let wrong : 4 ≡ 2 = sym e ∙ two in cc
 
-pub prints_only : (kinds : Kinds) (error : RequestError) (sink full : Option (List ℕ))
-    → ((e : Error) → IsErrOf {T = Request} {E = RequestError} (Err error) (Usage e) → IsAmong (kind_of e) kinds)
-    → ((error ≡ BadArgument) ⊎ (error ≡ NoMemory) → full ≡ sink)
+pub prints_only : (kinds : Kinds) (found : Option (Text × List Row)) (error : RequestError)
+    (sink full : Option (List ℕ))
+    → ((e : Error) → IsErrOf {T = Request} {E = RequestError} (Err error) (Usage e) → IsUsage kinds found e)
+    → ((wrong : Option WrongArgument) → IsErrOf {T = Request} {E = RequestError} (Err error) (BadArgument wrong)
+    → IsMistaken found wrong)
+    → (((wrong : Option WrongArgument) × (error ≡ BadArgument wrong)) ⊎ (error ≡ NoMemory) → full ≡ sink)
     → ((e : Error) → error ≡ Usage e → (AsksForHelp (kind_of e) → ⊥) → full ≡ sink)
-    → PrintsOnly kinds error sink full
-prints_only kinds (Usage e) sink full usage none mistake = (usage e refl, mistake e refl)
-prints_only kinds BadArgument sink full usage none mistake = none (inl refl)
-prints_only kinds NoMemory sink full usage none mistake = none (inr refl)
+    → PrintsOnly kinds found error sink full
+prints_only kinds found (Usage e) sink full usage bad none mistake = (usage e refl, mistake e refl)
+prints_only kinds found (BadArgument wrong) sink full usage bad none mistake = (
+  bad wrong refl,
+  none (inl (wrong, refl)),
+)
+prints_only kinds found NoMemory sink full usage bad none mistake = none (inr refl)
 
-pub bad_error : (error : RequestError) → error ≡ BadArgument
-    → IsErrOf {T = Request} {E = RequestError} (Err error) BadArgument
-bad_error error is = subst (λ e. IsErrOf {T = Request} {E = RequestError} (Err e) BadArgument) (sym is) refl
+pub bad_error : (error : RequestError) (wrong : Option WrongArgument) → error ≡ BadArgument wrong
+    → IsErrOf {T = Request} {E = RequestError} (Err error) (BadArgument wrong)
+bad_error error wrong is =
+    subst (λ e. IsErrOf {T = Request} {E = RequestError} (Err e) (BadArgument wrong)) (sym is) refl

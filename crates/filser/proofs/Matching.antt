@@ -2,30 +2,31 @@
 use Rattle.std.proofs.Common.{◌≡◌, ◌+◌, ◌*◌, ◌≤◌, ◌<◌, ◌^◌, ◌∙◌, sym, ap, subst, refl, List, ℕ, map, codes, Option}
 use Rattle.std.proofs.Common.{Some, None}
 use Rattle.std.proofs.Common.{Err, arith, true, inl, inr}
-use Rattle.std.specs.Prelude.{[], slice_index, option_map, MatchOption, IsErrOf}
+use Rattle.std.specs.Prelude.{[], slice_index, option_map, IfSome, IfNone, MatchOption, IsErrOf}
 use Rattle.std.specs.Str.Parse.{IsNumeral, digits_value, without_leading_plus}
 use Rattle.clap.specs.Words.{Text, Row, App, one_of, first_value, one_text, rows_of, is_simple, kind_of, fault_of}
 use Rattle.clap.specs.Words.{is_simple_and_free, HasKind, IsAmong, HasMatchesOf, subcommand_of, subcommand_rows_of}
 use Rattle.clap.specs.declared.parser.matches.ArgMatches.{ArgMatches}
 use Rattle.clap.specs.declared.parser.matches.Found.{Found}
 use Rattle.clap.specs.declared.error.Error.{Error}
-use Rattle.clap.specs.declared.error.kind.ErrorKind.TheVariants.{OutOfMemory}
+use Rattle.clap.specs.declared.error.kind.ErrorKind.TheVariants.{OutOfMemory, ValueValidation}
 use Rattle.clap.proofs.OnLiterals.{clap_on_literals}
 use Rattle.clap.proofs.WalkLemmas.{first_value-rows, one_text-rows}
 use Rattle.words36.specs.declared.moment.Moment.{Moment}
 use Rattle.imagefile.specs.declared.form.Form.{Form}
 use Rattle.meaning.specs.Lines.{upper}
-use Rattle.meaning.specs.Spellings.{IsPair}
-use Rattle.commands.specs.Files.{IsFileName}
+use Rattle.commands.specs.DayTexts.{IsDayText}
+use Rattle.commands.specs.Files.{IsFileName, IsOwnerName}
 use Rattle.arguments.specs.CommandLine.{command_line, serving, filing, looking, init_app, run_app, calls_app, put_app}
 use Rattle.arguments.specs.CommandLine.{get_app, list_app, check_app, convert_app, converting, dated, filed, formed}
 use Rattle.arguments.specs.CommandLine.{sized}
 use Rattle.filser.specs.Requests.{Asks, IsAsked, IsTask, IsAt, IsNamedFile, IsListedPlace, HasForm, HasText, HasNumber}
-use Rattle.filser.specs.Requests.{Spells, task_name}
+use Rattle.filser.specs.Requests.{HasDate, IsDateNumber, IsMistaken, IsUsage, NamesNoDate, SaysDate, Spells, task_name}
 use Rattle.filser.specs.declared.task.NamedFile.{NamedFile}
 use Rattle.filser.specs.declared.task.Task.{Task}
 use Rattle.filser.specs.declared.task.Task.TheVariants.{Run, Calls, Put, Get, List as ListAll, Check}
 use Rattle.filser.specs.declared.error.RequestError.{RequestError}
+use Rattle.filser.specs.declared.error.WrongArgument.{WrongArgument}
 use Rattle.filser.specs.declared.error.RequestError.TheVariants.{Usage}
 use Rattle.filser.specs.declared.asked.Request.{Request}
 use Rattle.filser.specs.declared.asked.Request.TheVariants.{Fresh, Init, Work, Convert}
@@ -113,10 +114,10 @@ out_of_range rows id least most m parsed outside n has =
 -- Arguments that name a file, a directory or a moment, and don't.
 
 pub no_owner : (rows : List Row) (text : Text) → HasText rows (codes "PPN") text
-    → ((owner : ℕ) → IsPair 6 text owner → ⊥) → (f : NamedFile) → IsNamedFile rows f → ⊥
+    → ((owner : ℕ) → IsOwnerName text owner → ⊥) → (f : NamedFile) → IsNamedFile rows f → ⊥
 no_owner rows text has none f named =
     let same = same_some named.owner.0 text (sym named.owner.1 ∙ has) in
-    none f.owner (subst (λ (t : Text). IsPair 6 t f.owner) same named.owner.2)
+    none f.owner (subst (λ (t : Text). IsOwnerName t f.owner) same named.owner.2)
 
 pub no_name : (rows : List Row) (text : Text) → HasText rows (codes "NAME") text
     → ((name ext : ℕ) → IsFileName (map upper text) name ext → ⊥) → (f : NamedFile) → IsNamedFile rows f → ⊥
@@ -126,14 +127,13 @@ no_name rows text has none f named =
     named.name.2)
 
 pub no_place : (rows : List Row) (text : Text) → HasText rows (codes "PPN") text
-    → ((owner : ℕ) → IsPair 6 text owner → ⊥) → (place : Option ℕ) → IsListedPlace rows place → ⊥
+    → ((owner : ℕ) → IsOwnerName text owner → ⊥) → (place : Option ℕ) → IsListedPlace rows place → ⊥
 no_place rows text has none None gone = some_is_none text (sym has ∙ gone)
 no_place rows text has none (Some owner) named =
     let same = same_some named.0 text (sym named.1 ∙ has) in
-    none owner (subst (λ (t : Text). IsPair 6 t owner) same named.2)
+    none owner (subst (λ (t : Text). IsOwnerName t owner) same named.2)
 
-pub no_date : (rows : List Row) → ((n : ℕ) → HasNumber rows (codes "date") 0 32767 n → ⊥) → (at : Moment)
-    → IsAt rows at → ⊥
+pub no_date : (rows : List Row) → ((n : ℕ) → HasDate rows n → ⊥) → (at : Moment) → IsAt rows at → ⊥
 no_date rows none at is = none at.date is.0
 
 pub no_minute : (rows : List Row) → ((n : ℕ) → HasNumber rows (codes "minute") 0 1439 n → ⊥) → (at : Moment)
@@ -286,14 +286,14 @@ no_get name rows is none Check asked = other_task name (codes "get") Check 305 r
 
 -- Where `clap` answers, for any app that is the command line.
 
-same_error : (x y : RequestError) → IsErrOf {T = Request} {E = RequestError} (Err x) y → x ≡ y
+pub same_error : (x y : RequestError) → IsErrOf {T = Request} {E = RequestError} (Err x) y → x ≡ y
 same_error x y e = cc
 
 pub of_usage : (app : App) (words : List Text) (error e : Error) (refused : RequestError) → app ≡ command_line
     → (is_simple_and_free app ≡ true → HasKind (fault_of app words) error)
     → ((u : Error) → refused ≡ Usage u → (error ≡ u) × (kind_of error ≡ OutOfMemory → ⊥))
     → IsErrOf {T = Request} {E = RequestError} (Err refused) (Usage e)
-    → IsAmong (kind_of e) (fault_of command_line words)
+    → IsUsage (fault_of command_line words) (subcommand_of command_line words) e
 of_usage app words error e refused is fails shows same =
     let free : is_simple_and_free app ≡ true = ap is_simple_and_free is ∙ line-free in
     let kept = shows e (same_error refused (Usage e) same) in
@@ -304,7 +304,7 @@ of_usage app words error e refused is fails shows same =
       | inl memory ↦ absurd (kept.1 memory)
       | inr found ↦ found
     ] in
-    subst Q kept.0 (subst P is among)
+    inl (subst Q kept.0 (subst P is among))
 
 pub of_taken : (app : App) (words : List Text) → app ≡ command_line
     → (is_simple_and_free app ≡ true → fault_of app words ≡ []) → fault_of command_line words ≡ []
@@ -328,3 +328,42 @@ pub of_none : (app : App) (words : List Text) (m : ArgMatches) → app ≡ comma
 of_none app words m is has none r asks =
     let P : Option (Text × List Row) → Type 0 = λ found. Asks found r in
     none r (subst P (sym (of_matches app words m is has)) asks)
+
+-- Why they ask for nothing.
+
+pub of_bad : (app : App) (words : List Text) (m : ArgMatches) (wrong : Option WrongArgument) → app ≡ command_line
+    → HasMatchesOf app words m → IsMistaken (subcommand_rows_of m) wrong
+    → IsMistaken (subcommand_of command_line words) wrong
+of_bad app words m wrong is has mistaken =
+    let P : Option (Text × List Row) → Type 0 = λ found. IsMistaken found wrong in
+    subst P (of_matches app words m is has) mistaken
+
+pub of_past : (app : App) (words : List Text) (m : ArgMatches) (refused : RequestError) (e : Error)
+    → app ≡ command_line → HasMatchesOf app words m → fault_of command_line words ≡ []
+    → ((u : Error) → refused ≡ Usage u → (kind_of u ≡ ValueValidation) × NamesNoDate (subcommand_rows_of m))
+    → ((r : Request) → Asks (subcommand_rows_of m) r → ⊥)
+    → IsErrOf {T = Request} {E = RequestError} (Err refused) (Usage e)
+    → IsUsage (fault_of command_line words) (subcommand_of command_line words) e
+of_past app words m refused e is has taken shows none same =
+    let past = shows e (same_error refused (Usage e) same) in
+    let P : Option (Text × List Row) → Type 0 = NamesNoDate in
+    inr (taken, past.0, subst P (of_matches app words m is has) past.1, of_none app words m is has none)
+
+-- Dates.
+
+pub says_day : (found : Option ℕ) (text bytes : Text) → bytes ≡ text → IfSome found (IsDayText bytes)
+    → IfNone found ((n : ℕ) → IsDayText bytes n → ⊥) → ((n : ℕ) → IsDateNumber text n → ⊥)
+    → MatchOption found ((n : ℕ) → SaysDate text n → ⊥) (SaysDate text)
+says_day (Some n) text bytes same some none other = inr (subst (λ (t : Text). IsDayText t n) same some)
+says_day None text bytes same some none other = λ n says. elim says [
+  | inl number ↦ other n number
+  | inr day ↦ none n (subst (λ (t : Text). IsDayText t n) (sym same) day)
+]
+
+pub has_date : (rows : List Row) (text : Text) (found : Option ℕ) → HasText rows (codes "date") text
+    → MatchOption found ((n : ℕ) → SaysDate text n → ⊥) (SaysDate text)
+    → MatchOption found ((n : ℕ) → HasDate rows n → ⊥) (HasDate rows)
+has_date rows text (Some n) has says = (text, has, says)
+has_date rows text None has none = λ n h.
+    let same : h.0 ≡ text = same_some h.0 text (sym h.1 ∙ has) in
+    none n (subst (λ (t : Text). SaysDate t n) same h.2)

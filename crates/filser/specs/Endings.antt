@@ -15,7 +15,7 @@ AsksForHelp kind = (kind ≡ DisplayHelp) ⊎ (kind ≡ DisplayVersion)
 abbrev pub EndsUnasked : RequestError → Status → Type 0
 EndsUnasked (Usage e) s = (AsksForHelp (kind_of e) → (s ≡ Done) ⊎ (s ≡ Fault))
     × ((AsksForHelp (kind_of e) → ⊥) → s ≡ BadArguments)
-EndsUnasked BadArgument s = s ≡ BadArguments
+EndsUnasked (BadArgument wrong) s = s ≡ BadArguments
 EndsUnasked NoMemory s = s ≡ Fault
 
 -- the words are refused, and not for being a question

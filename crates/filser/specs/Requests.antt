@@ -1,18 +1,22 @@
 -- What is asked for, by the subcommand that `clap` matched and what it found there.
-use Rattle.std.specs.Prelude.{◌≡◌, ◌≤◌, ◌↔◌, ℕ, List, map, Option, Some, None, codes}
+use Rattle.std.specs.Prelude.{◌≡◌, ◌≤◌, ◌↔◌, ◌⊎◌, [], ℕ, List, map, Option, Some, None, codes}
 use Rattle.std.specs.Str.Parse.{IsNumeral, digits_value, without_leading_plus}
-use Rattle.clap.specs.Words.{Row, Text, first_of, one_of}
+use Rattle.clap.specs.Words.{IsAmong, Kinds, Row, Text, first_of, kind_of, one_of}
+use Rattle.clap.specs.declared.error.Error.{Error}
+use Rattle.clap.specs.declared.error.kind.ErrorKind.TheVariants.{ValueValidation}
 use Rattle.words36.specs.declared.moment.Moment.{Moment}
 use Rattle.meaning.specs.Lines.{upper}
-use Rattle.meaning.specs.Spellings.{IsPair}
 use Rattle.imagefile.specs.declared.form.Form.{Form}
 use Rattle.imagefile.specs.declared.form.Form.TheVariants.{Wide, Packed}
 use Rattle.meaning.specs.declared.encoding.Encoding.TheVariants.{Words}
 use Rattle.meaning.specs.declared.style.Style.{Style}
 use Rattle.meaning.specs.declared.style.Style.TheVariants.{Table}
-use Rattle.commands.specs.Files.{IsFileName}
+use Rattle.commands.specs.DayTexts.{IsDayText}
+use Rattle.commands.specs.Files.{IsFileName, IsOwnerName}
 use Rattle.filser.specs.declared.asked.Request.{Request}
 use Rattle.filser.specs.declared.asked.Request.TheVariants.{Fresh, Init, Work, Convert}
+use Rattle.filser.specs.declared.error.WrongArgument.{WrongArgument}
+use Rattle.filser.specs.declared.error.WrongArgument.TheVariants.{Owner, Name, Date}
 use Rattle.filser.specs.declared.task.NamedFile.{NamedFile}
 use Rattle.filser.specs.declared.task.Task.{Task}
 use Rattle.filser.specs.declared.task.Task.TheVariants.{Run, Calls, Put, Get, List as ListAll, Check}
@@ -32,7 +36,7 @@ HasNumber rows id least most n = ((text : Text) × (one_of id rows ≡ Some text
 
 -- the owner that an argument spells, and the file
 abbrev pub HasOwner : List Row → ℕ → Type 0
-HasOwner rows owner = (text : Text) × HasText rows (codes "PPN") text × IsPair 6 text owner
+HasOwner rows owner = (text : Text) × HasText rows (codes "PPN") text × IsOwnerName text owner
 
 abbrev pub HasFileName : List Row → ℕ → ℕ → Type 0
 HasFileName rows name ext = (text : Text) × HasText rows (codes "NAME") text × IsFileName (map upper text) name ext
@@ -61,9 +65,19 @@ task_name (Get file at) = codes "get"
 task_name (ListAll place style) = codes "list"
 task_name Check = codes "check"
 
+-- a text says a date: by its number, or as the text of a day
+abbrev pub IsDateNumber : Text → ℕ → Type 0
+IsDateNumber text n = Spells text n × (n ≤ 32767)
+
+abbrev pub SaysDate : Text → ℕ → Type 0
+SaysDate text n = IsDateNumber text n ⊎ IsDayText text n
+
+abbrev pub HasDate : List Row → ℕ → Type 0
+HasDate rows n = (text : Text) × HasText rows (codes "date") text × SaysDate text n
+
 -- the date and the minute that are given
 abbrev pub IsAt : List Row → Moment → Type 0
-IsAt rows at = HasNumber rows (codes "date") 0 32767 at.date × HasNumber rows (codes "minute") 0 1439 at.minute
+IsAt rows at = HasDate rows at.date × HasNumber rows (codes "minute") 0 1439 at.minute
 
 -- what is found with it
 abbrev pub HasTask : List Row → Task → Type 0
@@ -103,6 +117,51 @@ Asks None (Init image blocks form) = ⊥
 Asks None (Work image form task) = ⊥
 Asks None (Convert image new form) = ⊥
 Asks (Some found) request = IsAsked found.0 found.1 request
+
+-- Why nothing is asked for.
+
+-- an argument that isn't what it should be, with its text
+abbrev pub IsWrong : List Row → WrongArgument → Type 0
+IsWrong rows (Owner text) = HasText rows (codes "PPN") text.now × ((owner : ℕ) → IsOwnerName text.now owner → ⊥)
+IsWrong rows (Name text) =
+    HasText rows (codes "NAME") text.now × ((name ext : ℕ) → IsFileName (map upper text.now) name ext → ⊥)
+IsWrong rows (Date text) = HasText rows (codes "date") text.now × ((n : ℕ) → SaysDate text.now n → ⊥)
+
+-- the arguments that are what they should be, if they are given
+abbrev pub NamesOwner : List Row → Type 0
+NamesOwner rows = (text : Text) → HasText rows (codes "PPN") text → (owner : ℕ) × IsOwnerName text owner
+
+abbrev pub NamesFile : List Row → Type 0
+NamesFile rows =
+    (text : Text) → HasText rows (codes "NAME") text → (name : ℕ) × (ext : ℕ) × IsFileName (map upper text) name ext
+
+abbrev pub NamesDate : List Row → Type 0
+NamesDate rows = (text : Text) → HasText rows (codes "date") text → (n : ℕ) × SaysDate text n
+
+-- the argument at fault; or it is another one, and these are what they should be
+abbrev pub IsFaultIn : List Row → Option WrongArgument → Type 0
+IsFaultIn rows None = NamesOwner rows × NamesFile rows × NamesDate rows
+IsFaultIn rows (Some wrong) = IsWrong rows wrong
+
+abbrev pub IsMistaken : Option (Text × List Row) → Option WrongArgument → Type 0
+IsMistaken None None = Unit
+IsMistaken None (Some wrong) = ⊥
+IsMistaken (Some found) wrong = IsFaultIn found.1 wrong
+
+-- a text is given for a date, and says none
+abbrev pub LacksDate : List Row → Type 0
+LacksDate rows = (text : Text) × HasText rows (codes "date") text × ((n : ℕ) → SaysDate text n → ⊥)
+
+abbrev pub NamesNoDate : Option (Text × List Row) → Type 0
+NamesNoDate None = ⊥
+NamesNoDate (Some found) = LacksDate found.1
+
+-- `clap` refuses the words, or shows what they ask for; or they ask for nothing, since the date is a number past all
+-- dates
+abbrev pub IsUsage : Kinds → Option (Text × List Row) → Error → Type 0
+IsUsage kinds found e = IsAmong (kind_of e) kinds
+    ⊎ ((kinds ≡ []) × (kind_of e ≡ ValueValidation) × NamesNoDate found
+    × ((request : Request) → Asks found request → ⊥))
 
 -- the numbers are in their ranges
 abbrev pub InRange : Request → Type 0

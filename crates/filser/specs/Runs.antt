@@ -1,12 +1,12 @@
 -- What a run comes to: the reader had `source` and has `left`, the writer held `sink` and holds `full`.
 use Rattle.std.specs.Prelude.{◌≡◌, ◌⊎◌, ℕ, List, Option, Some, None as Nothing}
-use Rattle.clap.specs.Words.{Kinds, IsAmong, kind_of, Row, Text}
+use Rattle.clap.specs.Words.{Kinds, kind_of, Row, Text}
 use Rattle.imagefile.specs.Unseen.{Unseen}
 use Rattle.filser.specs.Denials.{IsExplained, of_host}
 use Rattle.filser.specs.Endings.{AsksForHelp, EndsUnasked}
 use Rattle.filser.specs.Hosts.{HostFacts}
 use Rattle.filser.specs.Images.{IsOnBoth, IsOnFresh, IsOnImage, IsOnNew}
-use Rattle.filser.specs.Requests.{Asks, image_named}
+use Rattle.filser.specs.Requests.{Asks, IsMistaken, IsUsage, image_named}
 use Rattle.filser.specs.Streams.{AreNeeded, IsStreamAt}
 use Rattle.filser.specs.Views.{Views}
 use Rattle.filser.specs.declared.asked.Request.{Request}
@@ -14,6 +14,7 @@ use Rattle.filser.specs.declared.asked.Request.TheVariants.{Fresh, Init, Work, C
 use Rattle.filser.specs.declared.disks.Disks.{Disks}
 use Rattle.filser.specs.declared.disks.Disks.TheVariants.{Unasked}
 use Rattle.filser.specs.declared.error.RequestError.{RequestError}
+use Rattle.filser.specs.declared.error.WrongArgument.{WrongArgument}
 use Rattle.filser.specs.declared.error.RequestError.TheVariants.{Usage, BadArgument, NoMemory}
 use Rattle.filser.specs.declared.fault.HostFault.{HostFault}
 use Rattle.filser.specs.declared.status.Status.{Status}
@@ -83,17 +84,19 @@ IsHandled facts views missing things request source left sink full status =
     ⊎ IsTurnedAway facts missing things request source left sink full status
 
 -- what is printed if the words ask for nothing that is done: the text that was asked of `clap`, or nothing
-abbrev pub PrintsOnly : Kinds → RequestError → Option (List ℕ) → Option (List ℕ) → Type 0
-PrintsOnly kinds (Usage e) sink full = IsAmong (kind_of e) kinds × ((AsksForHelp (kind_of e) → ⊥) → full ≡ sink)
-PrintsOnly kinds BadArgument sink full = full ≡ sink
-PrintsOnly kinds NoMemory sink full = full ≡ sink
+abbrev pub PrintsOnly : Kinds → Option (Text × List Row) → RequestError → Option (List ℕ) → Option (List ℕ) → Type 0
+PrintsOnly kinds found (Usage e) sink full =
+    IsUsage kinds found e × ((AsksForHelp (kind_of e) → ⊥) → full ≡ sink)
+PrintsOnly kinds found (BadArgument wrong) sink full = IsMistaken found wrong × (full ≡ sink)
+PrintsOnly kinds found NoMemory sink full = full ≡ sink
 
 -- The words ask for nothing that is done.
 abbrev pub IsUnasked : {L N M F D I : Type 0} → Kinds → Option (Text × List Row) → Things L N M F D I
     → Option (List ℕ) → Option (List ℕ) → Option (List ℕ) → Option (List ℕ) → Status → Type 0
 IsUnasked kinds found things source left sink full status =
     (error : RequestError) × (left ≡ source) × AreUntouched things × EndsUnasked error status
-    × PrintsOnly kinds error sink full × (error ≡ BadArgument → (request : Request) → Asks found request → ⊥)
+    × PrintsOnly kinds found error sink full
+    × ((wrong : Option WrongArgument) → error ≡ BadArgument wrong → (request : Request) → Asks found request → ⊥)
 
 -- A whole run, by the words of its command line.
 pub record WasRun {H L N M F D I : Type 0} (facts : HostFacts H) (views : Views M F D I) (missing : MissingStreams)

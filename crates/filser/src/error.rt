@@ -1,15 +1,29 @@
 use clap::Error as ClapError;
 use thiserror::Error;
 
+/// An argument that isn't what it should be, with its text.
+#[derive(Clone, Copy, Debug, PartialEq, Eq, Error)]
+pub enum WrongArgument<'a> {
+    /// The directory.
+    #[error("PPN {0}: two octal numbers of 1 to 6 digits, neither of them zero, as 10,20 or [10,20]")]
+    Owner(&'a str),
+    /// The file.
+    #[error("NAME {0}: 1 to 6 letters and digits, and at most 3 more after a full stop, as FOO.TXT")]
+    Name(&'a str),
+    /// The date.
+    #[error("--date {0}: a day from 1964-01-01 to 2052-02-01, as 1975-01-04 or 4-Jan-1975, or its number")]
+    Date(&'a str),
+}
+
 /// Why the words of a command line ask for nothing that is done.
 #[derive(Debug, Drop, Error)]
-pub enum RequestError {
+pub enum RequestError<'a> {
     /// They are refused, or ask for help or the version: `clap` has the text and the kind.
     #[error(transparent)]
     Usage(ClapError),
-    /// They are taken, and an argument is none of those that it should be.
+    /// They are taken, and this argument isn't what it should be.
     #[error("bad argument")]
-    BadArgument,
+    BadArgument(Option<WrongArgument<'a>>),
     /// A growth was refused.
     #[error("out of memory")]
     NoMemory,

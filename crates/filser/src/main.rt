@@ -38,6 +38,7 @@ mod outcome;
 mod program;
 mod progress;
 mod reading;
+mod reasons;
 mod refusal;
 mod seen;
 mod serving;
@@ -47,7 +48,7 @@ mod task;
 
 pub use asked::Request;
 pub use disks::Disks;
-pub use error::RequestError;
+pub use error::{RequestError, WrongArgument};
 pub use fault::{HostFault, ImageFault};
 pub use host::{Access, Host, MakingLeave, NewFile, OpeningLeave, RemovalRight, SystemHost};
 pub use identity::FileId;
@@ -74,7 +75,7 @@ fn main(rt: HostRuntime) -> ExitCode {
             Status::Fault.code(),
         ),
         Err(_) => {
-            let _ = eprintln!(rt; "?Bad argument");
+            let _ = eprintln!(rt; "?Bad argument\nfilser: an argument isn't UTF-8");
             ExitCode::from(Status::BadArguments.code())
         }
     }

@@ -15,6 +15,7 @@ ghost use Rattle.filser.specs.Statuses.{status_code};
 ghost use Rattle.filser.specs.Streams.{IsStreamAt};
 ghost use Rattle.filser.specs.declared.disks.Disks.TheVariants.{Unasked};
 ghost use Rattle.filser.specs.declared.asked.Request.{Request as Asked};
+ghost use Rattle.filser.specs.declared.error.WrongArgument.{WrongArgument as WrongArguments};
 ghost use Rattle.filser.specs.declared.error.RequestError.TheVariants.{BadArgument, NoMemory, Usage};
 ghost use Rattle.filser.specs.declared.status.Status.{Status as Statuses};
 ghost use Rattle.filser.specs.declared.status.Status.TheVariants.{Done, BadArguments, Fault};
@@ -38,8 +39,9 @@ use std::io::{self, Read, Write};
 
 /// A whole run of the program: reads the words, the first of which is its name, does what they ask for over the files of
 /// the host, and answers the exit status, 0 to 4, with what is left of the images. Texts go to `writer`. To `errors` go
-/// those on wrong arguments, why the host didn't give what was asked of an image, and the line that the input broke off
-/// in; and, if `telling` says so, how far a conversion is.
+/// those on wrong arguments, why the host didn't give what was asked of an image, that the date is past what a volume
+/// has, which lines of the input were refused, why it can't be a file, and the line that it broke off in; and, if
+/// `telling` says so, how far a conversion is.
 ///
 /// Where several faults stand, the first of these is met: the arguments, a new file that is there, a file
 /// that can't be opened or made or that another process has, its size, the start, the input.
@@ -232,7 +234,7 @@ fn perform<H: Host, R: Read, W: Write, E: Write>(
         result.status }
 {
     match *asked {
-        Request::Fresh => on_memory(serve_fresh(alloc, reader, writer), leaves),
+        Request::Fresh => on_memory(serve_fresh(alloc, reader, writer, errors), leaves),
         Request::Init(path, blocks, form) => {
             let made = init_image(host, path, form, blocks, leaves.new, writer, errors);
             on_new(made, leaves.image)
@@ -350,17 +352,20 @@ pub(crate) fn refuse_image<W: Write, E: Write>(
 }
 
 /// Says why the words ask for nothing that is done.
-fn refuse<W: Write, E: Write>(error: &RequestError, writer: &mut W, errors: &mut E) -> Status
+fn refuse<W: Write, E: Write>(error: &RequestError<'_>, writer: &mut W, errors: &mut E) -> Status
     ensures ends { EndsUnasked error.now result }
-    ensures unprinted { (error.now ≡ BadArgument) ⊎ (error.now ≡ NoMemory)
+    ensures unprinted { ((wrong : Option WrongArguments) × (error.now ≡ BadArgument wrong)) ⊎ (error.now ≡ NoMemory)
         → W.contents writer.new ≡ W.contents writer.old }
     ensures mistake { (usage : Errors) → error.now ≡ Usage usage → (AsksForHelp (kind_of usage) → ⊥)
         → W.contents writer.new ≡ W.contents writer.old }
 {
     match error {
         RequestError::Usage(usage) => show(usage, writer, errors),
-        RequestError::BadArgument => {
+        RequestError::BadArgument(wrong) => {
             let _ = writeln!(errors, "?Bad argument");
+            if let Some(wrong) = wrong {
+                let _ = writeln!(errors, "filser: {wrong}");
+            }
             Status::BadArguments
         }
         RequestError::NoMemory => Status::Fault,

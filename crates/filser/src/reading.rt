@@ -1,13 +1,14 @@
 ghost use Rattle.std.specs.Prelude.{◌≡◌, ◌≤◌, List, ℕ, [], map, codes, IfOk, MatchOption, option_map, IsErrOf, Err};
-ghost use Rattle.std.specs.Prelude.{◌↔◌, Some, Option};
+ghost use Rattle.std.specs.Prelude.{◌↔◌, Some, Option, IfSome, IfNone};
 ghost use Rattle.clap.specs.Words.{Row, found_of, rows_of, first_of, subcommand_of, subcommand_rows_of, fault_of};
-ghost use Rattle.clap.specs.Words.{kind_of, IsAmong};
+ghost use Rattle.clap.specs.Words.{kind_of};
 ghost use Rattle.clap.specs.declared.error.Error.{Error as ClapError};
 ghost use Rattle.clap.specs.declared.error.kind.ErrorKind.TheVariants.{OutOfMemory};
 ghost use Rattle.arguments.specs.CommandLine.{command_line};
 ghost use Rattle.filser.specs.Requests.{Asks, IsAsked, IsAt, IsNamedFile};
 ghost use Rattle.filser.specs.Requests.{IsListedPlace, IsStyle, IsTask, HasForm, HasText};
-ghost use Rattle.filser.specs.Requests.{HasNumber};
+ghost use Rattle.filser.specs.Requests.{HasDate, HasNumber, IsFaultIn, IsMistaken, IsUsage, IsWrong, NamesDate};
+ghost use Rattle.filser.specs.Requests.{IsDateNumber, LacksDate, NamesFile, NamesNoDate, NamesOwner, SaysDate};
 ghost use Rattle.filser.specs.Requests.{InRange};
 ghost use Rattle.words36.specs.declared.moment.Moment.{Moment as Moments};
 ghost use Rattle.imagefile.specs.declared.form.Form.{Form as Forms};
@@ -16,29 +17,40 @@ ghost use Rattle.filser.specs.declared.task.Task.{Task as Tasks};
 ghost use Rattle.meaning.specs.declared.encoding.Encoding.TheVariants.{Words};
 ghost use Rattle.filser.specs.declared.asked.Request.{Request as Asked};
 ghost use Rattle.filser.specs.declared.error.RequestError.TheVariants.{Usage, BadArgument};
+ghost use Rattle.filser.specs.declared.error.WrongArgument.{WrongArgument as WrongArguments};
+ghost use Rattle.filser.specs.declared.error.WrongArgument.TheVariants as wrong;
+ghost use Rattle.clap.specs.declared.error.kind.ErrorKind.TheVariants.{ValueValidation};
 
-use crate::{NamedFile, Request, RequestError, Task};
+use crate::{NamedFile, Request, RequestError, Task, WrongArgument};
 use arguments::command_line;
 use clap::error::ErrorKind;
 use clap::{ArgMatches, Error};
-use commands::{Encoding, Style, file_named, owner_named};
+use commands::{Encoding, Style, date_named, file_named, owner_named};
 use imagefile::Form;
-use std::alloc::Global;
+use std::alloc::{AllocError, Global};
+use std::num::IntErrorKind;
 use words36::{Moment, Ppn};
+
+/// The last date of the calendar, of fifteen bits.
+const LAST_DATE: u32 = 32767;
 
 /// What the words of a command line ask for; the first is the program's name. Numbers are decimal.
 ///
 /// # Errors
 ///
 /// `Usage` where `clap` refuses the words, or is asked for help or the version; `BadArgument` where it
-/// takes them and they ask for nothing; `NoMemory` where a growth was refused.
-pub fn request<'a>(alloc: Global, words: &'a [&'a str]) -> Result<Request<'a>, RequestError>
+/// takes them and they ask for nothing, with the argument that is at fault; `NoMemory` where a growth was refused.
+/// A date is a text for `clap`, and a number past the last date is `Usage` all the same.
+pub fn request<'a>(alloc: Global, words: &'a [&'a str]) -> Result<Request<'a>, RequestError<'a>>
     ensures asked { IfOk result (λ r. Asks (subcommand_of command_line (map (λ w. w.now) words.entry.now)) r) }
     ensures range { IfOk result InRange }
     ensures taken { IfOk result (λ _. fault_of command_line (map (λ w. w.now) words.entry.now) ≡ []) }
     ensures usage { (e : ClapError) → IsErrOf result (Usage e)
-        → IsAmong (kind_of e) (fault_of command_line (map (λ w. w.now) words.entry.now)) }
-    ensures bad { IsErrOf result BadArgument → (fault_of command_line (map (λ w. w.now) words.entry.now) ≡ [])
+        → IsUsage (fault_of command_line (map (λ w. w.now) words.entry.now))
+        (subcommand_of command_line (map (λ w. w.now) words.entry.now)) e }
+    ensures bad { (wrong : Option WrongArguments) → IsErrOf result (BadArgument wrong)
+        → (fault_of command_line (map (λ w. w.now) words.entry.now) ≡ [])
+        × IsMistaken (subcommand_of command_line (map (λ w. w.now) words.entry.now)) wrong
         × ((r : Asked) → Asks (subcommand_of command_line (map (λ w. w.now) words.entry.now)) r → ⊥) }
 {
     let Ok(command) = command_line(alloc) else {
@@ -50,14 +62,14 @@ pub fn request<'a>(alloc: Global, words: &'a [&'a str]) -> Result<Request<'a>, R
     };
     match matched(&matches) {
         Some(request) => Ok(request),
-        None => Err(RequestError::BadArgument),
+        None => Err(unmatched(alloc, &matches)),
     }
 }
 
 /// The refusal of `clap`, where it isn't want of memory.
-fn refusal(error: Error) -> RequestError
+fn refusal<'a>(error: Error) -> RequestError<'a>
     ensures usage { (e : ClapError) → result ≡ Usage e → (error ≡ e) × (kind_of error ≡ OutOfMemory → ⊥) }
-    ensures never { result ≡ BadArgument → ⊥ }
+    ensures never { (wrong : Option WrongArguments) → result ≡ BadArgument wrong → ⊥ }
 {
     match error.kind() {
         ErrorKind::OutOfMemory => RequestError::NoMemory,
@@ -122,9 +134,38 @@ fn moment(matches: &ArgMatches) -> Option<Moment>
     ensures { MatchOption result ((at : Moments) → IsAt (rows_of (found_of matches.now)) at → ⊥)
         (IsAt (rows_of (found_of matches.now))) }
 {
-    let date = number(matches, "date", 0, 32767)?;
+    let date = date(matches)?;
     let minute = number(matches, "minute", 0, 1439)?;
     Moment::new(date, minute).ok()
+}
+
+/// The date of what is written.
+fn date(matches: &ArgMatches) -> Option<u32>
+    ensures { MatchOption result ((n : ℕ) → HasDate (rows_of (found_of matches.now)) n → ⊥)
+        (HasDate (rows_of (found_of matches.now))) }
+{
+    date_of_text(text(matches, "date")?)
+}
+
+/// The date that a text says: a number, or the text of a day.
+fn date_of_text(text: &str) -> Option<u32>
+    ensures { MatchOption result ((n : ℕ) → SaysDate text.now n → ⊥) (SaysDate text.now) }
+{
+    match date_number(text) {
+        Some(number) => Some(number),
+        None => date_named(text.as_bytes()),
+    }
+}
+
+/// The number of a date.
+fn date_number(text: &str) -> Option<u32>
+    ensures { MatchOption result ((n : ℕ) → IsDateNumber text.now n → ⊥) (IsDateNumber text.now) }
+{
+    match text.parse::<u32>() {
+        Ok(number) if number <= LAST_DATE => Some(number),
+        Ok(_) => None,
+        Err(_) => None,
+    }
 }
 
 /// The directory that is to be listed, or none for all of them.
@@ -135,6 +176,108 @@ fn place(matches: &ArgMatches) -> Option<Option<Ppn>>
     match text(matches, "PPN") {
         Some(text) => Some(Some(owner_named(text.as_bytes())?)),
         None => Some(None),
+    }
+}
+
+/// The text of the directory, if it is none.
+fn wrong_owner<'a>(matches: &ArgMatches<'a>) -> Option<&'a str>
+    ensures some { IfSome result (λ text. IsWrong (rows_of (found_of matches.now)) (wrong.Owner text)) }
+    ensures none { IfNone result (NamesOwner (rows_of (found_of matches.now))) }
+{
+    let text = text(matches, "PPN")?;
+    match owner_named(text.as_bytes()) {
+        Some(_) => None,
+        None => Some(text),
+    }
+}
+
+/// The text of the file, if it is none.
+fn wrong_name<'a>(matches: &ArgMatches<'a>) -> Option<&'a str>
+    ensures some { IfSome result (λ text. IsWrong (rows_of (found_of matches.now)) (wrong.Name text)) }
+    ensures none { IfNone result (NamesFile (rows_of (found_of matches.now))) }
+{
+    let text = text(matches, "NAME")?;
+    match file_named(text.as_bytes()) {
+        Some(_) => None,
+        None => Some(text),
+    }
+}
+
+/// The text of the date, if it is none.
+fn wrong_date<'a>(matches: &ArgMatches<'a>) -> Option<&'a str>
+    ensures some { IfSome result (λ text. IsWrong (rows_of (found_of matches.now)) (wrong.Date text)) }
+    ensures none { IfNone result (NamesDate (rows_of (found_of matches.now))) }
+{
+    let text = text(matches, "date")?;
+    match date_of_text(text) {
+        Some(_) => None,
+        None => Some(text),
+    }
+}
+
+/// The first argument that isn't what it should be.
+fn wrong_argument<'a>(matches: &ArgMatches<'a>) -> Option<WrongArgument<'a>>
+    ensures { IsFaultIn (rows_of (found_of matches.now)) result }
+{
+    if let Some(text) = wrong_owner(matches) {
+        return Some(WrongArgument::Owner(text));
+    }
+    if let Some(text) = wrong_name(matches) {
+        return Some(WrongArgument::Name(text));
+    }
+    if let Some(text) = wrong_date(matches) {
+        return Some(WrongArgument::Date(text));
+    }
+    None
+}
+
+/// Whether a text is a number, which may be larger than any that is taken.
+fn is_number(text: &str) -> bool {
+    match text.parse::<u32>() {
+        Ok(_) => true,
+        Err(error) => *error.kind() == IntErrorKind::PosOverflow,
+    }
+}
+
+/// The refusal of a number that is past the last date.
+fn past_dates(alloc: Global, text: &str) -> Result<Error, AllocError>
+    ensures { IfOk result (λ error. kind_of error ≡ ValueValidation) }
+{
+    let message = format!(in alloc;
+        "invalid value '{text}' for '--date <DATE>': {text} is not in 0..={LAST_DATE}"
+    )?;
+    let mut command = command_line(alloc)?;
+    command.error(ErrorKind::ValueValidation, message.as_str())
+}
+
+/// Why the matches of a subcommand ask for nothing.
+fn fault_in<'a>(alloc: Global, matches: &ArgMatches<'a>) -> RequestError<'a>
+    ensures usage { (e : ClapError) → result ≡ Usage e → (kind_of e ≡ ValueValidation)
+        × LacksDate (rows_of (found_of matches.now)) }
+    ensures bad { (wrong : Option WrongArguments) → result ≡ BadArgument wrong
+        → IsFaultIn (rows_of (found_of matches.now)) wrong }
+{
+    if let Some(text) = wrong_date(matches)
+        && is_number(text)
+    {
+        return match past_dates(alloc, text) {
+            Ok(error) => RequestError::Usage(error),
+            Err(_) => RequestError::NoMemory,
+        };
+    }
+    RequestError::BadArgument(wrong_argument(matches))
+}
+
+/// Why matches ask for nothing.
+fn unmatched<'a>(alloc: Global, matches: &ArgMatches<'a>) -> RequestError<'a>
+    ensures usage { (e : ClapError) → result ≡ Usage e → (kind_of e ≡ ValueValidation)
+        × NamesNoDate (subcommand_rows_of matches.now) }
+    ensures bad { (wrong : Option WrongArguments) → result ≡ BadArgument wrong
+        → IsMistaken (subcommand_rows_of matches.now) wrong }
+{
+    match matches.subcommand() {
+        Some((_, inner)) => fault_in(alloc, inner),
+        None => RequestError::BadArgument(None),
     }
 }
 

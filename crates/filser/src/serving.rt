@@ -11,6 +11,7 @@ ghost use Rattle.filser.specs.declared.status.Status.TheVariants.{BadArguments};
 use crate::image::{open_image, tell_failure};
 use crate::message::print_line;
 use crate::program::refuse_image;
+use crate::reasons::{tell_late_date, tell_refusal};
 use crate::{Disks, Host, ImageDisks, OpeningLeave, Refusal, Run, Seen, Status, Task};
 use blockdisk::{Disk, MemDisk};
 use commands::{Monitor, SessionError, Tally, Volume, check, get, list, put, script, session};
@@ -107,13 +108,14 @@ fn attend<D: Disk, R: Read, W: Write>(
     }
 }
 
-/// Does a task on a disk. The disk is handed back.
-fn serve<D: Disk + Drop, R: Read, W: Write>(
+/// Does a task on a disk, and tells people what was refused. The disk is handed back.
+fn serve<D: Disk + Drop, R: Read, W: Write, E: Write>(
     alloc: Global,
     disk: D,
     task: Task,
     reader: &mut R,
     writer: &mut W,
+    errors: &mut E,
 ) -> (Status, D)
     ensures serving { result.0 ≢ BadArguments }
     ensures ran { IsTaskRun D.state (D.state disk) task (R.remaining reader.old) (R.remaining reader.new)
@@ -123,8 +125,11 @@ fn serve<D: Disk + Drop, R: Read, W: Write>(
 {
     match Monitor::start(alloc, disk) {
         Ok(mut monitor) => {
+            tell_late_date(errors, &task);
             let attended = attend(alloc, task, reader, writer, &mut monitor);
-            (ending(attended), monitor.finish())
+            let status = ending(attended);
+            tell_refusal(errors, status, &attended);
+            (status, monitor.finish())
         }
         Err((error, disk)) => (say(writer, Refusal::Start(error)), disk),
     }
@@ -151,7 +156,7 @@ pub(crate) fn serve_image<H: Host, R: Read, W: Write, E: Write>(
 {
     match open_image(host, alloc, path, form, task.access(), leave, errors) {
         Ok(image) => {
-            let (status, image) = serve(alloc, image, task, reader, writer);
+            let (status, image) = serve(alloc, image, task, reader, writer, errors);
             tell_failure(errors, path, &image);
             (status, Disks::Served(image))
         }
@@ -160,10 +165,11 @@ pub(crate) fn serve_image<H: Host, R: Read, W: Write, E: Write>(
 }
 
 /// Serves the lines of the reader, at date 0 and minute 0, on a fresh volume in memory.
-pub(crate) fn serve_fresh<R: Read, W: Write>(
+pub(crate) fn serve_fresh<R: Read, W: Write, E: Write>(
     alloc: Global,
     reader: &mut R,
     writer: &mut W,
+    errors: &mut E,
 ) -> (Status, Option<MemDisk>)
     ensures serving { result.0 ≢ BadArguments }
     ensures ran { IsOnFresh (⟦<Run as Seen>⟧.views) (R.remaining reader.old) (R.remaining reader.new)
@@ -174,7 +180,8 @@ pub(crate) fn serve_fresh<R: Read, W: Write>(
     };
     match Volume::init(&mut disk) {
         Ok(()) => {
-            let (status, disk) = serve(alloc, disk, Task::Run(no_moment()), reader, writer);
+            let task = Task::Run(no_moment());
+            let (status, disk) = serve(alloc, disk, task, reader, writer, errors);
             (status, Some(disk))
         }
         Err(error) => (say(writer, Refusal::Start(error)), Some(disk)),

@@ -31,6 +31,14 @@ pub enum Task {
 }
 
 impl Task {
+    /// The moment of what is written, if the task has one.
+    pub fn moment(&self) -> Option<Moment> {
+        match self {
+            Task::Run(at) | Task::Calls(at) | Task::Put(_, at) | Task::Get(_, at) => Some(*at),
+            Task::List(_, _) | Task::Check => None,
+        }
+    }
+
     /// What the file of the image is for: it is only read if no line of the input can change a file.
     pub fn access(&self) -> Access {
         match self {

@@ -94,3 +94,4 @@ pub mod PutRuns
 pub mod ErrandRuns
 pub mod ShortLaws
 pub mod ReadyLaws
+pub mod CauseLaws

@@ -55,3 +55,4 @@ pub mod Plans
 pub mod Transcripts
 pub mod Errands
 pub mod Copies
+pub mod Causes

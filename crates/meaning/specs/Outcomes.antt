@@ -27,9 +27,3 @@ stopped_in job number c reply = job
 abbrev pub refused_at : Job → ℕ → Reply → Job
 refused_at job e (Refused code) = record job { core = with_right job.core (e + 1) code }
 refused_at job e reply = job
-
--- what an answer leaves of the channel itself, where its row says what it is once the call is done
-abbrev pub channel_left_by : Channel → Reply → Channel → Channel
-channel_left_by c Done done = done
-channel_left_by c (Stopped status) done = record c { status = status }
-channel_left_by c reply done = c

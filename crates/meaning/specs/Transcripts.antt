@@ -9,10 +9,9 @@ use Rattle.meaning.specs.Lines.{Line, lines}
 use Rattle.meaning.specs.Commands.{Means}
 use Rattle.meaning.specs.Scripts.{MeansEvent, words_given, wrong}
 use Rattle.meaning.specs.Texts.{Spoken, both_said, silent, prints, complains, refuses, greeting, is_broken, line}
-use Rattle.meaning.specs.Plans.{Act, Asks, Looks, Conducts, begins, calls}
+use Rattle.meaning.specs.Plans.{Act, Asks, Looks, Conducts, begins}
 use Rattle.meaning.specs.declared.command.Command.{Command}
 use Rattle.meaning.specs.declared.command.Command.TheVariants.{Login as LoginLine}
-use Rattle.meaning.specs.declared.call.Call.TheVariants.{Reset}
 use Rattle.meaning.specs.declared.call.Event.{Event}
 use Rattle.meaning.specs.declared.call.Event.TheVariants.{Login}
 use Rattle.meaning.specs.declared.call.Reply.{Reply}
@@ -111,20 +110,3 @@ Served pack s [] after = after ≡ s
 Served pack s (Asks event reply ∷ acts) after = (mid : State) × Steps pack s event reply mid
     × Served pack mid acts after
 Served pack s (Looks owner answer ∷ acts) after = (answer ≡ list s 1 owner) × Served pack s acts after
-
--- A whole input, answered at a moment by a service that was `old` before it and is `new` after it: with a session
--- job 1 is reset at its end, and nothing is printed for that.
-
-pub record IsSession (pack : Pack) (moment : Moment) (input : List ℕ) (old new : Service) (said : Spoken) : Type 0 where
-  pub acts : List Act
-  pub mid : Service
-  pub who : Option ℕ
-  pub transcript : IsTranscript moment None (lines input) acts said who
-  pub went : Went pack old acts mid
-  pub answer : Reply
-  pub reset : Answers pack mid (calls moment Reset) answer new
-
-pub record IsScript (pack : Pack) (moment : Moment) (input : List ℕ) (old new : Service) (said : Spoken) : Type 0 where
-  pub acts : List Act
-  pub ordered : Scripts moment (lines input) acts said
-  pub went : Went pack old acts new

@@ -7,6 +7,7 @@
 mod act;
 mod area;
 mod call;
+mod causes;
 mod changes;
 mod code;
 mod command;
@@ -29,6 +30,7 @@ mod texts;
 pub use act::Act;
 pub use area::Area;
 pub use call::{Call, Event, Reply};
+pub use causes::{plans_go_on, refusals_have_causes};
 pub use changes::{
     attributes_change, directories_are_made, directories_are_protected, directories_are_removed,
     files_are_removed, files_are_renamed, homes_are_raised, maps_change_by_parts, prime_blocks_are_rewritten,

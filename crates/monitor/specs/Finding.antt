@@ -18,7 +18,6 @@ use Rattle.meaning.specs.Published.{without_serials}
 use Rattle.meaning.specs.Rights.{file_digit, directory_digit, may_look, may_create, may_supersede}
 use Rattle.meaning.specs.Room.{Pack, is_claimed, pending_creations, booked}
 use Rattle.meaning.specs.Runs.{is_plain}
-use Rattle.meaning.specs.Stands.{place_of}
 use Rattle.meaning.specs.declared.call.Reply.{Reply}
 use Rattle.meaning.specs.declared.call.Reply.TheVariants as replies
 use Rattle.retrieval.specs.Modes.{mode_number}
@@ -31,11 +30,9 @@ use Rattle.volume.specs.declared.error.CallError.{CallError}
 use Rattle.volume.specs.declared.error.CallError.TheVariants as errors
 use Rattle.volume.specs.declared.pending.Kind.{Kind as VersionKind}
 use Rattle.volume.specs.declared.pending.Kind.TheVariants as kinds
-use Rattle.monitor.specs.Sides.{kind_of}
 use Rattle.monitor.specs.declared.found.Found.{Found}
 use Rattle.monitor.specs.declared.found.Found.TheVariants as found
 use Rattle.monitor.specs.declared.job.Job.{Job}
-use Rattle.monitor.specs.declared.output.Output.{Output}
 
 -- What a volume knows of a state: its files, and what is booked, being created and claimed.
 pub record IsKnown (d : DiskState) (map : VolumeCore) (s : State) : Type 0 where
@@ -88,14 +85,6 @@ file_begun prime = record {
   time = prime.moment.minute;
   date = prime.moment.date;
   body = [];
-}
-
-abbrev pub output_begun : Output → Prime → machine.Output
-output_begun o prime = record {
-  place = place_of prime.ppn prime.file;
-  kind = kind_of o.kind;
-  pending = file_begun prime;
-  next = o.next;
 }
 
 -- what is answered, as the machine does; for want of memory only where it looks further

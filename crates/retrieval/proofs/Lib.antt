@@ -19,3 +19,4 @@ pub mod Staying
 pub mod Growing
 pub mod Putting
 pub mod Whole
+pub mod MatchedPrimes

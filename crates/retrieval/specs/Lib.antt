@@ -9,3 +9,4 @@ pub mod Reading
 pub mod Writing
 pub mod Bodies
 pub mod Placing
+pub mod PrimeWords

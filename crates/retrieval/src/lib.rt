@@ -11,7 +11,8 @@
 //! 3. It writes nothing, and answers `Device` exactly with one more failure of the disk. (`keeps`,
 //!    `failed`, `served`)
 //! 4. `prime_block` spells the prime block of a version, a pointer to each of the longest runs of its data blocks.
-//!    `prime_block_for` writes one that was read for another name, and leaves its pointers as they are.
+//!    `prime_block_for` writes one that was read for another name, and leaves its pointers as they are. `is_prime_of`
+//!    says whether a block is the prime block of a version in core, its pointers aside.
 //! 5. A `Prime` has a protection below 1000 (octal) and a date that fits the twelve bits of layout 1; a
 //!    `Mode` is one of the six data modes of files.
 //! 6. `write_version` writes no block but the prime block and the ribs that it took from the table, all
@@ -57,6 +58,7 @@ pub use body::get_words;
 pub use build::{prime_block, prime_block_for};
 pub use error::{BodyError, RetrievalError};
 pub use mode::Mode;
+pub use parse::is_prime_of;
 pub use prime::Prime;
 pub use put::put_words;
 pub use read::read_version;

@@ -1,11 +1,14 @@
-ghost use Rattle.std.specs.Prelude.{◌≡◌, ℕ, List, IfSome, IfNone, take, drop};
+ghost use Rattle.std.specs.Prelude.{◌≡◌, ◌↔◌, ℕ, List, IsTrue, IfSome, IfNone, take, drop};
 ghost use Rattle.meaning.specs.Retrieval.{Prime as PrimeRecord, Run};
 ghost use Rattle.retrieval.specs.Primes.{with_length};
 ghost use Rattle.retrieval.specs.Pointers.{runs_of};
+ghost use Rattle.retrieval.specs.PrimeWords.{IsPrimeOf};
 ghost use Rattle.retrieval.specs.Spelling.{SpellsPrime, SpellsExtension};
 
+use crate::build::{first_of, prime_block_for};
 use crate::head::{ExtensionHead, PrimeHead, extension_head, prime_head};
 use crate::pointers::are_pointers;
+use crate::{Prime, Version};
 use meaning::layout::{EXTENSION_HEAD, PRIME_HEAD};
 use words36::Block;
 
@@ -35,4 +38,21 @@ pub fn parse_extension(block: &Block) -> Option<ExtensionHead>
         return None;
     }
     Some(head)
+}
+
+/// Whether a block is the prime block of a version: its words are those of a prime block, they say of the file what this
+/// prime does, and they have the length and the first extension of the version. Where its data lie isn't compared.
+pub fn is_prime_of(block: &Block, prime: &Prime, version: &Version) -> bool
+    ensures { IsTrue result ↔ IsPrimeOf block.now prime.now version.now }
+{
+    let Some(head) = parse_prime(block) else {
+        return false;
+    };
+    if head.length != version.length() {
+        return false;
+    }
+    if head.next != u64::from(first_of(version.ribs())) {
+        return false;
+    }
+    prime_block_for(block, prime) == *block
 }

@@ -12,7 +12,11 @@ use Rattle.volume.specs.FileReading.{IsDamagedData}
 use Rattle.volume.specs.FaultsFound.{NamesInSpace, IsFaultOfFile, IsTableRefusal, error_of_chain}
 use Rattle.directory.specs.declared.error.DirectoryError.{DirectoryError}
 use Rattle.directory.specs.declared.error.DirectoryError.TheVariants as directory
-use Rattle.std.proofs.Common.{Bool, List}
+use Rattle.std.proofs.Common.{Bool, List, ◌+◌, ◌*◌, ◌/◌, ◌<◌, ◌≤◌, arith}
+use Rattle.meaning.specs.Regions.{table_start, space_start, table_blocks}
+use Rattle.alloctab.specs.Inside.{InTable}
+use Rattle.alloctab.specs.Reached.{IsWrongBlock}
+use Rattle.alloctab.specs.TableState.{TableState}
 use Rattle.volume.proofs.Finding.{refusal}
 
 -- what an error has that is handed on
@@ -85,7 +89,7 @@ version_named size prime result here only named = each_error (NamesInSpace size)
     by_error (BadDirectory n) is = absurd (refusal IsVersionRefusal result (BadDirectory n) is only)
     by_error (BadRetrieval n) is = ⊎_elim (λ e. subst (InSpace size) (sym e) here) (λ there. there) (named n is)
     by_error (BlockTwice n) is = absurd (refusal IsVersionRefusal result (BlockTwice n) is only)
-    by_error (TableWrong n) is = tt
+    by_error (TableWrong n) is = absurd (refusal IsVersionRefusal result (TableWrong n) is only)
     by_error Device is = tt
     by_error NoMemory is = tt
     by_error Failed is = tt
@@ -102,7 +106,7 @@ data_named size result only named = each_error (NamesInSpace size) result by_err
     by_error (BadDirectory n) is = absurd (refusal IsDataRefusal result (BadDirectory n) is only)
     by_error (BadRetrieval n) is = absurd (refusal IsDataRefusal result (BadRetrieval n) is only)
     by_error (BlockTwice n) is = absurd (refusal IsDataRefusal result (BlockTwice n) is only)
-    by_error (TableWrong n) is = tt
+    by_error (TableWrong n) is = absurd (refusal IsDataRefusal result (TableWrong n) is only)
     by_error Device is = tt
     by_error NoMemory is = tt
     by_error Failed is = tt
@@ -115,18 +119,31 @@ home_named size result only = each_error (NamesInSpace size) result (λ e is.
     ⊎_elim (λ same. subst (NamesInSpace size) (sym same) tt) (⊎_elim (λ same. subst (NamesInSpace size) (sym same) tt)
     (λ same. subst (NamesInSpace size) (sym same) tt)) (only e is))
 
-pub table_named : (size : ℕ) (error : VolumeError) → IsTableRefusal error → NamesInSpace size error
-table_named size NotVolume only = tt
-table_named size BadHome only = tt
-table_named size BadLog only = tt
-table_named size (BadDirectory n) only = absurd only
-table_named size (BadRetrieval n) only = absurd only
-table_named size (BlockTwice n) only = absurd only
-table_named size (TableWrong n) only = tt
-table_named size Device only = tt
-table_named size NoMemory only = tt
-table_named size Failed only = tt
-table_named size (BadData n) only = absurd only
+pub table_named : {T : Type 0} (size : ℕ) (result : Result T VolumeError) → IfErr result IsTableRefusal
+    → ((n : ℕ) → result ≡ Err (TableWrong n) → InTable size n) → IfErr result (NamesInSpace size)
+table_named size result only named = each_error (NamesInSpace size) result by_error
+  where
+    by_error : (e : VolumeError) → result ≡ Err e → NamesInSpace size e
+    by_error NotVolume is = tt
+    by_error BadHome is = tt
+    by_error BadLog is = tt
+    by_error (BadDirectory n) is = absurd (refusal IsTableRefusal result (BadDirectory n) is only)
+    by_error (BadRetrieval n) is = absurd (refusal IsTableRefusal result (BadRetrieval n) is only)
+    by_error (BlockTwice n) is = absurd (refusal IsTableRefusal result (BlockTwice n) is only)
+    by_error (TableWrong n) is = named n is
+    by_error Device is = tt
+    by_error NoMemory is = tt
+    by_error Failed is = tt
+    by_error (BadData n) is = absurd (refusal IsTableRefusal result (BadData n) is only)
+
+-- A block of the table with a wrong bit is one of the table.
+pub wrong_in_table : (size n : ℕ) (t : TableState) (reached : List Bool) → t.size ≡ size → IsWrongBlock t reached n
+    → InTable size n
+wrong_in_table size n t reached same wrong =
+    let block = wrong.block in
+    let inside = wrong.inside in
+    let here = wrong.here in
+    subst (λ (s : ℕ). InTable s n) same (record { from = omega arith; below = omega arith })
 
 pub named_on : {T : Type 0} (size size' : ℕ) (result : Result T VolumeError) → size ≡ size'
     → IfErr result (NamesInSpace size) → IfErr result (NamesInSpace size')

@@ -100,3 +100,6 @@ pub mod MovingAcross
 pub mod MovingLaw
 pub mod MovingTransactions
 pub mod RunsRead
+pub mod PrimesRead
+pub mod HomesKept
+pub mod PublishingHomes

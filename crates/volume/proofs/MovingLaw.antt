@@ -249,6 +249,11 @@ module _ (size : ℕ) (k k' : Known) (ppn : ℕ) (name : FileName) (to_ppn : ℕ
       (is.put_chain.in_range size source_inside (is.put_target.in_range size target_inside tt))
       (inr (inr (let from = inside.from in omega arith, inside.below))))
 
+  -- nothing before the table is put
+  pub moved_across_low : InSpace size old.0 → (n : ℕ) → n < table_start size → IsPutIn puts n → ⊥
+  moved_across_low inside n low = not_put puts n (λ c. stays c n (inl low)
+      (λ same. let from = inside.from in omega arith) (out_of_chains n (inl (omega arith))))
+
   pub moved_across_few : length puts ≤ log_images size
   moved_across_few =
       let all = is.put_table.few in

@@ -15,7 +15,8 @@ use Rattle.volume.specs.Rest.{IsSoundCore}
 use Rattle.volume.specs.declared.live.LiveVersion.{LiveVersion}
 use Rattle.volume.proofs.MovingCore.{moved_across_whole}
 use Rattle.volume.proofs.MovingLaw.{map_moved_across, moved_across_files, moving_across_leads, moved_across_elsewhere}
-use Rattle.volume.proofs.MovingLaw.{moved_across_in_range, moved_across_few, source_times, target_times}
+use Rattle.volume.proofs.MovingLaw.{moved_across_in_range, moved_across_low, moved_across_few, source_times}
+use Rattle.volume.proofs.MovingLaw.{target_times}
 use Rattle.volume.proofs.PublishingBlocks.{IsKept, total_place}
 use Rattle.volume.proofs.RenamingTransactions.{IsMove}
 
@@ -90,6 +91,8 @@ module _ (size : ℕ) (c c' : VolumeCore) (ppn : ℕ) (name : FileName) (to_ppn 
         whole.map moves.moved;
     few = moved_across_few size c.known c'.known ppn name to_ppn to (v.at, as_known v) with_prime words puts whole.map
         moves.moved;
+    low = λ inside n small. moved_across_low size c.known c'.known ppn name to_ppn to (v.at, as_known v) with_prime
+        words puts whole.map moves.moved inside n (omega arith);
     spares = λ n kept other. moved_across_elsewhere size c.known c'.known ppn name to_ppn to (v.at, as_known v)
         with_prime words puts whole.map moves.moved n kept.from other (kept_chains n kept);
     leads = leads_across;

@@ -29,6 +29,7 @@ use Rattle.volume.proofs.LiveBodies.{IsUsed, read_used, written_used}
 use Rattle.volume.proofs.MakingLaw.{bit_few}
 use Rattle.volume.proofs.Marking.{all_weaker}
 use Rattle.volume.proofs.Pinning.{total_at}
+use Rattle.volume.proofs.HomesKept.{published_low}
 use Rattle.volume.proofs.PublishingPuts.{published_times, published_in_range, published_elsewhere}
 use Rattle.volume.proofs.PublishingSlots.{reaches_parts}
 use Rattle.volume.proofs.PuttingCore.{waits}
@@ -185,6 +186,10 @@ module _ {size : ℕ} {c c' : VolumeCore} {key : ℕ} {p : PendingVersion} {v : 
 
   pub puts_in_range : AllByRecursion (IsTarget size) (targets puts)
   puts_in_range = published_in_range size c.known c'.known p.prime.ppn p.prime.file v.at _
+      (before is.old) puts whole.map is.published
+
+  pub puts_low : (n : ℕ) → n ≤ 2 → IsPutIn puts n → ⊥
+  puts_low = published_low size c.known c'.known p.prime.ppn p.prime.file v.at _
       (before is.old) puts whole.map is.published
 
   -- a block of a version in use isn't

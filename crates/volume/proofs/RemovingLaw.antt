@@ -86,6 +86,10 @@ module _ (size : ℕ) (k k' : Known) (ppn : ℕ) (name : FileName) (old : ℕ ×
   pub removed_in_range : AllByRecursion (IsTarget size) (targets puts)
   removed_in_range = is.put.in_range (is.put_chain.in_range size new_inside tt)
 
+  -- nothing before the table is put
+  pub removed_low : (n : ℕ) → n < table_start size → IsPutIn puts n → ⊥
+  removed_low n low = not_put puts n (λ c. stays c n (inl low) (out_of_chain n (inl (omega arith))))
+
   pub removed_few : length puts ≤ log_images size
   removed_few = let a = is.put.few in let b = is.few in omega arith
 

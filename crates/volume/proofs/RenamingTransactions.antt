@@ -34,6 +34,7 @@ use Rattle.volume.specs.Pins.{IsKeyOf}
 use Rattle.volume.specs.Rest.{IsAtRest, IsSoundCore, RestsAt, StandsForOneOf, KeepsRead, KeepsEachWritten}
 use Rattle.volume.specs.declared.live.LiveVersion.{LiveVersion}
 use Rattle.volume.specs.declared.pending.PendingVersion.{PendingVersion}
+use Rattle.volume.proofs.HomesKept.{past_homes, moved_low}
 use Rattle.volume.proofs.LiveBodies.{HaveBodies}
 use Rattle.volume.proofs.MakingDirectories.{files_are, crash_for, rest_for, sound_for, sound_failed}
 use Rattle.volume.proofs.MakingHeld.{ignores_log}
@@ -167,6 +168,7 @@ pub record IsMove (size : ℕ) (c c' : VolumeCore) (ppn : ℕ) (name : FileName)
   pub others : (k : ℕ) → (k ≡ key → ⊥) → slot c'.live k ≡ slot c.live k
   pub in_range : InSpace size v.at → AllByRecursion (IsTarget size) (targets puts)
   pub few : length puts ≤ log_images size
+  pub low : InSpace size v.at → (n : ℕ) → n ≤ 2 → IsPutIn puts n → ⊥
   pub spares : (n : ℕ) → IsKept size c n → (n ≡ v.at → ⊥) → IsPutIn puts n → ⊥
   pub leads : (m : DiskMap) (d : Contents) → IsHeld size c.known m d → d v.at ≡ Some words → (m' : DiskMap)
       × IsHeld size c'.known m' (with_puts puts d)
@@ -181,6 +183,11 @@ module _ {s mid : DiskState} {c c' : VolumeCore} {ppn : ℕ} {name : FileName} {
   pub move_in_range : IsTable c.known.table → AllByRecursion (IsTarget mid.size) (targets puts)
   move_in_range table = subst (λ (n : ℕ). AllByRecursion (IsTarget n) (targets puts)) (sym same.size)
       (move.in_range (first_inside s.size c sound.whole key v move.there move.current table))
+
+  -- they are none of the home copies
+  pub move_low : IsTable c.known.table → (n : ℕ) → n ≤ 2 → IsGateOrLog mid.size n ⊎ IsPutIn puts n → ⊥
+  move_low table = past_homes mid.size puts
+      (move.low (first_inside s.size c sound.whole key v move.there move.current table))
 
   pub move_few : length puts ≤ log_images mid.size
   move_few = subst (λ (n : ℕ). length puts ≤ log_images n) (sym same.size) move.few
@@ -331,6 +338,7 @@ module _ (size : ℕ) (c c' : VolumeCore) (ppn : ℕ) (name to : FileName) (prot
     in_range = moved_in_range size c.known c'.known ppn name to (v.at, as_known v) with_prime words puts whole.map
         moves.moved;
     few = moved_few size c.known c'.known ppn name to (v.at, as_known v) with_prime words puts whole.map moves.moved;
+    low = moved_low size c.known c'.known ppn name to (v.at, as_known v) with_prime words puts whole.map moves.moved;
     spares = λ n kept other. moved_elsewhere size c.known c'.known ppn name to (v.at, as_known v) with_prime words puts
         whole.map moves.moved n other (kept_chain n kept);
     leads = leads_within;

@@ -14,6 +14,7 @@ use Rattle.meaning.specs.Walks.{LeadsAlong}
 use Rattle.meaning.specs.Faults.{InSpace, IsBadVersion, ReadFile, ReadDirectory, times_in_file, times_in_directory}
 use Rattle.meaning.specs.Faults.{IsFileRead, IsDirectoryRead, IsSettledFault, HasFault}
 use Rattle.meaning.specs.Faults as faults
+use Rattle.alloctab.specs.Inside.{InTable}
 use Rattle.directory.specs.Loading.{IsBadChain}
 use Rattle.directory.specs.declared.error.DirectoryError.{DirectoryError}
 use Rattle.directory.specs.declared.error.DirectoryError.TheVariants as directory
@@ -30,6 +31,7 @@ NamesInSpace size (BadDirectory n) = InSpace size n
 NamesInSpace size (BadRetrieval n) = InSpace size n
 NamesInSpace size (BlockTwice n) = InSpace size n
 NamesInSpace size (BadData n) = InSpace size n
+NamesInSpace size (TableWrong n) = InTable size n
 NamesInSpace size error = Unit {0}
 
 -- what a chain that can't be read is refused with

@@ -22,3 +22,5 @@ pub mod Claims
 pub mod Copying
 pub mod Removing
 pub mod Moving
+pub mod HomeBlocks
+pub mod PrimeBlocks

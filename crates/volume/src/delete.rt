@@ -17,6 +17,7 @@ ghost use Rattle.directory.specs.Chains.{IsChain, viewed};
 ghost use Rattle.directory.specs.Edits.{StandsAt, PutsChain, removed, last_first};
 ghost use Rattle.volume.specs.Beginning.{IsDirectoryOf};
 ghost use Rattle.volume.specs.Cores.{file_view};
+ghost use Rattle.volume.specs.HomeBlocks.{HasHomesFrom, KeepsHomes};
 ghost use Rattle.volume.specs.Known.{KnownDirectory};
 ghost use Rattle.volume.specs.Live.{slot, IsWholeCore};
 ghost use Rattle.volume.specs.LiveCores.{core_of};
@@ -146,6 +147,11 @@ impl<D: Disk> Volume<D> {
             → KeepsRead (D.state self.old.disk).contents (D.state self.new.disk).contents self.old.core }
         ensures writers { (D.state self.new.disk).honest → (IsErrOf result Device → ⊥)
             → KeepsEachWritten (D.state self.old.disk).contents (D.state self.new.disk).contents self.old.core }
+        // The home copies stay, but where the device failed; a crash at any moment leaves there what one could before.
+        ensures homes { (D.state self.new.disk).honest
+            → LeavesOnly (D.state self.old.disk) (D.state self.new.disk) (HasHomesFrom (D.state self.old.disk)) }
+        ensures home_blocks { (D.state self.new.disk).honest → (IsErrOf result Device → ⊥)
+            → KeepsHomes (D.state self.old.disk).contents (D.state self.new.disk).contents }
         // Each other place keeps its prime block, and this one has none.
         ensures primes { OnOk result ((q : ℕ) (n : FileName) → ((q ≡ ppn) × (n ≡ name.now) → ⊥)
             → prime_at self.new.core q n ≡ prime_at self.old.core q n) }

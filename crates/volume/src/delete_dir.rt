@@ -11,6 +11,7 @@ ghost use Rattle.meaning.specs.Files.{File, Files};
 ghost use Rattle.meaning.specs.Maps.{times};
 ghost use Rattle.meaning.specs.Regions.{space_start};
 ghost use Rattle.volume.specs.Beginning.{IsDirectoryOf};
+ghost use Rattle.volume.specs.HomeBlocks.{HasHomesFrom, KeepsHomes};
 ghost use Rattle.volume.specs.Known.{KnownDirectory};
 ghost use Rattle.volume.specs.Live.{IsWholeCore};
 ghost use Rattle.volume.specs.LiveCores.{core_of};
@@ -107,6 +108,11 @@ impl<D: Disk> Volume<D> {
             → KeepsRead (D.state self.old.disk).contents (D.state self.new.disk).contents self.old.core }
         ensures writers { (D.state self.new.disk).honest → (IsErrOf result Device → ⊥)
             → KeepsEachWritten (D.state self.old.disk).contents (D.state self.new.disk).contents self.old.core }
+        // The home copies stay, but where the device failed; a crash at any moment leaves there what one could before.
+        ensures homes { (D.state self.new.disk).honest
+            → LeavesOnly (D.state self.old.disk) (D.state self.new.disk) (HasHomesFrom (D.state self.old.disk)) }
+        ensures home_blocks { (D.state self.new.disk).honest → (IsErrOf result Device → ⊥)
+            → KeepsHomes (D.state self.old.disk).contents (D.state self.new.disk).contents }
         // Each other directory is there with what it has, in whatever place, and this one is gone.
         ensures directories { (owner : ℕ) (d : KnownDirectory) → IsDirectoryOf self.old.core owner d
             → (owner ≡ ppn → ⊥) → IsDirectoryOf self.new.core owner d }

@@ -35,7 +35,8 @@
 //!    versions that readers hold stay, and but for `Device` their blocks do. (`crash`, `done`, `published`, `held`,
 //!    `readers`, `writers`)
 //! 10. On a volume that failed before, `put_words`, `get_words` and `publish` answer `Failed`, and neither disk nor
-//!    core changes. `get_words` never answers a damaged block as words. (`failed`, `broken`, `whole`)
+//!    core changes. `get_words` never answers a damaged block as words, and the others never take one for words that
+//!    stay. (`failed`, `broken`, `whole`)
 //! 11. `Device` comes exactly with one more failure of the disk, on every disk. (`failed`, `served`)
 //! 12. `delete` takes a file away by one change, with no block written before it: whatever a crash leaves at any moment
 //!    of it stands for the files from before, or for these without the file. At Ok it is the latter. All versions that
@@ -43,12 +44,13 @@
 //!    `removed`, `pending`, `held`, `readers`, `writers`)
 //! 13. `rename` gives a file another place, in its directory or in another one, and another protection, by one change
 //!    of the directories and the prime block. A crash finds it so, or as it was; no block is taken but for a directory
-//!    that grows, and its version stays under its key, for whoever reads it. (`crash`, `done`, `within`, `across`,
-//!    `pending`, `held`, `here`, `gone`, `primes`)
-//!
+//!    that grows, and its version stays under its key, for whoever reads it. On every disk the prime block is rewritten
+//!    only if it is that of the file. (`crash`, `done`, `within`, `across`, `pending`, `held`, `here`, `gone`, `primes`)
 //! 14. `copy_image` copies a volume to another disk of as many blocks: what `open` says of its disk holds of the one
 //!    that is copied, and at Ok the copy stands for the same files, with its gate closed and no block open. (`files`,
 //!    `settled`, `copied`, `crash`, `refused`)
+//! 15. No call after `open` writes a home copy: on an honest disk blocks 0 to 2 stay, except after `Device`, and a
+//!    crash at any moment of a call leaves there what one could leave before it. (`homes`, `home_blocks`)
 //!
 //! Between two calls the volume knows the map of its disk: the chains of its directories with their entries
 //! in the order of the disk, for each entry where its version lies, and the allocation table with what is

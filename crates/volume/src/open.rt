@@ -11,6 +11,7 @@ ghost use Rattle.meaning.specs.Regions.{IsVolumeSize, table_blocks};
 ghost use Rattle.meaning.specs.Stands.{DiskMap as MapValue};
 ghost use Rattle.meaning.specs.Walks.{LeadsAlong};
 ghost use Rattle.meaning.specs.Faults.{InSpace, IsMasterEntryOf};
+ghost use Rattle.alloctab.specs.Inside.{InTable};
 ghost use Rattle.alloctab.specs.Lists.{digit_at};
 ghost use Rattle.alloctab.specs.Reached.{wanted_bit};
 ghost use Rattle.alloctab.specs.TableState.{bit};
@@ -126,6 +127,8 @@ fn load_table<D: Disk>(alloc: Global, disk: &mut D, reached: &Reached) -> Result
         → IfOk result (IsRightFor (D.state disk.old).size (D.state disk.old).contents reached.now) }
     ensures wrong { (D.state disk.new).honest → (n : ℕ) → IsErrOf result (TableWrong n)
         → IsWrongFor (D.state disk.old).size (D.state disk.old).contents reached.now n }
+    // On every disk it is a block of the table.
+    ensures named { (n : ℕ) → IsErrOf result (TableWrong n) → InTable (D.state disk.old).size n }
     ensures wanted { IfOk result (λ table. (n : ℕ) → bit table n ≡ wanted_bit (D.state disk.old).size reached.now n) }
     ensures only { IfErr result IsTableRefusal }
     // It is as a table is at first.

@@ -1,4 +1,4 @@
-ghost use Rattle.std.specs.Prelude.{◌≡◌, ◌⊎◌, ◌↔◌, ◌<◌, ◌≤◌, ℕ, Bool, List, false, true, length, OnOk};
+ghost use Rattle.std.specs.Prelude.{◌≡◌, ◌⊎◌, ◌↔◌, ◌-◌, ◌<◌, ◌≤◌, ℕ, Bool, List, false, true, length, OnOk};
 ghost use Rattle.std.specs.Prelude.{OnErr, IfOk, IfErr, IsErrOf, IsSome, Some, None};
 ghost use Rattle.blockdisk.specs.Disk.{LeavesOnly, SameDisk, one_more};
 ghost use Rattle.meaning.specs.Layouts.{pack_of};
@@ -11,10 +11,12 @@ ghost use Rattle.meaning.specs.Maps.{times};
 ghost use Rattle.meaning.specs.Retrieval.{HasBody};
 ghost use Rattle.meaning.specs.Splices.{splice, length_after};
 ghost use Rattle.directory.specs.Chains.{viewed};
+ghost use Rattle.retrieval.specs.Placing.{IsEdgeBlock};
 ghost use Rattle.retrieval.specs.Versions.{VersionState};
 ghost use Rattle.retrieval.specs.Writing.{rib_count};
 ghost use Rattle.slab.specs.Slab.{HasRoomFor};
 ghost use Rattle.volume.specs.Cores.{file_view};
+ghost use Rattle.volume.specs.HomeBlocks.{HasHomesFrom, KeepsHomes};
 ghost use Rattle.volume.specs.Live.{VolumeCore, slot, pending_at, IsWholeCore};
 ghost use Rattle.volume.specs.LiveCores.{core_of};
 ghost use Rattle.volume.specs.Publishing.{MakesCurrent, IsPlaced, IsPublishedCore, IsSupplied, file_of};
@@ -119,6 +121,10 @@ fn publish_written<D: Disk>(
     ensures writers { (D.state disk.new).honest → (IsErrOf result Device → ⊥) → (k : ℕ) (q : PendingVersion)
         → (k ≡ key → ⊥) → pending_at (core_of map.old).pending k ≡ Some q
         → (n : ℕ) → 0 < times n q.version.blocks → (D.state disk.new).contents n ≡ (D.state disk.old).contents n }
+    ensures homes { (D.state disk.new).honest
+        → LeavesOnly (D.state disk.old) (D.state disk.new) (HasHomesFrom (D.state disk.old)) }
+    ensures home_blocks { (D.state disk.new).honest → (IsErrOf result Device → ⊥)
+        → KeepsHomes (D.state disk.old).contents (D.state disk.new).contents }
 
     // Which refusal comes when, and what it leaves.
     ensures only { IfErr result (λ error. error ≡ Device) }
@@ -203,6 +209,16 @@ impl<D: Disk> Volume<D> {
             → KeepsRead (D.state self.old.disk).contents (D.state self.new.disk).contents self.old.core }
         ensures writers { (D.state self.new.disk).honest → (IsErrOf result Device → ⊥)
             → KeepsWritten (D.state self.old.disk).contents (D.state self.new.disk).contents self.old.core pending.key }
+        // The home copies stay, but where the device failed; a crash at any moment leaves there what one could before.
+        ensures homes { (D.state self.new.disk).honest
+            → LeavesOnly (D.state self.old.disk) (D.state self.new.disk) (HasHomesFrom (D.state self.old.disk)) }
+        ensures home_blocks { (D.state self.new.disk).honest → (IsErrOf result Device → ⊥)
+            → KeepsHomes (D.state self.old.disk).contents (D.state self.new.disk).contents }
+        // A damaged block is never taken for words that stay before the last ones.
+        ensures whole { (D.state self.new.disk).honest → 0 < length words.now → (p : PendingVersion)
+            → pending_at self.old.core.pending pending.key ≡ Some p
+            → OnOk result ((n : ℕ) → IsEdgeBlock p.version.blocks p.version.words (block - 1) (length words.now) n
+            → (D.state self.old.disk).contents n ≡ None → ⊥) }
 
         // Which error comes when, and what it leaves.
         ensures failed { self.old.failed ≡ true → IsErrOf result Failed }

@@ -14,9 +14,11 @@ ghost use Rattle.meaning.specs.Retrieval.{HasBody, most_blocks};
 ghost use Rattle.meaning.specs.Splices.{splice, length_after};
 ghost use Rattle.alloctab.specs.TableState.{holds, space, uses};
 ghost use Rattle.retrieval.specs.Bodies.{IsOwn};
+ghost use Rattle.retrieval.specs.Placing.{IsEdgeBlock};
 ghost use Rattle.retrieval.specs.Versions.{VersionState};
 ghost use Rattle.retrieval.specs.Writing.{IsFixed};
 ghost use Rattle.retrieval.specs.declared.error.BodyError.TheVariants as body;
+ghost use Rattle.volume.specs.HomeBlocks.{HasHomesFrom, KeepsHomes};
 ghost use Rattle.volume.specs.Live.{IsWholeCore, pending_at};
 ghost use Rattle.volume.specs.LiveCores.{core_of};
 ghost use Rattle.volume.specs.Putting.{HasNoPlace, IsReady, Regrows, Regrown};
@@ -116,11 +118,17 @@ fn put_booked<D: Disk>(
     ensures grown { Regrows (D.state disk.old).size table.old table.new version.old version.new }
     ensures modified { (D.state disk.new).honest
         → Modifies (IsOwn table.old version.old.blocks) (D.state disk.old) (D.state disk.new) }
+    // A damaged block is never taken for words that stay.
+    ensures whole { (D.state disk.new).honest → OnOk result ((n : ℕ)
+        → IsEdgeBlock version.old.blocks version.old.words (block - 1) (length words.now) n
+        → (D.state disk.old).contents n ≡ None → ⊥) }
     // Which refusal comes when, and what it leaves.
     ensures memory { IsErrOf result body.NoMemory → (table.new ≡ table.old) × (version.new ≡ version.old)
         × (disk.new ≡ disk.old) }
     ensures damaged { (D.state disk.new).honest → (k : ℕ) → IsErrOf result (body.BadData k)
         → (0 < times k version.old.blocks) × ((D.state disk.old).contents k ≡ None) }
+    ensures edge { (D.state disk.new).honest → (k : ℕ) → IsErrOf result (body.BadData k)
+        → IsEdgeBlock version.old.blocks version.old.words (block - 1) (length words.now) k }
     ensures same { SameDisk (D.state disk.old) (D.state disk.new) }
     ensures failed { IsErrOf result body.Device → (D.state disk.new).failures ≡ one_more (D.state disk.old).failures }
     ensures served { (IsErrOf result body.Device → ⊥) → (D.state disk.new).failures ≡ (D.state disk.old).failures }
@@ -178,6 +186,10 @@ fn put_pending<D: Disk>(
     ensures others { (k : ℕ) → (k ≡ key → ⊥) → pending_at pending.new.slots k ≡ pending_at pending.old.slots k }
     ensures modified { (D.state disk.new).honest → (p : PendingVersion) → pending_at pending.old.slots key ≡ Some p
         → Modifies (IsOwn table.old p.version.blocks) (D.state disk.old) (D.state disk.new) }
+    // A damaged block is never taken for words that stay.
+    ensures whole { (D.state disk.new).honest → (p : PendingVersion) → pending_at pending.old.slots key ≡ Some p
+        → OnOk result ((n : ℕ) → IsEdgeBlock p.version.blocks p.version.words (block - 1) (length words.now) n
+        → (D.state disk.old).contents n ≡ None → ⊥) }
 
     // Which refusal comes when, and what it leaves.
     ensures room { (p : PendingVersion) → pending_at pending.old.slots key ≡ Some p
@@ -189,7 +201,8 @@ fn put_pending<D: Disk>(
     ensures memory { IsErrOf result NoMemory → (disk.new ≡ disk.old) × (table.new ≡ table.old)
         × (pending.new.slots ≡ pending.old.slots) }
     ensures damaged { (D.state disk.new).honest → (p : PendingVersion) → pending_at pending.old.slots key ≡ Some p
-        → IsErrOf result Failed → (k : ℕ) × (0 < times k p.version.blocks) × ((D.state disk.old).contents k ≡ None) }
+        → IsErrOf result Failed → (k : ℕ) × (0 < times k p.version.blocks) × ((D.state disk.old).contents k ≡ None)
+        × IsEdgeBlock p.version.blocks p.version.words (block - 1) (length words.now) k }
 
     ensures same { SameDisk (D.state disk.old) (D.state disk.new) }
     ensures failed { IsErrOf result Device → (D.state disk.new).failures ≡ one_more (D.state disk.old).failures }
@@ -256,6 +269,15 @@ pub(crate) fn put_in_core<D: Disk>(
         → KeepsRead (D.state disk.old).contents (D.state disk.new).contents (core_of map.old) }
     ensures writers { (D.state disk.new).honest
         → KeepsWritten (D.state disk.old).contents (D.state disk.new).contents (core_of map.old) key }
+    ensures homes { (D.state disk.new).honest
+        → LeavesOnly (D.state disk.old) (D.state disk.new) (HasHomesFrom (D.state disk.old)) }
+    ensures home_blocks { (D.state disk.new).honest
+        → KeepsHomes (D.state disk.old).contents (D.state disk.new).contents }
+    // A damaged block is never taken for words that stay.
+    ensures whole { (D.state disk.new).honest → 0 < length words.now → (p : PendingVersion)
+        → pending_at (core_of map.old).pending key ≡ Some p
+        → OnOk result ((n : ℕ) → IsEdgeBlock p.version.blocks p.version.words (block - 1) (length words.now) n
+        → (D.state disk.old).contents n ≡ None → ⊥) }
 
     // Which error comes when, and what it leaves.
     ensures failed { failed.old ≡ true → IsErrOf result Failed }
@@ -342,6 +364,16 @@ impl<D: Disk> Volume<D> {
             → KeepsRead (D.state self.old.disk).contents (D.state self.new.disk).contents self.old.core }
         ensures writers { (D.state self.new.disk).honest
             → KeepsWritten (D.state self.old.disk).contents (D.state self.new.disk).contents self.old.core pending.key }
+        // The home copies stay, also where the device failed; a crash at any moment leaves there what one could before.
+        ensures homes { (D.state self.new.disk).honest
+            → LeavesOnly (D.state self.old.disk) (D.state self.new.disk) (HasHomesFrom (D.state self.old.disk)) }
+        ensures home_blocks { (D.state self.new.disk).honest
+            → KeepsHomes (D.state self.old.disk).contents (D.state self.new.disk).contents }
+        // A damaged block is never taken for words that stay.
+        ensures whole { (D.state self.new.disk).honest → 0 < length words.now → (p : PendingVersion)
+            → pending_at self.old.core.pending pending.key ≡ Some p
+            → OnOk result ((n : ℕ) → IsEdgeBlock p.version.blocks p.version.words (block - 1) (length words.now) n
+            → (D.state self.old.disk).contents n ≡ None → ⊥) }
 
         // Which error comes when, and what it leaves.
         ensures failed { self.old.failed ≡ true → IsErrOf result Failed }

@@ -12,10 +12,12 @@ ghost use Rattle.meaning.specs.Stands.{place_of};
 ghost use Rattle.retrieval.specs.declared.prime.Prime.{Prime as PrimeValue};
 ghost use Rattle.volume.specs.Beginning.{IsDirectoryOf};
 ghost use Rattle.volume.specs.Claims.{claims};
+ghost use Rattle.volume.specs.HomeBlocks.{HasHomesFrom, KeepsHomes};
 ghost use Rattle.volume.specs.Known.{KnownDirectory};
 ghost use Rattle.volume.specs.Live.{slot};
 ghost use Rattle.volume.specs.Moving.{files_moved, HasFile, HasNoRoom, MovesWithin, MovesAcross};
 ghost use Rattle.volume.specs.Places.{prime_at};
+ghost use Rattle.volume.specs.PrimeBlocks.{IsFilePrime};
 ghost use Rattle.volume.specs.Rest.{RestsAt, StandsForOneOf, KeepsRead, KeepsEachWritten};
 ghost use Rattle.volume.specs.declared.error.CallError.TheVariants.{Refused, Device, Failed, NoMemory};
 ghost use Rattle.volume.specs.declared.live.LiveVersion.{LiveVersion};
@@ -40,8 +42,8 @@ impl<D: Disk> Volume<D> {
     /// with `NameExists` where the new place is another one and has a file already, and with `NoRoom` where the other
     /// directory costs a block more and there is no room for it; `NoMemory` where core can't grow. All is as before
     /// then. `Device` where the device failed, and the volume with it: a later start finds the files with the file so,
-    /// or those from before. `Failed`, and the volume with it, where the file's prime block is damaged, which no honest
-    /// disk shows.
+    /// or those from before. `Failed`, and the volume with it, where the file's prime block is damaged or
+    /// isn't that of the file, which no honest disk shows.
     pub fn rename(
         &mut self,
         alloc: Global,
@@ -64,15 +66,18 @@ impl<D: Disk> Volume<D> {
         // At Ok all that a crash may leave stands for the latter.
         ensures done { (D.state self.new.disk).honest → (f : Files File) → RestsAt (D.state self.old.disk) f
             → OnOk result (RestsAt (D.state self.new.disk) (files_moved f ppn name.now to_ppn to.now protection)) }
-        // What it does to core, and what it puts, where the prime block had these words.
+        // What it does to core, and what it puts, where the prime block had these words. On every disk they are those of
+        // the prime block of this file.
         ensures within { to_ppn ≡ ppn → OnOk result ((key : ℕ) × (v : LiveVersion) × (words : List ℕ)
             × (puts : List Put) × MovesWithin (D.state self.old.disk).size self.old.core self.new.core ppn name.now
             to.now protection key v words puts
-            × ((D.state self.new.disk).honest → (D.state self.old.disk).contents v.at ≡ Some words)) }
+            × ((D.state self.new.disk).honest → (D.state self.old.disk).contents v.at ≡ Some words)
+            × IsFilePrime words ppn name.now v) }
         ensures across { (to_ppn ≡ ppn → ⊥) → OnOk result ((key : ℕ) × (v : LiveVersion) × (words : List ℕ)
             × (puts : List Put) × MovesAcross (D.state self.old.disk).size self.old.core self.new.core ppn name.now
             to_ppn to.now protection key v words puts
-            × ((D.state self.new.disk).honest → (D.state self.old.disk).contents v.at ≡ Some words)) }
+            × ((D.state self.new.disk).honest → (D.state self.old.disk).contents v.at ≡ Some words)
+            × IsFilePrime words ppn name.now v) }
         // All versions in use stay, whatever the answer; and their blocks do, but where the device failed, since they
         // may have been open then.
         ensures pending { self.new.core.pending ≡ self.old.core.pending }
@@ -82,6 +87,11 @@ impl<D: Disk> Volume<D> {
             → KeepsRead (D.state self.old.disk).contents (D.state self.new.disk).contents self.old.core }
         ensures writers { (D.state self.new.disk).honest → (IsErrOf result Device → ⊥)
             → KeepsEachWritten (D.state self.old.disk).contents (D.state self.new.disk).contents self.old.core }
+        // The home copies stay, but where the device failed; a crash at any moment leaves there what one could before.
+        ensures homes { (D.state self.new.disk).honest
+            → LeavesOnly (D.state self.old.disk) (D.state self.new.disk) (HasHomesFrom (D.state self.old.disk)) }
+        ensures home_blocks { (D.state self.new.disk).honest → (IsErrOf result Device → ⊥)
+            → KeepsHomes (D.state self.old.disk).contents (D.state self.new.disk).contents }
         // The new place has the prime block that the old one had, which has none then; each other place keeps its own.
         ensures here { OnOk result (prime_at self.new.core to_ppn to.now ≡ prime_at self.old.core ppn name.now) }
         ensures gone { OnOk result (((to_ppn ≡ ppn) × (to.now ≡ name.now) → ⊥)

@@ -18,6 +18,7 @@ ghost use Rattle.retrieval.specs.declared.prime.Prime.{Prime as PrimeValue};
 ghost use Rattle.volume.specs.Beginning.{entries_with, IsDirectoryOf};
 ghost use Rattle.volume.specs.Claims.{claims};
 ghost use Rattle.volume.specs.Cores.{master_view};
+ghost use Rattle.volume.specs.HomeBlocks.{HasHomesFrom, KeepsHomes};
 ghost use Rattle.volume.specs.Known.{KnownDirectory};
 ghost use Rattle.volume.specs.Live.{slot, IsWholeCore};
 ghost use Rattle.volume.specs.LiveCores.{core_of};
@@ -25,6 +26,7 @@ ghost use Rattle.volume.specs.Moving.{files_moved, HasFile, HasNoRoom, MovesAcro
 ghost use Rattle.volume.specs.Moving.{GivesUpEntry};
 ghost use Rattle.volume.specs.Pins.{IsKeyOf};
 ghost use Rattle.volume.specs.Places.{prime_at};
+ghost use Rattle.volume.specs.PrimeBlocks.{IsFilePrime};
 ghost use Rattle.volume.specs.Publishing.{PutsInUse};
 ghost use Rattle.volume.specs.Rest.{IsSoundCore, RestsAt, StandsForOneOf, KeepsRead, KeepsEachWritten};
 ghost use Rattle.volume.specs.declared.error.CallError.TheVariants.{Refused, Device, Failed, NoMemory};
@@ -221,7 +223,8 @@ fn move_across<D: Disk>(
     ensures sound { IsSoundCore (D.state disk.new) (core_of core.new) failed.new }
     ensures moved { OnOk result ((v : LiveVersion) × (words : List ℕ) × (puts : List Put)
         × MovesAcross (D.state disk.old).size (core_of core.old) (core_of core.new) ppn name.now to_ppn to.now
-        protection key v words puts × ((D.state disk.new).honest → (D.state disk.old).contents v.at ≡ Some words)) }
+        protection key v words puts × ((D.state disk.new).honest → (D.state disk.old).contents v.at ≡ Some words)
+        × IsFilePrime words ppn name.now v) }
     ensures pending { (core_of core.new).pending ≡ (core_of core.old).pending }
     ensures held { (k : ℕ) (v : LiveVersion) → slot (core_of core.old).live k ≡ Some v
         → (prime : PrimeValue) × (slot (core_of core.new).live k ≡ Some (record v { prime = prime })) }
@@ -234,6 +237,10 @@ fn move_across<D: Disk>(
         → KeepsRead (D.state disk.old).contents (D.state disk.new).contents (core_of core.old) }
     ensures writers { (D.state disk.new).honest → (IsErrOf result Device → ⊥)
         → KeepsEachWritten (D.state disk.old).contents (D.state disk.new).contents (core_of core.old) }
+    ensures homes { (D.state disk.new).honest
+        → LeavesOnly (D.state disk.old) (D.state disk.new) (HasHomesFrom (D.state disk.old)) }
+    ensures home_blocks { (D.state disk.new).honest → (IsErrOf result Device → ⊥)
+        → KeepsHomes (D.state disk.old).contents (D.state disk.new).contents }
 
     // Which refusal comes when, and what it leaves.
     ensures only { IfErr result (λ error. (error ≡ Device) ⊎ (error ≡ Failed)) }
@@ -246,7 +253,7 @@ fn move_across<D: Disk>(
 {
     let _booked = core.table.booked(); // any table is one as it should be
     let at = prime_of(&core.versions, key);
-    let words = match read_prime(disk, at) {
+    let words = match read_prime(disk, at, &core.versions, key, ppn, name) {
         Ok(words) => words,
         Err(error) => {
             *failed = true; // nothing is known of the disk any more
@@ -297,7 +304,8 @@ impl<D: Disk> Volume<D> {
         // What it does to core, and to versions that are read and written.
         ensures moved { OnOk result ((key : ℕ) × (v : LiveVersion) × (words : List ℕ) × (puts : List Put)
             × MovesAcross (D.state self.old.disk).size self.old.core self.new.core ppn name.now to_ppn to.now protection
-            key v words puts × ((D.state self.new.disk).honest → (D.state self.old.disk).contents v.at ≡ Some words)) }
+            key v words puts × ((D.state self.new.disk).honest → (D.state self.old.disk).contents v.at ≡ Some words)
+            × IsFilePrime words ppn name.now v) }
         ensures pending { self.new.core.pending ≡ self.old.core.pending }
         ensures held { (k : ℕ) (v : LiveVersion) → slot self.old.core.live k ≡ Some v → 0 < v.readers
             → (prime : PrimeValue) × (slot self.new.core.live k ≡ Some (record v { prime = prime })) }
@@ -305,6 +313,11 @@ impl<D: Disk> Volume<D> {
             → KeepsRead (D.state self.old.disk).contents (D.state self.new.disk).contents self.old.core }
         ensures writers { (D.state self.new.disk).honest → (IsErrOf result Device → ⊥)
             → KeepsEachWritten (D.state self.old.disk).contents (D.state self.new.disk).contents self.old.core }
+        // The home copies stay, but where the device failed; a crash at any moment leaves there what one could before.
+        ensures homes { (D.state self.new.disk).honest
+            → LeavesOnly (D.state self.old.disk) (D.state self.new.disk) (HasHomesFrom (D.state self.old.disk)) }
+        ensures home_blocks { (D.state self.new.disk).honest → (IsErrOf result Device → ⊥)
+            → KeepsHomes (D.state self.old.disk).contents (D.state self.new.disk).contents }
 
         // The new place has the prime block that the old one had, which has none then; each other place keeps its own.
         ensures here { OnOk result (prime_at self.new.core to_ppn to.now ≡ prime_at self.old.core ppn name.now) }

@@ -20,12 +20,14 @@ ghost use Rattle.retrieval.specs.declared.prime.Prime.{Prime as PrimeValue};
 ghost use Rattle.volume.specs.Beginning.{IsDirectoryOf};
 ghost use Rattle.volume.specs.Claims.{claims};
 ghost use Rattle.volume.specs.Cores.{file_view};
+ghost use Rattle.volume.specs.HomeBlocks.{HasHomesFrom, KeepsHomes};
 ghost use Rattle.volume.specs.Known.{KnownDirectory};
 ghost use Rattle.volume.specs.Live.{slot, IsWholeCore};
 ghost use Rattle.volume.specs.LiveCores.{core_of};
 ghost use Rattle.volume.specs.Moving.{files_moved, IsFreeFor, IsPrimeMoved, IsMoveRefusal, MovesWithin};
 ghost use Rattle.volume.specs.Pins.{IsKeyOf};
 ghost use Rattle.volume.specs.Places.{prime_at};
+ghost use Rattle.volume.specs.PrimeBlocks.{IsFilePrime};
 ghost use Rattle.volume.specs.Rest.{IsSoundCore, RestsAt, StandsForOneOf, KeepsRead, KeepsEachWritten};
 ghost use Rattle.volume.specs.declared.error.CallError.{CallError};
 ghost use Rattle.volume.specs.declared.error.CallError.TheVariants.{Refused, Device, Failed, NoMemory};
@@ -41,7 +43,7 @@ use blockdisk::{Disk, Fault};
 use changeset::ChangeSet;
 use directory::FileEntry;
 use meaning::ErrorCode;
-use retrieval::{Prime, prime_block_for};
+use retrieval::{Prime, is_prime_of, prime_block_for};
 use slab::Slab;
 use words36::{Block, FileName, Ppn};
 
@@ -95,12 +97,12 @@ pub(crate) fn prime_of(versions: &Slab<LiveVersion>, key: usize) -> u32
     }
 }
 
-/// The words of a prime block.
+/// The words of a block.
 ///
 /// # Errors
 ///
 /// `Device` where the device failed, and `Failed` where the block is damaged.
-pub(crate) fn read_prime<D: Disk>(disk: &mut D, at: u32) -> Result<Block, CallError>
+fn read_words<D: Disk>(disk: &mut D, at: u32) -> Result<Block, CallError>
     requires { at < (D.state disk.old).size }
     ensures words { (D.state disk.new).honest → IfOk result (λ words. (D.state disk.old).contents at ≡ Some words) }
     ensures damaged { (D.state disk.new).honest → IsErrOf result Failed → (D.state disk.old).contents at ≡ None }
@@ -115,6 +117,66 @@ pub(crate) fn read_prime<D: Disk>(disk: &mut D, at: u32) -> Result<Block, CallEr
         Err(Fault::Damaged) => Err(CallError::Failed),
         Err(Fault::Device) => Err(CallError::Device),
     }
+}
+
+/// Whether these are the words of the prime block of the version under a key, which a file of this place has.
+fn is_file_prime(
+    versions: &Slab<LiveVersion>,
+    key: usize,
+    ppn: Ppn,
+    name: &FileName,
+    words: &Block,
+) -> bool
+    requires there { IsSome (slot versions.now.slots key) }
+    ensures yes { IsTrue result → (v : LiveVersion) → slot versions.now.slots key ≡ Some v
+        → IsFilePrime words.now ppn name.now v }
+    ensures no { result ≡ false → (v : LiveVersion) → slot versions.now.slots key ≡ Some v
+        → IsFilePrime words.now ppn name.now v → ⊥ }
+{
+    let Some(version) = versions.get(key) else {
+        unreachable!() // there is one
+    };
+    let prime = prime_moved(&version.prime, ppn, name, version.prime.protection);
+    is_prime_of(words, &prime, &version.version)
+}
+
+/// The words of the prime block `at` of the version under a key, which a file of this place has.
+///
+/// # Errors
+///
+/// `Device` where the device failed, and `Failed` where the block is damaged, or where its words aren't those of the prime
+/// block of this version and place.
+pub(crate) fn read_prime<D: Disk>(
+    disk: &mut D,
+    at: u32,
+    versions: &Slab<LiveVersion>,
+    key: usize,
+    ppn: Ppn,
+    name: &FileName,
+) -> Result<Block, CallError>
+    requires inside { at < (D.state disk.old).size }
+    requires there { IsSome (slot versions.now.slots key) }
+    ensures words { (D.state disk.new).honest → IfOk result (λ words. (D.state disk.old).contents at ≡ Some words) }
+    // On every disk it is the prime block of the version; and if it is that, it isn't refused.
+    ensures prime { IfOk result (λ words. (v : LiveVersion) → slot versions.now.slots key ≡ Some v
+        → IsFilePrime words ppn name.now v) }
+    ensures broken { (D.state disk.new).honest → IsErrOf result Failed → (v : LiveVersion) (words : List ℕ)
+        → slot versions.now.slots key ≡ Some v → (D.state disk.old).contents at ≡ Some words
+        → IsFilePrime words ppn name.now v → ⊥ }
+    ensures keeps { (D.state disk.new).honest → Keeps (D.state disk.old) (D.state disk.new) }
+    ensures only { IfErr result (λ error. (error ≡ Device) ⊎ (error ≡ Failed)) }
+    ensures failed { IsErrOf result Device → (D.state disk.new).failures ≡ one_more (D.state disk.old).failures }
+    ensures served { (IsErrOf result Device → ⊥) → (D.state disk.new).failures ≡ (D.state disk.old).failures }
+    ensures same { SameDisk (D.state disk.old) (D.state disk.new) }
+{
+    let words = match read_words(disk, at) {
+        Ok(words) => words,
+        Err(error) => return Err(error),
+    };
+    if !is_file_prime(versions, key, ppn, name, &words) {
+        return Err(CallError::Failed); // only a broken promise of the disk explains it
+    }
+    Ok(words)
 }
 
 /// What the prime block of a file says that has another place and protection.
@@ -258,7 +320,8 @@ fn move_within<D: Disk>(
     ensures sound { IsSoundCore (D.state disk.new) (core_of map.new) failed.new }
     ensures moved { OnOk result ((v : LiveVersion) × (words : List ℕ) × (puts : List Put)
         × MovesWithin (D.state disk.old).size (core_of map.old) (core_of map.new) ppn name.now to.now protection key v
-        words puts × ((D.state disk.new).honest → (D.state disk.old).contents v.at ≡ Some words)) }
+        words puts × ((D.state disk.new).honest → (D.state disk.old).contents v.at ≡ Some words)
+        × IsFilePrime words ppn name.now v) }
     ensures pending { (core_of map.new).pending ≡ (core_of map.old).pending }
     ensures held { (k : ℕ) (v : LiveVersion) → slot (core_of map.old).live k ≡ Some v
         → (prime : PrimeValue) × (slot (core_of map.new).live k ≡ Some (record v { prime = prime })) }
@@ -271,6 +334,10 @@ fn move_within<D: Disk>(
         → KeepsRead (D.state disk.old).contents (D.state disk.new).contents (core_of map.old) }
     ensures writers { (D.state disk.new).honest → (IsErrOf result Device → ⊥)
         → KeepsEachWritten (D.state disk.old).contents (D.state disk.new).contents (core_of map.old) }
+    ensures homes { (D.state disk.new).honest
+        → LeavesOnly (D.state disk.old) (D.state disk.new) (HasHomesFrom (D.state disk.old)) }
+    ensures home_blocks { (D.state disk.new).honest → (IsErrOf result Device → ⊥)
+        → KeepsHomes (D.state disk.old).contents (D.state disk.new).contents }
 
     // Which refusal comes when, and what it leaves.
     ensures only { IfErr result (λ error. (error ≡ Device) ⊎ (error ≡ Failed)) }
@@ -283,7 +350,7 @@ fn move_within<D: Disk>(
 {
     let _booked = map.table.booked(); // any table is one as it should be
     let at = prime_of(&map.versions, key);
-    let words = match read_prime(disk, at) {
+    let words = match read_prime(disk, at, &map.versions, key, ppn, name) {
         Ok(words) => words,
         Err(error) => {
             *failed = true; // nothing is known of the disk any more
@@ -336,7 +403,8 @@ impl<D: Disk> Volume<D> {
         // What it does to core, and what it puts, where the prime block had these words.
         ensures moved { OnOk result ((key : ℕ) × (v : LiveVersion) × (words : List ℕ) × (puts : List Put)
             × MovesWithin (D.state self.old.disk).size self.old.core self.new.core ppn name.now to.now protection key v
-            words puts × ((D.state self.new.disk).honest → (D.state self.old.disk).contents v.at ≡ Some words)) }
+            words puts × ((D.state self.new.disk).honest → (D.state self.old.disk).contents v.at ≡ Some words)
+            × IsFilePrime words ppn name.now v) }
         // All versions in use stay, whatever the answer; and their blocks do, but where the device failed, since they
         // may have been open then.
         ensures pending { self.new.core.pending ≡ self.old.core.pending }
@@ -346,6 +414,11 @@ impl<D: Disk> Volume<D> {
             → KeepsRead (D.state self.old.disk).contents (D.state self.new.disk).contents self.old.core }
         ensures writers { (D.state self.new.disk).honest → (IsErrOf result Device → ⊥)
             → KeepsEachWritten (D.state self.old.disk).contents (D.state self.new.disk).contents self.old.core }
+        // The home copies stay, but where the device failed; a crash at any moment leaves there what one could before.
+        ensures homes { (D.state self.new.disk).honest
+            → LeavesOnly (D.state self.old.disk) (D.state self.new.disk) (HasHomesFrom (D.state self.old.disk)) }
+        ensures home_blocks { (D.state self.new.disk).honest → (IsErrOf result Device → ⊥)
+            → KeepsHomes (D.state self.old.disk).contents (D.state self.new.disk).contents }
         // The new place has the prime block that the old one had, which has none then; each other place keeps its own.
         ensures here { OnOk result (prime_at self.new.core ppn to.now ≡ prime_at self.old.core ppn name.now) }
         ensures gone { OnOk result ((to.now ≡ name.now → ⊥) → prime_at self.new.core ppn name.now ≡ None) }

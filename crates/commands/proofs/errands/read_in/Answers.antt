@@ -1,9 +1,9 @@
 use Rattle.std.proofs.Common.{ℕ, List, subst}
-use Rattle.std.specs.Prelude.{option_map}
 use Rattle.std.proofs.lemmas.Result.{err_from_is_err_and}
-use Rattle.meaning.specs.Errands.{keeps, AreWords}
+use Rattle.meaning.specs.Errands.{keeps}
+use Rattle.commands.specs.Reasons.{HasWords, words_said}
 use Rattle.commands.proofs.ErrandLaws.{carried, errand_done, errand_cut, delivered, undelivered, unread_by}
-use Rattle.commands.proofs.ErrandLaws.{memory_unread}
+use Rattle.commands.proofs.ErrandLaws.{memory_unread, words_are}
 use Rattle.commands.proofs.errands.read_in.Goals as goal
 
 pub returns-in_err-bytes : goal.returns-in_err-bytes
@@ -22,26 +22,33 @@ returns-in_default g c =
 pub returns-in_err-print : goal.returns-in_err-print
 returns-in_err-print g c =
     let p = err_from_is_err_and c.from_residual-in_err-print.result c.from_residual-in_err-print.ensures.1 in
-    let words = option_map (λ v. v.items) c.in-Ok.words in
+    let words = words_said (λ v. v.items) c.in-Ok.words in
     let plan = keeps c.args.moment c.args.owner c.args.encoding c.args.spec words in
     rw (p.1, p.2) (delivered g.S.FileService.machine _ _ _ _ _ _ c.args.encoding
     (keeps c.args.moment c.args.owner c.args.encoding c.args.spec) _ c.in_ok-bytes.bytes.items words
     c.in_ok-bytes.ensures.ok c.in_ok-bytes.ensures.end
-    (subst (λ (l : List ℕ). AreWords c.args.encoding l words) c.deref.ensures.value c.in-Ok.ensures)
+    (words_are (λ v. v.items) c.args.encoding c.in_ok-bytes.bytes.items c.in-Ok.words
+    (subst (λ (l : List ℕ). HasWords (λ v. v.items) c.args.encoding l c.in-Ok.words) c.deref.ensures.value
+    c.in-Ok.ensures))
     (errand_cut g.S.FileService.machine (λ bytes. bytes.items) c.put_words-text.result _ _ _ _ plan
     c.put_words-text.new.tally c.in_err-print.field-0.0
     (carried g.S.FileService.machine (λ bytes. bytes.items) c.put_words-text.result _ _ plan c.none-tally.result
-    c.put_words-text.new.tally c.none-tally.ensures c.put_words-text.ensures) c.in_err-print.ensures))
+    c.put_words-text.new.tally c.none-tally.ensures c.put_words-text.ensures) c.in_err-print.ensures) tt)
 
 pub returns : goal.returns
 returns g c =
-    let words = option_map (λ v. v.items) c.in-Ok.words in
+    let words = words_said (λ v. v.items) c.in-Ok.words in
     let plan = keeps c.args.moment c.args.owner c.args.encoding c.args.spec words in
     delivered g.S.FileService.machine _ _ _ _ _ _ c.args.encoding
     (keeps c.args.moment c.args.owner c.args.encoding c.args.spec) _ c.in_ok-bytes.bytes.items words
     c.in_ok-bytes.ensures.ok c.in_ok-bytes.ensures.end
-    (subst (λ (l : List ℕ). AreWords c.args.encoding l words) c.deref.ensures.value c.in-Ok.ensures)
+    (words_are (λ v. v.items) c.args.encoding c.in_ok-bytes.bytes.items c.in-Ok.words
+    (subst (λ (l : List ℕ). HasWords (λ v. v.items) c.args.encoding l c.in-Ok.words) c.deref.ensures.value
+    c.in-Ok.ensures))
     (errand_done g.S.FileService.machine (λ bytes. bytes.items) c.put_words-text.result _ _ _ _ plan
-    c.put_words-text.new.tally tt
+    (record c.put_words-text.new.tally { reason = c.reason_of-tally.result }) tt
     (carried g.S.FileService.machine (λ bytes. bytes.items) c.put_words-text.result _ _ plan c.none-tally.result
     c.put_words-text.new.tally c.none-tally.ensures c.put_words-text.ensures) c.in_ok-print.ensures)
+    (c.reason_of-tally.ensures c.args.encoding c.in_ok-bytes.bytes.items
+    (subst (λ (l : List ℕ). HasWords (λ v. v.items) c.args.encoding l c.in-Ok.words) c.deref.ensures.value
+    c.in-Ok.ensures))

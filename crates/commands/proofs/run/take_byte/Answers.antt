@@ -1,4 +1,4 @@
-use Rattle.std.proofs.Common.{subst, sym, List, []}
+use Rattle.std.proofs.Common.{◌∙◌, subst, sym, List, []}
 use Rattle.meaning.specs.Lines.{Line}
 use Rattle.commands.specs.PartialLines.{IsPartialLine}
 use Rattle.commands.specs.Sessions.{HeardIn}
@@ -15,6 +15,7 @@ pub returns-clause-ok : goal.returns-clause-ok
 returns-clause-ok g c = step_feed c.args.language g.S.FileService.machine c.tell.result _ _ _ _ c.args.moment
     c.args.talk.now c.tell.new.talk c.heard_of-heard.result c.args.byte c.if-byte-ne10.false
     (subst (λ (h : PartialLine). IsPartialLine h []) (sym c.tell.ensures.held) c.new-talk.ensures)
+    (c.tell.ensures.line ∙ c.saturating_add-talk.ensures)
     (λ seen h. subst (λ (l : List Line). HeardIn c.args.language c.args.moment l c.heard_of-heard.result)
     (c.ended.ensures seen h) c.heard_of-heard.ensures) c.tell.ensures.told
 

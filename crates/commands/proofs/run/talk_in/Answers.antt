@@ -7,7 +7,7 @@ use Rattle.commands.proofs.run.talk_in.Goals as goal
 
 pub loop-init : goal.loop-init
 loop-init g c = stream_starts c.args.language g.S.FileService.machine g.met.S.FileService.stands _ _ _
-    c.args.moment _ c.new.ensures refl refl refl
+    c.args.moment _ c.new.ensures refl refl c.none.ensures
 
 pub returns-in_default : goal.returns-in_default
 returns-in_default g c = stream_stops c.args.language g.S.FileService.machine _ _ _ _ _ _ _ c.args.moment

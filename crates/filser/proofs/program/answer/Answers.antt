@@ -1,19 +1,27 @@
 use Rattle.std.proofs.Common.{inl, inr, map, refl}
-use Rattle.clap.specs.Words.{fault_of}
+use Rattle.clap.specs.Words.{fault_of, subcommand_of}
 use Rattle.arguments.specs.CommandLine.{command_line}
 use Rattle.filser.proofs.ExitCodes.{bad_error, prints_only}
-use Rattle.filser.proofs.Unasked.{ends_mistaken, ends_shown}
+use Rattle.filser.proofs.Unasked.{ends_asked, ends_mistaken, ends_shown}
 use Rattle.filser.proofs.program.answer.Goals as goal
 
 pub returns-in-Err-clause-mistaken : goal.returns-in-Err-clause-mistaken
 returns-in-Err-clause-mistaken g c = rw c.without_disks.ensures
-    (ends_mistaken (fault_of command_line (map (λ w. w.now) c.args.words.now)) c.in-Err.error c.refuse.result
+    (ends_mistaken (fault_of command_line (map (λ w. w.now) c.args.words.now))
+    (subcommand_of command_line (map (λ w. w.now) c.args.words.now)) c.in-Err.error c.refuse.result
     c.refuse.ensures.ends c.in-Err.ensures.usage)
 
 pub returns-in-Err-clause-shown : goal.returns-in-Err-clause-shown
 returns-in-Err-clause-shown g c = rw c.without_disks.ensures
-    (ends_shown (fault_of command_line (map (λ w. w.now) c.args.words.now)) c.in-Err.error c.refuse.result
-    c.refuse.ensures.ends c.in-Err.ensures.usage (λ bad. (c.in-Err.ensures.bad bad).0))
+    (ends_shown (fault_of command_line (map (λ w. w.now) c.args.words.now))
+    (subcommand_of command_line (map (λ w. w.now) c.args.words.now)) c.in-Err.error c.refuse.result
+    c.refuse.ensures.ends c.in-Err.ensures.usage (λ wrong bad. (c.in-Err.ensures.bad wrong bad).0))
+
+pub returns-in-Err-clause-asked : goal.returns-in-Err-clause-asked
+returns-in-Err-clause-asked g c = rw c.without_disks.ensures
+    (ends_asked (fault_of command_line (map (λ w. w.now) c.args.words.now))
+    (subcommand_of command_line (map (λ w. w.now) c.args.words.now)) c.in-Err.error c.refuse.result
+    c.refuse.ensures.ends c.in-Err.ensures.usage (λ wrong bad. (c.in-Err.ensures.bad wrong bad).2))
 
 pub returns-in-Ok-clause-ran : goal.returns-in-Ok-clause-ran
 returns-in-Ok-clause-ran g c = record { is = inl (c.in-Ok.asked, c.in-Ok.ensures.asked, c.start.ensures.ran) }
@@ -25,8 +33,9 @@ returns-in-Err-clause-ran g c = rw c.without_disks.ensures (record {
     refl,
     record { image = refl; new = refl; memory = refl },
     c.refuse.ensures.ends,
-    prints_only (fault_of command_line (map (λ w. w.now) c.args.words.now)) c.in-Err.error _ _ c.in-Err.ensures.usage
-        c.refuse.ensures.unprinted c.refuse.ensures.mistake,
-    λ is r asks. (c.in-Err.ensures.bad (bad_error c.in-Err.error is)).1 r asks,
+    prints_only (fault_of command_line (map (λ w. w.now) c.args.words.now))
+        (subcommand_of command_line (map (λ w. w.now) c.args.words.now)) c.in-Err.error _ _ c.in-Err.ensures.usage
+        (λ wrong bad. (c.in-Err.ensures.bad wrong bad).1) c.refuse.ensures.unprinted c.refuse.ensures.mistake,
+    λ wrong is r asks. (c.in-Err.ensures.bad wrong (bad_error c.in-Err.error wrong is)).2 r asks,
   );
 })

@@ -1,6 +1,7 @@
 use Rattle.std.proofs.Common.{map}
 use Rattle.clap.specs.Words.{app_of}
-use Rattle.filser.proofs.Matching.{of_found, of_none, of_taken, of_usage}
+use Rattle.filser.specs.declared.error.RequestError.TheVariants.{BadArgument}
+use Rattle.filser.proofs.Matching.{of_bad, of_found, of_none, of_past, of_taken, of_usage, same_error}
 use Rattle.filser.proofs.reading.request.Goals as goal
 
 -- src/reading.rt:34:23
@@ -23,9 +24,19 @@ returns-in-Some-clause-taken c =
 
 -- src/reading.rt:21:1
 pub returns-clause-bad : goal.returns-clause-bad
-returns-clause-bad c is = (
+returns-clause-bad c wrong is = (
   of_taken (app_of c.in-Ok.command) (map (λ w. w.now) c.args.words.now) c.in-Ok.ensures
       c.in-Ok-try_get_matches_from.ensures.kinds,
+  of_bad (app_of c.in-Ok.command) (map (λ w. w.now) c.args.words.now) c.in-Ok-try_get_matches_from.matches wrong
+      c.in-Ok.ensures c.in-Ok-try_get_matches_from.ensures.matches
+      (c.unmatched.ensures.bad wrong (same_error c.unmatched.result (BadArgument wrong) is)),
   of_none (app_of c.in-Ok.command) (map (λ w. w.now) c.args.words.now) c.in-Ok-try_get_matches_from.matches
       c.in-Ok.ensures c.in-Ok-try_get_matches_from.ensures.matches c.in-None.ensures,
 )
+
+pub returns-clause-usage : goal.returns-clause-usage
+returns-clause-usage c e is =
+    of_past (app_of c.in-Ok.command) (map (λ w. w.now) c.args.words.now) c.in-Ok-try_get_matches_from.matches
+    c.unmatched.result e c.in-Ok.ensures c.in-Ok-try_get_matches_from.ensures.matches
+    (of_taken (app_of c.in-Ok.command) (map (λ w. w.now) c.args.words.now) c.in-Ok.ensures
+    c.in-Ok-try_get_matches_from.ensures.kinds) c.unmatched.ensures.usage c.in-None.ensures is

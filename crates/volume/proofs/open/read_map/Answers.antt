@@ -4,6 +4,7 @@ use Rattle.std.proofs.lemmas.Result.{err_from_is_err_and}
 use Rattle.blockdisk.specs.Disk.{Contents}
 use Rattle.blockdisk.specs.Laws.{same_contents}
 use Rattle.meaning.specs.Home.{IsHome}
+use Rattle.alloctab.specs.Inside.{InTable}
 use Rattle.alloctab.specs.Lists.{digit_at}
 use Rattle.alloctab.specs.TableState.{TableState}
 use Rattle.directory.specs.Chains.{viewed}
@@ -11,7 +12,7 @@ use Rattle.volume.specs.Cores.{master_view, known_directory}
 use Rattle.volume.specs.Known.{cost_of_known}
 use Rattle.volume.specs.Homes.{home_of_master}
 use Rattle.volume.specs.Found.{IsOnlySpace, IsMapFound, IsRightFor, IsWrongFor}
-use Rattle.volume.specs.FaultsFound.{NamesInSpace, SettledRefuses, IsTableRefusal}
+use Rattle.volume.specs.FaultsFound.{NamesInSpace, SettledRefuses}
 use Rattle.volume.proofs.Handing.{handed, found_on, home_named, table_named, named_on}
 use Rattle.volume.proofs.FoundMaps.{map_found, map_held, table_fault}
 use Rattle.volume.proofs.Opening.{table_refused, right_bits, read_whole, read_booked}
@@ -212,4 +213,6 @@ returns-in_err-table-clause-named g c =
     let p = err_from_is_err_and c.from_residual-in_err-table.result c.from_residual-in_err-table.ensures.1 in
     handed (NamesInSpace size) c.from_residual-in_err-table.result c.load_table.result p.0 c.in_err-table.field-0.0
     p.1 p.2 c.in_err-table.was
-    (found_on IsTableRefusal (NamesInSpace size) c.load_table.result (table_named size) c.load_table.ensures.only)
+    (table_named size c.load_table.result c.load_table.ensures.only
+    (λ n is. subst (λ (k : ℕ). InTable k n) (c.read_tree.ensures.same.size ∙ c.read_home.ensures.same.size)
+    (c.load_table.ensures.named n is)))

@@ -10,6 +10,7 @@ use Rattle.volume.proofs.PublishingBlocks.{version_words, version_enough, versio
 use Rattle.volume.proofs.PublishingTransactions.{ok_is, mid_shut, written_failed, written_crash, committed_crash}
 use Rattle.volume.proofs.PublishingTransactions.{committed_done, committed_readers, committed_writers, committed_failed}
 use Rattle.volume.proofs.PublishingTransactions.{committed_sound}
+use Rattle.volume.proofs.PublishingHomes.{written_homes, committed_homes, committed_blocks}
 use Rattle.volume.proofs.publish.publish_written.Goals as goal
 
 pub write_retrieval_blocks-written-requires-clause-inside :
@@ -167,3 +168,47 @@ returns-in-Err-clause-sound g c =
     let there = some_of (pending_at (core_of c.args.map.now).pending c.args.key) c.requires.there in
     let made = made_current_of c.requires.sound (c.make_current-current.ensures there.0 there.1) c.in-Some.ensures in
     committed_failed c.requires.sound made c.write_retrieval_blocks-written.ensures.same c.commit_puts.ensures.same
+
+-- The home copies.
+
+pub returns-then-is_err-clause-homes : goal.returns-then-is_err-clause-homes
+returns-then-is_err-clause-homes g c h =
+    let there = some_of (pending_at (core_of c.args.map.now).pending c.args.key) c.requires.there in
+    let made = made_current_of c.requires.sound (c.make_current-current.ensures there.0 there.1) c.in-Some.ensures in
+    written_homes c.requires.sound made (c.write_retrieval_blocks-written.ensures.modified h)
+    (λ d left. g.met.D.Disk.only_now c.args.disk.now d (c.write_retrieval_blocks-written.ensures.same.was_honest h)
+    left)
+
+pub returns-then-is_err-clause-home_blocks : goal.returns-then-is_err-clause-home_blocks
+returns-then-is_err-clause-home_blocks g c h served = absurd (served refl)
+
+pub returns-in-Ok-clause-homes : goal.returns-in-Ok-clause-homes
+returns-in-Ok-clause-homes g c h =
+    let there = some_of (pending_at (core_of c.args.map.now).pending c.args.key) c.requires.there in
+    let made = made_current_of c.requires.sound (c.make_current-current.ensures there.0 there.1) c.in-Some.ensures in
+    let m = c.commit_puts.ensures.same.was_honest h in
+    committed_homes c.requires.sound made (c.write_retrieval_blocks-written.ensures.modified m)
+    (g.D.Disk.state c.commit_puts.new.disk)
+    (λ d left. g.met.D.Disk.only_now c.args.disk.now d (c.write_retrieval_blocks-written.ensures.same.was_honest m)
+    left) (c.commit_puts.ensures.near h)
+
+pub returns-in-Ok-clause-home_blocks : goal.returns-in-Ok-clause-home_blocks
+returns-in-Ok-clause-home_blocks g c h served =
+    let there = some_of (pending_at (core_of c.args.map.now).pending c.args.key) c.requires.there in
+    let made = made_current_of c.requires.sound (c.make_current-current.ensures there.0 there.1) c.in-Some.ensures in
+    committed_blocks c.requires.sound made
+    (c.write_retrieval_blocks-written.ensures.modified (c.commit_puts.ensures.same.was_honest h))
+    (g.D.Disk.state c.commit_puts.new.disk) (c.in-Ok.ensures.modified h)
+
+pub returns-in-Err-clause-homes : goal.returns-in-Err-clause-homes
+returns-in-Err-clause-homes g c h =
+    let there = some_of (pending_at (core_of c.args.map.now).pending c.args.key) c.requires.there in
+    let made = made_current_of c.requires.sound (c.make_current-current.ensures there.0 there.1) c.in-Some.ensures in
+    let m = c.commit_puts.ensures.same.was_honest h in
+    committed_homes c.requires.sound made (c.write_retrieval_blocks-written.ensures.modified m)
+    (g.D.Disk.state c.commit_puts.new.disk)
+    (λ d left. g.met.D.Disk.only_now c.args.disk.now d (c.write_retrieval_blocks-written.ensures.same.was_honest m)
+    left) (c.commit_puts.ensures.near h)
+
+pub returns-in-Err-clause-home_blocks : goal.returns-in-Err-clause-home_blocks
+returns-in-Err-clause-home_blocks g c h served = absurd (served refl)

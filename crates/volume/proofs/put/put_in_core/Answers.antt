@@ -3,6 +3,8 @@ use Rattle.volume.specs.Live.{pending_at}
 use Rattle.volume.specs.LiveCores.{core_of}
 use Rattle.volume.specs.Rest.{IsSoundCore}
 use Rattle.volume.specs.declared.pending.PendingVersion.{PendingVersion}
+use Rattle.retrieval.specs.Bodies.{IsOwn}
+use Rattle.volume.proofs.HomesKept.{homes_start, homes_modified, homes_stay, clear_past}
 use Rattle.volume.proofs.PuttingCore.{some_of, ready}
 use Rattle.volume.proofs.PuttingDisk.{keeps_read, keeps_written, none_damaged, put_failed, put_done, crash_finds}
 use Rattle.volume.proofs.PuttingDisk.{rest_finds}
@@ -160,3 +162,81 @@ returns-in-Ok-clause-writers g c h =
     let p : PendingVersion = there.0 in
     keeps_written s.size core c.requires.sound.whole c.args.key p there.1 s.contents s'.contents
     (c.put_pending.ensures.modified h p there.1).contents
+
+-- The home copies.
+
+pub returns-in-Err-Device-clause-homes : goal.returns-in-Err-Device-clause-homes
+returns-in-Err-Device-clause-homes g c h =
+    let s = g.D.Disk.state c.args.disk.now in
+    let core = core_of c.args.map.now in
+    let there = some_of (pending_at core.pending c.args.key) c.requires.live in
+    let p : PendingVersion = there.0 in
+    homes_modified (IsOwn core.known.table p.version.blocks) s (g.D.Disk.state c.put_pending.new.disk)
+    (λ n low own. clear_past s.size core.known c.requires.sound.whole.map n low own.clear)
+    (λ d left. g.met.D.Disk.only_now c.args.disk.now d (c.put_pending.ensures.same.was_honest h) left)
+    (c.put_pending.ensures.modified h p there.1)
+
+pub returns-in-Err-Device-clause-home_blocks : goal.returns-in-Err-Device-clause-home_blocks
+returns-in-Err-Device-clause-home_blocks g c h =
+    let s = g.D.Disk.state c.args.disk.now in
+    let core = core_of c.args.map.now in
+    let there = some_of (pending_at core.pending c.args.key) c.requires.live in
+    let p : PendingVersion = there.0 in
+    homes_stay (IsOwn core.known.table p.version.blocks) s (g.D.Disk.state c.put_pending.new.disk)
+    (λ n low own. clear_past s.size core.known c.requires.sound.whole.map n low own.clear)
+    (c.put_pending.ensures.modified h p there.1)
+
+pub returns-in-Err-clause-homes : goal.returns-in-Err-clause-homes
+returns-in-Err-clause-homes g c h =
+    let s = g.D.Disk.state c.args.disk.now in
+    let core = core_of c.args.map.now in
+    let there = some_of (pending_at core.pending c.args.key) c.requires.live in
+    let p : PendingVersion = there.0 in
+    homes_modified (IsOwn core.known.table p.version.blocks) s (g.D.Disk.state c.put_pending.new.disk)
+    (λ n low own. clear_past s.size core.known c.requires.sound.whole.map n low own.clear)
+    (λ d left. g.met.D.Disk.only_now c.args.disk.now d (c.put_pending.ensures.same.was_honest h) left)
+    (c.put_pending.ensures.modified h p there.1)
+
+pub returns-in-Err-clause-home_blocks : goal.returns-in-Err-clause-home_blocks
+returns-in-Err-clause-home_blocks g c h =
+    let s = g.D.Disk.state c.args.disk.now in
+    let core = core_of c.args.map.now in
+    let there = some_of (pending_at core.pending c.args.key) c.requires.live in
+    let p : PendingVersion = there.0 in
+    homes_stay (IsOwn core.known.table p.version.blocks) s (g.D.Disk.state c.put_pending.new.disk)
+    (λ n low own. clear_past s.size core.known c.requires.sound.whole.map n low own.clear)
+    (c.put_pending.ensures.modified h p there.1)
+
+pub returns-in-Ok-clause-homes : goal.returns-in-Ok-clause-homes
+returns-in-Ok-clause-homes g c h =
+    let s = g.D.Disk.state c.args.disk.now in
+    let core = core_of c.args.map.now in
+    let there = some_of (pending_at core.pending c.args.key) c.requires.live in
+    let p : PendingVersion = there.0 in
+    homes_modified (IsOwn core.known.table p.version.blocks) s (g.D.Disk.state c.put_pending.new.disk)
+    (λ n low own. clear_past s.size core.known c.requires.sound.whole.map n low own.clear)
+    (λ d left. g.met.D.Disk.only_now c.args.disk.now d (c.put_pending.ensures.same.was_honest h) left)
+    (c.put_pending.ensures.modified h p there.1)
+
+pub returns-in-Ok-clause-home_blocks : goal.returns-in-Ok-clause-home_blocks
+returns-in-Ok-clause-home_blocks g c h =
+    let s = g.D.Disk.state c.args.disk.now in
+    let core = core_of c.args.map.now in
+    let there = some_of (pending_at core.pending c.args.key) c.requires.live in
+    let p : PendingVersion = there.0 in
+    homes_stay (IsOwn core.known.table p.version.blocks) s (g.D.Disk.state c.put_pending.new.disk)
+    (λ n low own. clear_past s.size core.known c.requires.sound.whole.map n low own.clear)
+    (c.put_pending.ensures.modified h p there.1)
+
+pub returns-then-failed-clause-homes : goal.returns-then-failed-clause-homes
+returns-then-failed-clause-homes g c h = homes_start (g.D.Disk.state c.args.disk.now)
+    (λ d left. g.met.D.Disk.only_now c.args.disk.now d h left)
+
+pub returns-then-is_empty-clause-homes : goal.returns-then-is_empty-clause-homes
+returns-then-is_empty-clause-homes g c h = homes_start (g.D.Disk.state c.args.disk.now)
+    (λ d left. g.met.D.Disk.only_now c.args.disk.now d h left)
+
+-- A damaged block is refused.
+
+pub returns-in-Ok-clause-whole : goal.returns-in-Ok-clause-whole
+returns-in-Ok-clause-whole g c h some = c.in-Ok.ensures.whole h

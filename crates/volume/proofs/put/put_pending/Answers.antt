@@ -1,8 +1,9 @@
-use Rattle.std.proofs.Common.{◌≡◌, ℕ, List, length, Some, slice_set, sym, subst}
+use Rattle.std.proofs.Common.{◌≡◌, ℕ, ◌-◌, List, length, Some, None, slice_set, sym, subst}
 use Rattle.blockdisk.specs.Laws.{modifies_start}
 use Rattle.meaning.specs.Retrieval.{HasBody}
 use Rattle.meaning.specs.Splices.{splice, length_after}
 use Rattle.retrieval.specs.Bodies.{IsOwn}
+use Rattle.retrieval.specs.Placing.{IsEdgeBlock}
 use Rattle.volume.specs.declared.pending.PendingVersion.{PendingVersion}
 use Rattle.volume.proofs.PuttingCore.{same_version, now_put, regrown_same}
 use Rattle.volume.proofs.put.put_pending.Goals as goal
@@ -41,3 +42,11 @@ returns-in-Ok-clause-put g c p was =
           → HasBody s'.contents c.put_booked.new.version.blocks (splice body c.args.block c.args.words.now))
           same c.in-Ok.ensures.body,
     )
+
+pub returns-in-Ok-clause-whole : goal.returns-in-Ok-clause-whole
+returns-in-Ok-clause-whole g c h p was =
+    let s = g.D.Disk.state c.args.disk.now in
+    let same = same_version c.args.pending.now.slots c.args.key c.in-Some.pending.now p c.in-Some.ensures.value was in
+    subst (λ (q : PendingVersion). (n : ℕ)
+    → IsEdgeBlock q.version.blocks q.version.words (c.args.block - 1) (length c.args.words.now) n
+    → s.contents n ≡ None → ⊥) same (c.in-Ok.ensures.whole h)

@@ -1,16 +1,20 @@
-use Rattle.std.proofs.Common.{ℕ, ◌<◌, Bool, sym, ap, subst, ◌∙◌}
+use Rattle.std.proofs.Common.{ℕ, ◌<◌, ◌⊎◌, Bool, refl, sym, ap, subst, ◌∙◌}
+use Rattle.changeset.specs.Crashes.{IsGateOrLog}
+use Rattle.changeset.specs.Puts.{IsPutIn}
 use Rattle.volume.specs.LiveCores.{core_of}
 use Rattle.volume.specs.Moving.{MovesWithin}
 use Rattle.volume.specs.Rest.{IsSoundCore}
 use Rattle.volume.specs.declared.error.CallError.TheVariants.{Failed}
+use Rattle.volume.proofs.HomesKept.{homes_read, homes_committed, homes_stay}
 use Rattle.volume.proofs.MakingDirectories.{err_on}
-use Rattle.volume.proofs.RenamingTransactions.{first_below, prime_stands, read_crash, read_shut, move_in_range}
+use Rattle.volume.proofs.PrimesRead.{prime_holds}
+use Rattle.volume.proofs.RenamingTransactions.{first_below, read_crash, read_shut, move_in_range}
 use Rattle.volume.proofs.RenamingTransactions.{move_few, move_readers, move_writers, move_crash, move_done, move_sound}
-use Rattle.volume.proofs.RenamingTransactions.{move_failed, move_held, within_move}
+use Rattle.volume.proofs.RenamingTransactions.{move_failed, move_held, move_low, within_move}
 use Rattle.volume.proofs.rename_within.move_within.Goals as goal
 
-pub read_prime-requires : goal.read_prime-requires
-read_prime-requires g c =
+pub read_prime-requires-clause-inside : goal.read_prime-requires-clause-inside
+read_prime-requires-clause-inside g c =
     let s = g.D.Disk.state c.args.disk.now in
     let core = core_of c.args.map.now in
     let file = c.requires.there in
@@ -33,13 +37,12 @@ returns-in-Err-clause-crash g c h f rests =
 pub returns-in-Err-clause-given_up : goal.returns-in-Err-clause-given_up
 returns-in-Err-clause-given_up g c is h =
     let s = g.D.Disk.state c.args.disk.now in
-    let mid = g.D.Disk.state c.read_prime.new.disk in
     let core = core_of c.args.map.now in
     let same = c.read_prime.ensures.same in
     let file = c.requires.there in
-    prime_stands s mid core c.requires.sound same (same.was_honest h) c.args.ppn c.args.name.now c.args.key file
-    (ap s.contents (sym (c.prime_of-at.ensures file.version file.here))
-    ∙ c.in-Err.ensures.damaged h (err_on c.in-Err.error Failed is))
+    let holds = prime_holds s core c.requires.sound (same.was_honest h) c.args.ppn c.args.name.now c.args.key file in
+    c.in-Err.ensures.broken h (err_on c.in-Err.error Failed is) file.version holds.0 file.here
+    (ap s.contents (c.prime_of-at.ensures file.version file.here) ∙ holds.1) holds.2
 
 pub commit_puts-requires-clause-in_range : goal.commit_puts-requires-clause-in_range
 commit_puts-requires-clause-in_range g c =
@@ -77,6 +80,7 @@ returns-in-Ok-commit_puts-clause-moved g c =
       moves,
       λ h. ap s.contents (sym (c.prime_of-at.ensures v moves.there))
           ∙ c.in-Ok.ensures.words (c.commit_puts.ensures.same.was_honest h),
+      c.in-Ok.ensures.prime v moves.there,
     )
 
 pub returns-in-Ok-commit_puts-clause-held : goal.returns-in-Ok-commit_puts-clause-held
@@ -156,3 +160,53 @@ returns-in-Err-commit_puts-clause-crash g c h f rests =
     (g.D.Disk.state c.commit_puts.new.disk)
     (c.commit_puts.ensures.crash h (read_shut s mid (core_of c.args.map.now) sound same h₀ keeps)) f rests
     (λ d left. g.met.D.Disk.only_now c.args.disk.now d h₀ left)
+
+-- The home copies.
+
+pub returns-in-Err-clause-homes : goal.returns-in-Err-clause-homes
+returns-in-Err-clause-homes g c h =
+    homes_read (g.D.Disk.state c.args.disk.now) (g.D.Disk.state c.read_prime.new.disk)
+    (λ d left. g.met.D.Disk.only_now c.args.disk.now d (c.read_prime.ensures.same.was_honest h) left)
+    (c.read_prime.ensures.keeps h)
+
+pub returns-in-Err-clause-home_blocks : goal.returns-in-Err-clause-home_blocks
+returns-in-Err-clause-home_blocks g c h served n low = (c.read_prime.ensures.keeps h).contents n
+
+pub returns-in-Ok-commit_puts-clause-homes : goal.returns-in-Ok-commit_puts-clause-homes
+returns-in-Ok-commit_puts-clause-homes g c h =
+    let s = g.D.Disk.state c.args.disk.now in
+    let mid = g.D.Disk.state c.read_prime.new.disk in
+    let s' = g.D.Disk.state c.commit_puts.new.disk in
+    let puts = c.move_in_core.new.set in
+    let move = within_move c.requires.sound c.move_in_core.ensures.1 c.requires.protection c.requires.unclaimed in
+    let low = move_low c.requires.sound move c.read_prime.ensures.same c.booked-booked.ensures.sound in
+    let m = c.commit_puts.ensures.same.was_honest h in
+    homes_committed (λ n. IsGateOrLog mid.size n ⊎ IsPutIn puts n) s mid s' low
+    (λ d left. g.met.D.Disk.only_now c.args.disk.now d (c.read_prime.ensures.same.was_honest m) left)
+    (c.read_prime.ensures.keeps m) (c.commit_puts.ensures.near h)
+
+pub returns-in-Ok-commit_puts-clause-home_blocks : goal.returns-in-Ok-commit_puts-clause-home_blocks
+returns-in-Ok-commit_puts-clause-home_blocks g c h served n small =
+    let mid = g.D.Disk.state c.read_prime.new.disk in
+    let s' = g.D.Disk.state c.commit_puts.new.disk in
+    let puts = c.move_in_core.new.set in
+    let move = within_move c.requires.sound c.move_in_core.ensures.1 c.requires.protection c.requires.unclaimed in
+    let low = move_low c.requires.sound move c.read_prime.ensures.same c.booked-booked.ensures.sound in
+    homes_stay (λ n. IsGateOrLog mid.size n ⊎ IsPutIn puts n) mid s' low (c.in-Ok-commit_puts.ensures.modified h) n small
+    ∙ (c.read_prime.ensures.keeps (c.commit_puts.ensures.same.was_honest h)).contents n
+
+pub returns-in-Err-commit_puts-clause-homes : goal.returns-in-Err-commit_puts-clause-homes
+returns-in-Err-commit_puts-clause-homes g c h =
+    let s = g.D.Disk.state c.args.disk.now in
+    let mid = g.D.Disk.state c.read_prime.new.disk in
+    let s' = g.D.Disk.state c.commit_puts.new.disk in
+    let puts = c.move_in_core.new.set in
+    let move = within_move c.requires.sound c.move_in_core.ensures.1 c.requires.protection c.requires.unclaimed in
+    let low = move_low c.requires.sound move c.read_prime.ensures.same c.booked-booked.ensures.sound in
+    let m = c.commit_puts.ensures.same.was_honest h in
+    homes_committed (λ n. IsGateOrLog mid.size n ⊎ IsPutIn puts n) s mid s' low
+    (λ d left. g.met.D.Disk.only_now c.args.disk.now d (c.read_prime.ensures.same.was_honest m) left)
+    (c.read_prime.ensures.keeps m) (c.commit_puts.ensures.near h)
+
+pub returns-in-Err-commit_puts-clause-home_blocks : goal.returns-in-Err-commit_puts-clause-home_blocks
+returns-in-Err-commit_puts-clause-home_blocks g c h served = absurd (served refl)

@@ -1,11 +1,14 @@
-use Rattle.std.proofs.Common.{ℕ, subst}
+use Rattle.std.proofs.Common.{◌⊎◌, ℕ, refl, subst, arith}
+use Rattle.changeset.specs.Crashes.{IsGateOrLog}
+use Rattle.changeset.specs.Puts.{IsPutIn}
 use Rattle.volume.specs.Live.{as_known}
 use Rattle.volume.specs.LiveCores.{core_of}
 use Rattle.volume.specs.Removing.{RemovesFile}
 use Rattle.volume.proofs.RemovedPlaces.{is_named, primes_elsewhere, primes_gone}
-use Rattle.volume.proofs.RemovingLaw.{removed_in_range}
+use Rattle.volume.proofs.RemovingLaw.{removed_in_range, removed_low}
 use Rattle.volume.proofs.RemovingTransactions.{removed_failed, removed_sound, removed_crash, removed_done}
 use Rattle.volume.proofs.RemovingTransactions.{removed_reads, removed_writes}
+use Rattle.volume.proofs.HomesKept.{homes_start, homes_near, homes_stay, past_homes}
 use Rattle.volume.proofs.map.Volume.delete.Goals as goal
 
 pub commit_puts-requires-clause-in_range : goal.commit_puts-requires-clause-in_range
@@ -223,3 +226,73 @@ returns-in-Err-commit_puts-clause-not_found g c = rw (← c.self.view_is) (λ al
       c.self.invariant.whole c.args.ppn c.args.name.now c.in_default.field-0 c.in_default.ensures.found absent.0
       absent.1 absent.2),
 ))
+
+-- The home copies.
+
+pub returns-then-self-clause-homes : goal.returns-then-self-clause-homes
+returns-then-self-clause-homes g c = rw (← c.self.view_is) (λ h.
+    homes_start (g.D.Disk.state c.self.inside.disk) (λ d left. g.met.D.Disk.only_now c.self.inside.disk d h left))
+
+pub returns-in-Err-clause-homes : goal.returns-in-Err-clause-homes
+returns-in-Err-clause-homes g c = rw (← c.self.view_is) (λ h.
+    homes_start (g.D.Disk.state c.self.inside.disk) (λ d left. g.met.D.Disk.only_now c.self.inside.disk d h left))
+
+pub returns-in-Ok-clause-homes : goal.returns-in-Ok-clause-homes
+returns-in-Ok-clause-homes g c = rw (← c.self.view_is) (λ h.
+    let s = g.D.Disk.state c.self.inside.disk in
+    let s' = g.D.Disk.state c.commit_puts.new.disk in
+    let core = core_of c.self.inside.map in
+    let new = core_of c.remove_in_core.new.core in
+    let ppn = c.args.ppn in
+    let name = c.args.name.now in
+    let puts = c.remove_in_core.new.set in
+    let made = c.remove_in_core.ensures.removed in
+    let key = made.0 in
+    let v = made.1 in
+    let whole = c.self.invariant.whole in
+    let is : RemovesFile s.size core new ppn name key v puts = subst (λ (b : ℕ).
+    RemovesFile b core new ppn name key v puts) whole.map.size_is made.2 in
+    let past = past_homes s.size puts (λ n low. removed_low s.size core.known new.known ppn name (v.at, as_known v) puts
+    whole.map is.removed n (omega arith)) in
+    homes_near (λ m. IsGateOrLog s.size m ⊎ IsPutIn puts m) s s' past (c.commit_puts.ensures.near h))
+
+pub returns-in-Err-commit_puts-clause-homes : goal.returns-in-Err-commit_puts-clause-homes
+returns-in-Err-commit_puts-clause-homes g c = rw (← c.self.view_is) (λ h.
+    let s = g.D.Disk.state c.self.inside.disk in
+    let s' = g.D.Disk.state c.commit_puts.new.disk in
+    let core = core_of c.self.inside.map in
+    let new = core_of c.remove_in_core.new.core in
+    let ppn = c.args.ppn in
+    let name = c.args.name.now in
+    let puts = c.remove_in_core.new.set in
+    let made = c.remove_in_core.ensures.removed in
+    let key = made.0 in
+    let v = made.1 in
+    let whole = c.self.invariant.whole in
+    let is : RemovesFile s.size core new ppn name key v puts = subst (λ (b : ℕ).
+    RemovesFile b core new ppn name key v puts) whole.map.size_is made.2 in
+    let past = past_homes s.size puts (λ n low. removed_low s.size core.known new.known ppn name (v.at, as_known v) puts
+    whole.map is.removed n (omega arith)) in
+    homes_near (λ m. IsGateOrLog s.size m ⊎ IsPutIn puts m) s s' past (c.commit_puts.ensures.near h))
+
+pub returns-in-Ok-clause-home_blocks : goal.returns-in-Ok-clause-home_blocks
+returns-in-Ok-clause-home_blocks g c = rw (← c.self.view_is) (λ h served.
+    let s = g.D.Disk.state c.self.inside.disk in
+    let s' = g.D.Disk.state c.commit_puts.new.disk in
+    let core = core_of c.self.inside.map in
+    let new = core_of c.remove_in_core.new.core in
+    let ppn = c.args.ppn in
+    let name = c.args.name.now in
+    let puts = c.remove_in_core.new.set in
+    let made = c.remove_in_core.ensures.removed in
+    let key = made.0 in
+    let v = made.1 in
+    let whole = c.self.invariant.whole in
+    let is : RemovesFile s.size core new ppn name key v puts = subst (λ (b : ℕ).
+    RemovesFile b core new ppn name key v puts) whole.map.size_is made.2 in
+    let past = past_homes s.size puts (λ n low. removed_low s.size core.known new.known ppn name (v.at, as_known v) puts
+    whole.map is.removed n (omega arith)) in
+    homes_stay (λ m. IsGateOrLog s.size m ⊎ IsPutIn puts m) s s' past (c.in-Ok.ensures.modified h))
+
+pub returns-in-Err-commit_puts-clause-home_blocks : goal.returns-in-Err-commit_puts-clause-home_blocks
+returns-in-Err-commit_puts-clause-home_blocks g c = rw (← c.self.view_is) (λ h served. absurd (served refl))

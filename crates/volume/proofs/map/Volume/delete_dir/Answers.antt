@@ -8,6 +8,7 @@ use Rattle.volume.proofs.UnmakingCore.{puts_in_range, not_written}
 use Rattle.volume.proofs.UnmakingPlaces.{gone, directory_stays, primes_stay}
 use Rattle.volume.proofs.UnmakingTransactions.{never_err, no_refusal, removed_crash, removed_done, volume_failed}
 use Rattle.volume.proofs.UnmakingTransactions.{keeps_read, keeps_written, volume_sound}
+use Rattle.volume.proofs.HomesKept.{homes_start, homes_near, homes_stay, past_homes, unmade_low}
 use Rattle.volume.proofs.map.Volume.delete_dir.Goals as goal
 
 pub commit_puts-requires-clause-in_range : goal.commit_puts-requires-clause-in_range
@@ -211,3 +212,58 @@ returns-in-Err-commit_puts-clause-not_empty g c = rw (← c.self.view_is) (λ al
   λ is. absurd (no_refusal is),
   λ has. absurd (never_err c.in-Ok.place _ (c.in-Ok.ensures.filled.1 has)),
 ))
+
+-- The home copies.
+
+pub returns-then-self-clause-homes : goal.returns-then-self-clause-homes
+returns-then-self-clause-homes g c = rw (← c.self.view_is) (λ h.
+    homes_start (g.D.Disk.state c.self.inside.disk) (λ d left. g.met.D.Disk.only_now c.self.inside.disk d h left))
+
+pub returns-in-Err-clause-homes : goal.returns-in-Err-clause-homes
+returns-in-Err-clause-homes g c = rw (← c.self.view_is) (λ h.
+    homes_start (g.D.Disk.state c.self.inside.disk) (λ d left. g.met.D.Disk.only_now c.self.inside.disk d h left))
+
+pub returns-in-Ok-commit_puts-clause-homes : goal.returns-in-Ok-commit_puts-clause-homes
+returns-in-Ok-commit_puts-clause-homes g c = rw (← c.self.view_is) (λ h.
+    let s = g.D.Disk.state c.self.inside.disk in
+    let s' = g.D.Disk.state c.commit_puts.new.disk in
+    let core = core_of c.self.inside.map in
+    let core' = core_of c.remove_directory.new.core in
+    let puts = c.remove_directory.new.set in
+    let removes : RemovesDirectory s.size core core' c.args.ppn puts =
+    subst (λ (b : ℕ). RemovesDirectory b core core' c.args.ppn puts) c.self.invariant.whole.map.size_is
+    c.remove_directory.ensures in
+    let past = past_homes s.size puts (unmade_low s.size core.known core'.known c.args.ppn puts
+    c.self.invariant.whole.map removes.removed) in
+    homes_near (λ m. IsGateOrLog s.size m ⊎ IsPutIn puts m) s s' past (c.commit_puts.ensures.near h))
+
+pub returns-in-Err-commit_puts-clause-homes : goal.returns-in-Err-commit_puts-clause-homes
+returns-in-Err-commit_puts-clause-homes g c = rw (← c.self.view_is) (λ h.
+    let s = g.D.Disk.state c.self.inside.disk in
+    let s' = g.D.Disk.state c.commit_puts.new.disk in
+    let core = core_of c.self.inside.map in
+    let core' = core_of c.remove_directory.new.core in
+    let puts = c.remove_directory.new.set in
+    let removes : RemovesDirectory s.size core core' c.args.ppn puts =
+    subst (λ (b : ℕ). RemovesDirectory b core core' c.args.ppn puts) c.self.invariant.whole.map.size_is
+    c.remove_directory.ensures in
+    let past = past_homes s.size puts (unmade_low s.size core.known core'.known c.args.ppn puts
+    c.self.invariant.whole.map removes.removed) in
+    homes_near (λ m. IsGateOrLog s.size m ⊎ IsPutIn puts m) s s' past (c.commit_puts.ensures.near h))
+
+pub returns-in-Ok-commit_puts-clause-home_blocks : goal.returns-in-Ok-commit_puts-clause-home_blocks
+returns-in-Ok-commit_puts-clause-home_blocks g c = rw (← c.self.view_is) (λ h served.
+    let s = g.D.Disk.state c.self.inside.disk in
+    let s' = g.D.Disk.state c.commit_puts.new.disk in
+    let core = core_of c.self.inside.map in
+    let core' = core_of c.remove_directory.new.core in
+    let puts = c.remove_directory.new.set in
+    let removes : RemovesDirectory s.size core core' c.args.ppn puts =
+    subst (λ (b : ℕ). RemovesDirectory b core core' c.args.ppn puts) c.self.invariant.whole.map.size_is
+    c.remove_directory.ensures in
+    let past = past_homes s.size puts (unmade_low s.size core.known core'.known c.args.ppn puts
+    c.self.invariant.whole.map removes.removed) in
+    homes_stay (λ m. IsGateOrLog s.size m ⊎ IsPutIn puts m) s s' past (c.in-Ok-commit_puts.ensures.modified h))
+
+pub returns-in-Err-commit_puts-clause-home_blocks : goal.returns-in-Err-commit_puts-clause-home_blocks
+returns-in-Err-commit_puts-clause-home_blocks g c = rw (← c.self.view_is) (λ h served. absurd (served refl))

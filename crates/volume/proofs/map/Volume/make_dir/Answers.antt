@@ -8,6 +8,7 @@ use Rattle.volume.proofs.MakingDirectories.{sound_for, sound_failed, made_core, 
 use Rattle.volume.proofs.MakingDirectories.{made_rest, made_at, made_done}
 use Rattle.volume.proofs.MakingTransactions.{near_closed}
 use Rattle.volume.proofs.MakingPlaces.{directory_stays, primes_stay}
+use Rattle.volume.proofs.HomesKept.{homes_start, homes_near, homes_stay, made_past}
 use Rattle.volume.proofs.map.Volume.make_dir.Goals as goal
 
 pub write_and_commit-requires-clause-in_range : goal.write_and_commit-requires-clause-in_range
@@ -192,3 +193,58 @@ pub returns-in-Err-write_and_commit-clause-primes : goal.returns-in-Err-write_an
 returns-in-Err-write_and_commit-clause-primes g c = rw (← c.self.view_is)
     (primes_stay c.self.inside.map.table.size (core_of c.self.inside.map) (core_of c.make_in_core.new.core)
     c.args.ppn c.args.protection c.in-Ok.first c.make_in_core.new.set c.in-Ok.ensures.made)
+
+-- The home copies.
+
+pub returns-then-self-clause-homes : goal.returns-then-self-clause-homes
+returns-then-self-clause-homes g c = rw (← c.self.view_is) (λ h.
+    homes_start (g.D.Disk.state c.self.inside.disk) (λ d left. g.met.D.Disk.only_now c.self.inside.disk d h left))
+
+pub returns-in-Err-clause-homes : goal.returns-in-Err-clause-homes
+returns-in-Err-clause-homes g c = rw (← c.self.view_is) (λ h.
+    homes_start (g.D.Disk.state c.self.inside.disk) (λ d left. g.met.D.Disk.only_now c.self.inside.disk d h left))
+
+pub returns-in-Ok-write_and_commit-clause-homes : goal.returns-in-Ok-write_and_commit-clause-homes
+returns-in-Ok-write_and_commit-clause-homes g c = rw (← c.self.view_is) (λ h.
+    let s = g.D.Disk.state c.self.inside.disk in
+    let s' = g.D.Disk.state c.write_and_commit.new.disk in
+    let k = (core_of c.self.inside.map).known in
+    let k' = (core_of c.make_in_core.new.core).known in
+    let puts = c.make_in_core.new.set in
+    let made : IsMade s.size k k' c.args.ppn c.args.protection c.in-Ok.first puts =
+    subst (λ (b : ℕ). IsMade b k k' c.args.ppn c.args.protection c.in-Ok.first puts)
+    c.self.invariant.whole.map.size_is c.in-Ok.ensures.made in
+    let past = made_past s.size k k' c.args.ppn c.args.protection c.in-Ok.first puts c.self.invariant.whole.map made in
+    homes_near (λ m. (m ≡ c.in-Ok.first) ⊎ (IsGateOrLog s.size m ⊎ IsPutIn puts m)) s s' past
+    (c.write_and_commit.ensures.near h))
+
+pub returns-in-Err-write_and_commit-clause-homes : goal.returns-in-Err-write_and_commit-clause-homes
+returns-in-Err-write_and_commit-clause-homes g c = rw (← c.self.view_is) (λ h.
+    let s = g.D.Disk.state c.self.inside.disk in
+    let s' = g.D.Disk.state c.write_and_commit.new.disk in
+    let k = (core_of c.self.inside.map).known in
+    let k' = (core_of c.make_in_core.new.core).known in
+    let puts = c.make_in_core.new.set in
+    let made : IsMade s.size k k' c.args.ppn c.args.protection c.in-Ok.first puts =
+    subst (λ (b : ℕ). IsMade b k k' c.args.ppn c.args.protection c.in-Ok.first puts)
+    c.self.invariant.whole.map.size_is c.in-Ok.ensures.made in
+    let past = made_past s.size k k' c.args.ppn c.args.protection c.in-Ok.first puts c.self.invariant.whole.map made in
+    homes_near (λ m. (m ≡ c.in-Ok.first) ⊎ (IsGateOrLog s.size m ⊎ IsPutIn puts m)) s s' past
+    (c.write_and_commit.ensures.near h))
+
+pub returns-in-Ok-write_and_commit-clause-home_blocks : goal.returns-in-Ok-write_and_commit-clause-home_blocks
+returns-in-Ok-write_and_commit-clause-home_blocks g c = rw (← c.self.view_is) (λ h served.
+    let s = g.D.Disk.state c.self.inside.disk in
+    let s' = g.D.Disk.state c.write_and_commit.new.disk in
+    let k = (core_of c.self.inside.map).known in
+    let k' = (core_of c.make_in_core.new.core).known in
+    let puts = c.make_in_core.new.set in
+    let made : IsMade s.size k k' c.args.ppn c.args.protection c.in-Ok.first puts =
+    subst (λ (b : ℕ). IsMade b k k' c.args.ppn c.args.protection c.in-Ok.first puts)
+    c.self.invariant.whole.map.size_is c.in-Ok.ensures.made in
+    let past = made_past s.size k k' c.args.ppn c.args.protection c.in-Ok.first puts c.self.invariant.whole.map made in
+    homes_stay (λ m. (m ≡ c.in-Ok.first) ⊎ (IsGateOrLog s.size m ⊎ IsPutIn puts m)) s s' past
+    (c.in-Ok-write_and_commit.ensures.modified h))
+
+pub returns-in-Err-write_and_commit-clause-home_blocks : goal.returns-in-Err-write_and_commit-clause-home_blocks
+returns-in-Err-write_and_commit-clause-home_blocks g c = rw (← c.self.view_is) (λ h served. absurd (served refl))

@@ -16,6 +16,8 @@ use Rattle.volume.proofs.PuttingCore.{some_of}
 use Rattle.volume.proofs.Publications.{unchanged_leaves, quiet_leaves_either, both_leave, placed_on, supplied_on}
 use Rattle.volume.proofs.Publications.{ribs_on}
 use Rattle.volume.proofs.PublishingSlots.{made_current_readers}
+use Rattle.volume.proofs.HomesKept.{homes_start, homes_on}
+use Rattle.volume.proofs.PublishingHomes.{ok_anyway}
 use Rattle.volume.proofs.map.Volume.publish.Goals as goal
 
 pub returns-in_err-blocks-clause-crash : goal.returns-in_err-blocks-clause-crash
@@ -136,3 +138,43 @@ returns-in-Err-clause-room g c = rw (← c.self.view_is) (λ alive p there.
 pub find_supplies-requires-clause-placed : goal.find_supplies-requires-clause-placed
 find_supplies-requires-clause-placed g c = subst (λ m. (p : PendingVersion)
     → pending_at m.core.pending c.args.pending.key ≡ Some p → IsPlaced m.core p) (sym c.self.view_is) c.requires.placed
+
+-- The home copies.
+
+pub returns-then-self-clause-homes : goal.returns-then-self-clause-homes
+returns-then-self-clause-homes g c = rw (← c.self.view_is) (λ h.
+    homes_start (g.D.Disk.state c.self.inside.disk) (λ d left. g.met.D.Disk.only_now c.self.inside.disk d h left))
+
+pub returns-in_err-blocks-clause-homes : goal.returns-in_err-blocks-clause-homes
+returns-in_err-blocks-clause-homes g c = rw (← c.self.view_is) (λ h.
+    homes_start (g.D.Disk.state c.self.inside.disk) (λ d left. g.met.D.Disk.only_now c.self.inside.disk d h left))
+
+pub returns-in_default-clause-homes : goal.returns-in_default-clause-homes
+returns-in_default-clause-homes g c = rw (← c.self.view_is) (λ h.
+    homes_start (g.D.Disk.state c.self.inside.disk) (λ d left. g.met.D.Disk.only_now c.self.inside.disk d h left))
+
+pub returns-in-Ok-put-clause-homes : goal.returns-in-Ok-put-clause-homes
+returns-in-Ok-put-clause-homes g c = rw (← c.self.view_is) (λ h.
+    homes_on (g.D.Disk.state c.self.inside.disk) (g.D.Disk.state c.put_in_core-put.new.disk)
+    (g.D.Disk.state c.publish_written.new.disk)
+    (c.put_in_core-put.ensures.homes (c.publish_written.ensures.same.was_honest h))
+    (c.publish_written.ensures.homes h))
+
+pub returns-in-Ok-put-clause-home_blocks : goal.returns-in-Ok-put-clause-home_blocks
+returns-in-Ok-put-clause-home_blocks g c = rw (← c.self.view_is) (λ h served n low.
+    c.publish_written.ensures.home_blocks h served n low
+    ∙ c.put_in_core-put.ensures.home_blocks (c.publish_written.ensures.same.was_honest h) n low)
+
+pub returns-in-Err-clause-homes : goal.returns-in-Err-clause-homes
+returns-in-Err-clause-homes g c = rw (← c.self.view_is) c.put_in_core-put.ensures.homes
+
+pub returns-in-Err-clause-home_blocks : goal.returns-in-Err-clause-home_blocks
+returns-in-Err-clause-home_blocks g c = rw (← c.self.view_is) (λ h served.
+    c.put_in_core-put.ensures.home_blocks h)
+
+-- What stays before the last words.
+
+pub returns-in-Ok-put-clause-whole : goal.returns-in-Ok-put-clause-whole
+returns-in-Ok-put-clause-whole g c = rw (← c.self.view_is) (λ h some p there.
+    ok_anyway c.publish_written.result _ (c.in-Ok-put.ensures.whole (c.publish_written.ensures.same.was_honest h) some p
+    (ap (λ (x : VolumeCore). pending_at x.pending c.args.pending.key) c.find_supplies.ensures.core ∙ there)))

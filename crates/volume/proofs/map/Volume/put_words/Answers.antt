@@ -80,3 +80,12 @@ returns-clause-served g c = rw (← c.self.view_is) c.put_in_core.ensures.served
 
 pub returns-clause-same : goal.returns-clause-same
 returns-clause-same g c = rw (← c.self.view_is) c.put_in_core.ensures.same
+
+pub returns-clause-homes : goal.returns-clause-homes
+returns-clause-homes g c = rw (← c.self.view_is) c.put_in_core.ensures.homes
+
+pub returns-clause-home_blocks : goal.returns-clause-home_blocks
+returns-clause-home_blocks g c = rw (← c.self.view_is) c.put_in_core.ensures.home_blocks
+
+pub returns-clause-whole : goal.returns-clause-whole
+returns-clause-whole g c = rw (← c.self.view_is) c.put_in_core.ensures.whole

@@ -10,6 +10,7 @@ use Rattle.volume.proofs.MovingAnswers.{target_exists, target_no_room, target_la
 use Rattle.volume.proofs.MovingAnswers.{moved_no_room, memory_plain}
 use Rattle.volume.proofs.Publications.{unchanged_leaves}
 use Rattle.volume.proofs.RenamingAnswers.{not_refused}
+use Rattle.volume.proofs.HomesKept.{homes_start}
 use Rattle.volume.proofs.map.Volume.rename_across.Goals as goal
 
 pub returns-then-self-clause-held : goal.returns-then-self-clause-held
@@ -131,7 +132,7 @@ returns-clause-crash g c = rw (← c.self.view_is) (λ h f rests. c.move_across.
 pub returns-clause-moved : goal.returns-clause-moved
 returns-clause-moved g c = rw (← c.self.view_is)
     (on_ok c.move_across.result _ _
-    (λ found. (c.in-Ok.key, found.0, found.1, found.2, found.3, found.4)) c.move_across.ensures.moved)
+    (λ found. (c.in-Ok.key, found.0, found.1, found.2, found.3, found.4, found.5)) c.move_across.ensures.moved)
 
 pub returns-clause-held : goal.returns-clause-held
 returns-clause-held g c = rw (← c.self.view_is) (λ k v is some. c.move_across.ensures.held k v is)
@@ -192,3 +193,27 @@ returns-clause-no_room g c = rw (← c.self.view_is) (λ alive.
     c.in-Ok.key c.in-Ok.ensures.found c.move_across.result
     (not_refused c.move_across.result c.move_across.ensures.only) c.in-Ok-find_target.place
     c.in-Ok-find_target.ensures.no_room)
+
+-- The home copies.
+
+pub returns-then-self-clause-homes : goal.returns-then-self-clause-homes
+returns-then-self-clause-homes g c = rw (← c.self.view_is) (λ h.
+    homes_start (g.D.Disk.state c.self.inside.disk) (λ d left. g.met.D.Disk.only_now c.self.inside.disk d h left))
+
+pub returns-in-Err-clause-homes : goal.returns-in-Err-clause-homes
+returns-in-Err-clause-homes g c = rw (← c.self.view_is) (λ h.
+    homes_start (g.D.Disk.state c.self.inside.disk) (λ d left. g.met.D.Disk.only_now c.self.inside.disk d h left))
+
+pub returns-in-Err-find_target-clause-homes : goal.returns-in-Err-find_target-clause-homes
+returns-in-Err-find_target-clause-homes g c = rw (← c.self.view_is) (λ h.
+    homes_start (g.D.Disk.state c.self.inside.disk) (λ d left. g.met.D.Disk.only_now c.self.inside.disk d h left))
+
+pub returns-in_default-clause-homes : goal.returns-in_default-clause-homes
+returns-in_default-clause-homes g c = rw (← c.self.view_is) (λ h.
+    homes_start (g.D.Disk.state c.self.inside.disk) (λ d left. g.met.D.Disk.only_now c.self.inside.disk d h left))
+
+pub returns-clause-homes : goal.returns-clause-homes
+returns-clause-homes g c = rw (← c.self.view_is) c.move_across.ensures.homes
+
+pub returns-clause-home_blocks : goal.returns-clause-home_blocks
+returns-clause-home_blocks g c = rw (← c.self.view_is) c.move_across.ensures.home_blocks

@@ -7,6 +7,7 @@ use Rattle.volume.proofs.Publications.{unchanged_leaves}
 use Rattle.volume.proofs.RenamedPlaces.{moved_before, moved_here, moved_gone, moved_elsewhere}
 use Rattle.volume.proofs.RenamingAnswers.{refused_not_found, refused_exists, refused_no_directory, refused_codes}
 use Rattle.volume.proofs.RenamingAnswers.{refused_plain, key_there, not_refused}
+use Rattle.volume.proofs.HomesKept.{homes_start}
 use Rattle.volume.proofs.map.Volume.rename_within.Goals as goal
 
 pub returns-then-self-clause-held : goal.returns-then-self-clause-held
@@ -79,7 +80,7 @@ returns-clause-crash g c = rw (← c.self.view_is) (λ h f rests.
 pub returns-clause-moved : goal.returns-clause-moved
 returns-clause-moved g c = rw (← c.self.view_is)
     (on_ok c.move_within.result _ _
-    (λ found. (c.in-Ok.key, found.0, found.1, found.2, found.3, found.4)) c.move_within.ensures.moved)
+    (λ found. (c.in-Ok.key, found.0, found.1, found.2, found.3, found.4, found.5)) c.move_within.ensures.moved)
 
 pub returns-clause-held : goal.returns-clause-held
 returns-clause-held g c = rw (← c.self.view_is) (λ k v is some.
@@ -123,3 +124,19 @@ returns-clause-not_found g c = rw (← c.self.view_is) (λ alive.
       λ lacks. absurd (key_there s.size core c.self.invariant.whole c.args.ppn c.args.name.now c.in-Ok.key
           c.in-Ok.ensures.found lacks),
     ))
+
+-- The home copies.
+
+pub returns-then-self-clause-homes : goal.returns-then-self-clause-homes
+returns-then-self-clause-homes g c = rw (← c.self.view_is) (λ h.
+    homes_start (g.D.Disk.state c.self.inside.disk) (λ d left. g.met.D.Disk.only_now c.self.inside.disk d h left))
+
+pub returns-in-Err-clause-homes : goal.returns-in-Err-clause-homes
+returns-in-Err-clause-homes g c = rw (← c.self.view_is) (λ h.
+    homes_start (g.D.Disk.state c.self.inside.disk) (λ d left. g.met.D.Disk.only_now c.self.inside.disk d h left))
+
+pub returns-clause-homes : goal.returns-clause-homes
+returns-clause-homes g c = rw (← c.self.view_is) c.move_within.ensures.homes
+
+pub returns-clause-home_blocks : goal.returns-clause-home_blocks
+returns-clause-home_blocks g c = rw (← c.self.view_is) c.move_within.ensures.home_blocks

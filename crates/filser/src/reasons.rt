@@ -1,0 +1,78 @@
+use crate::fault::report;
+use crate::{Status, Task};
+use commands::{Misfit, Reason, RefusedLines, SessionError, Tally};
+use std::io::Write;
+
+/// The last date that a volume of layout 1 has room for.
+const LAST_DATE: u32 = 4095;
+
+/// What lines and files come from, as people are told.
+const INPUT: &str = "standard input";
+
+/// Tells people that every call will be refused, if the date of a task is past those of the volume.
+pub(crate) fn tell_late_date<E: Write>(errors: &mut E, task: &Task) {
+    let Some(at) = task.moment() else {
+        return;
+    };
+    let date = at.date;
+    if date > LAST_DATE {
+        let _ = writeln!(
+            errors,
+            "filser: --date {date}: this volume has dates up to {LAST_DATE} (4-Jan-1975)"
+        );
+    }
+}
+
+/// Tells people why a run was refused, if it was and nothing worse happened.
+pub(crate) fn tell_refusal<E: Write>(
+    errors: &mut E,
+    status: Status,
+    talked: &Result<Tally, SessionError>,
+) {
+    let Ok(tally) = talked else {
+        return;
+    };
+    if status != Status::Refused {
+        return;
+    }
+    match tally.reason {
+        Some(Reason::Lines(lines)) => tell_lines(errors, lines),
+        Some(Reason::Input(misfit)) => tell_misfit(errors, misfit),
+        None => {}
+    }
+}
+
+/// Tells people how many lines were refused, and which is the first.
+fn tell_lines<E: Write>(errors: &mut E, lines: RefusedLines) {
+    let RefusedLines { count, first } = lines;
+    if count == 1 {
+        report(errors, INPUT, &format_args!("line {first} was refused"));
+    } else {
+        report(
+            errors,
+            INPUT,
+            &format_args!("{count} lines were refused, the first is line {first}"),
+        );
+    }
+}
+
+/// Tells people why the input can't be a file.
+fn tell_misfit<E: Write>(errors: &mut E, misfit: Misfit) {
+    match misfit {
+        Misfit::Byte(byte, place) => report(
+            errors,
+            INPUT,
+            &format_args!("byte {byte} at {place} isn't text (1 to 127); --words stores any words"),
+        ),
+        Misfit::Length(count) => report(
+            errors,
+            INPUT,
+            &format_args!("{count} bytes, which is no multiple of eight"),
+        ),
+        Misfit::Word(place) => report(
+            errors,
+            INPUT,
+            &format_args!("word {place} has bits above its 36"),
+        ),
+    }
+}

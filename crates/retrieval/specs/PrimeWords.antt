@@ -1,0 +1,14 @@
+-- The words of a prime block, beside what core has of its version.
+use Rattle.std.specs.Prelude.{List, ℕ}
+use Rattle.meaning.specs.Blocks.{head_or_zero}
+use Rattle.meaning.specs.Retrieval.{Run}
+use Rattle.retrieval.specs.Primes.{with_length}
+use Rattle.retrieval.specs.Spelling.{SpellsPrime}
+use Rattle.retrieval.specs.Versions.{VersionState}
+use Rattle.retrieval.specs.declared.prime.Prime.{Prime as PrimeValue}
+
+-- These are the words of a prime block that says this of its file, with the length and the first extension of the
+-- version.
+pub record IsPrimeOf (words : List ℕ) (prime : PrimeValue) (v : VersionState) : Type 0 where
+  pub runs : List Run
+  pub spells : SpellsPrime words (with_length prime v.words) runs (head_or_zero v.ribs)

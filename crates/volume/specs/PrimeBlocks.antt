@@ -1,0 +1,19 @@
+-- The prime block of a file that gets another place.
+use Rattle.std.specs.Prelude.{ℕ, List}
+use Rattle.words36.specs.declared.names.FileName.{FileName}
+use Rattle.meaning.specs.Blocks.{head_or_zero}
+use Rattle.meaning.specs.Retrieval.{Prime, Run}
+use Rattle.meaning.specs.Stands.{place_of}
+use Rattle.retrieval.specs.Primes.{with_length}
+use Rattle.retrieval.specs.Spelling.{SpellsPrime}
+use Rattle.volume.specs.declared.live.LiveVersion.{LiveVersion}
+
+-- what the prime block of a version says that a file of this place has
+abbrev pub file_prime : ℕ → FileName → LiveVersion → Prime
+file_prime ppn name v = record (with_length v.prime v.version.words) { place = place_of ppn name }
+
+-- These are the words of the prime block of a version in core, which a file of this place has: they name the place, and
+-- say of the version what core knows, with its first extension.
+pub record IsFilePrime (words : List ℕ) (ppn : ℕ) (name : FileName) (v : LiveVersion) : Type 0 where
+  pub runs : List Run
+  pub spells : SpellsPrime words (file_prime ppn name v) runs (head_or_zero v.version.ribs)
