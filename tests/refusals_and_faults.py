@@ -466,6 +466,7 @@ def streams_that_are_missing(tries):
 def arguments(tries):
     """What goes to the standard error, and what is asked to be seen."""
     tries.expect_mistaken(["init", "NONE.IMG", "63"], b"error: ")
+    tries.expect_mistaken(["check", os.fsdecode(b"\xff.IMG")], b"?Bad argument\nfilser: an argument isn't UTF-8\n")
     tries.expect(["--version"], b"", b"filser 0.1.0\n", 0)
     tries.expect_shown(["help"], b"Usage: filser ")
 

@@ -1,18 +1,18 @@
 -- What is found in the text of a day.
-use Rattle.std.proofs.Common.{◌≡◌, ℕ, ◌+◌, ◌*◌, ◌-◌, ◌^◌, ◌<◌, ◌≤◌, ◌==◌, Bool, true, List, [], ◌∷◌, ◌++◌, length, take}
+use Rattle.std.proofs.Common.{◌≡◌, ℕ, ◌+◌, ◌*◌, ◌-◌, ◌^◌, ◌<◌, ◌≤◌, ◌==◌, true, List, [], ◌∷◌, ◌++◌, length, take}
 use Rattle.std.proofs.Common.{get_or, refl, sym, ◌∙◌, ap, subst, arith, map, inl, inr, zero, suc, if◌then◌else◌}
 use Rattle.std.proofs.Common.{Option, Some, None, IfNone, Result, Ok, Err, IsOk, is_some, is_ok, false}
 use Rattle.std.proofs.Math.Nat.{pow-succ', mul-le-mul_right, mul_assoc, pow-le-pow_right}
 use Rattle.std.proofs.lemmas.List.{take_more, take_all, length-take}
 use Rattle.std.proofs.lemmas.Bool.Decides.{nat_tests}
 use Rattle.std.specs.Char.{to_ascii_lowercase}
-use Rattle.words36.specs.Dates.{IsDate, date_number}
+use Rattle.words36.specs.Dates.{IsDate}
 use Rattle.meaning.specs.Spellings.{Are}
 use Rattle.meaning.specs.Texts.{month_text}
 use Rattle.meaning.proofs.SpellingLaws.{stretch, same_tail}
 use Rattle.commands.specs.Characters.{is_other_than}
 use Rattle.commands.specs.DayTexts.{is_decimal, decimal_after, IsDecimal, IsMonthName, IsAtHyphen, IsHyphened}
-use Rattle.commands.specs.DayTexts.{AreYearFirst, AreDayFirst, AreDayParts, IsDayText}
+use Rattle.commands.specs.DayTexts.{AreDayParts, IsDayText}
 use Rattle.commands.proofs.FieldLaws.{are_more, are_at}
 use Rattle.commands.proofs.MadeLaws.{AreParted}
 

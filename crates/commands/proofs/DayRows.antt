@@ -12,13 +12,18 @@ last_of_layout_1 = record {
   day = 4;
   hyphened = record {
     rest = codes "01-04";
-    one = record { plain = (refl, refl, refl, refl, tt); spelled = refl };
-    two = record { plain = (refl, refl, tt); spelled = refl };
+    one = record { plain = (refl, (refl, (refl, (refl, tt)))); spelled = refl };
+    two = record { plain = (refl, (refl, tt)); spelled = refl };
   };
   parts = inl (record {
-    year_is = record { enough = omega arith; few = omega arith; digits = (refl, refl, refl, refl, tt); value = refl };
-    month_is = record { enough = omega arith; few = omega arith; digits = (refl, refl, tt); value = refl };
-    day_is = record { enough = omega arith; few = omega arith; digits = (refl, refl, tt); value = refl };
+    year_is = record {
+      enough = omega arith;
+      few = omega arith;
+      digits = (refl, (refl, (refl, (refl, tt))));
+      value = refl;
+    };
+    month_is = record { enough = omega arith; few = omega arith; digits = (refl, (refl, tt)); value = refl };
+    day_is = record { enough = omega arith; few = omega arith; digits = (refl, (refl, tt)); value = refl };
   });
   day_of_calendar = record {
     year_from = omega arith;
@@ -42,12 +47,17 @@ last_as_listed = record {
   hyphened = record {
     rest = codes "Jan-1975";
     one = record { plain = (refl, tt); spelled = refl };
-    two = record { plain = (refl, refl, refl, tt); spelled = refl };
+    two = record { plain = (refl, (refl, (refl, tt))); spelled = refl };
   };
   parts = inr (record {
     day_is = record { enough = omega arith; few = omega arith; digits = (refl, tt); value = refl };
     month_is = record { first = omega arith; last = omega arith; named = refl };
-    year_is = record { enough = omega arith; few = omega arith; digits = (refl, refl, refl, refl, tt); value = refl };
+    year_is = record {
+      enough = omega arith;
+      few = omega arith;
+      digits = (refl, (refl, (refl, (refl, tt))));
+      value = refl;
+    };
   });
   day_of_calendar = record {
     year_from = omega arith;
@@ -70,13 +80,18 @@ first_of_all = record {
   day = 1;
   hyphened = record {
     rest = codes "01-01";
-    one = record { plain = (refl, refl, refl, refl, tt); spelled = refl };
-    two = record { plain = (refl, refl, tt); spelled = refl };
+    one = record { plain = (refl, (refl, (refl, (refl, tt)))); spelled = refl };
+    two = record { plain = (refl, (refl, tt)); spelled = refl };
   };
   parts = inl (record {
-    year_is = record { enough = omega arith; few = omega arith; digits = (refl, refl, refl, refl, tt); value = refl };
-    month_is = record { enough = omega arith; few = omega arith; digits = (refl, refl, tt); value = refl };
-    day_is = record { enough = omega arith; few = omega arith; digits = (refl, refl, tt); value = refl };
+    year_is = record {
+      enough = omega arith;
+      few = omega arith;
+      digits = (refl, (refl, (refl, (refl, tt))));
+      value = refl;
+    };
+    month_is = record { enough = omega arith; few = omega arith; digits = (refl, (refl, tt)); value = refl };
+    day_is = record { enough = omega arith; few = omega arith; digits = (refl, (refl, tt)); value = refl };
   });
   day_of_calendar = record {
     year_from = omega arith;
@@ -100,12 +115,17 @@ last_of_all = record {
   hyphened = record {
     rest = codes "Feb-2052";
     one = record { plain = (refl, tt); spelled = refl };
-    two = record { plain = (refl, refl, refl, tt); spelled = refl };
+    two = record { plain = (refl, (refl, (refl, tt))); spelled = refl };
   };
   parts = inr (record {
     day_is = record { enough = omega arith; few = omega arith; digits = (refl, tt); value = refl };
     month_is = record { first = omega arith; last = omega arith; named = refl };
-    year_is = record { enough = omega arith; few = omega arith; digits = (refl, refl, refl, refl, tt); value = refl };
+    year_is = record {
+      enough = omega arith;
+      few = omega arith;
+      digits = (refl, (refl, (refl, (refl, tt))));
+      value = refl;
+    };
   });
   day_of_calendar = record {
     year_from = omega arith;
@@ -128,13 +148,18 @@ landing = record {
   day = 20;
   hyphened = record {
     rest = codes "JUL-1969";
-    one = record { plain = (refl, refl, tt); spelled = refl };
-    two = record { plain = (refl, refl, refl, tt); spelled = refl };
+    one = record { plain = (refl, (refl, tt)); spelled = refl };
+    two = record { plain = (refl, (refl, (refl, tt))); spelled = refl };
   };
   parts = inr (record {
-    day_is = record { enough = omega arith; few = omega arith; digits = (refl, refl, tt); value = refl };
+    day_is = record { enough = omega arith; few = omega arith; digits = (refl, (refl, tt)); value = refl };
     month_is = record { first = omega arith; last = omega arith; named = refl };
-    year_is = record { enough = omega arith; few = omega arith; digits = (refl, refl, refl, refl, tt); value = refl };
+    year_is = record {
+      enough = omega arith;
+      few = omega arith;
+      digits = (refl, (refl, (refl, (refl, tt))));
+      value = refl;
+    };
   });
   day_of_calendar = record {
     year_from = omega arith;
@@ -157,13 +182,18 @@ no_day_of_february = record {
   day = 31;
   hyphened = record {
     rest = codes "02-31";
-    one = record { plain = (refl, refl, refl, refl, tt); spelled = refl };
-    two = record { plain = (refl, refl, tt); spelled = refl };
+    one = record { plain = (refl, (refl, (refl, (refl, tt)))); spelled = refl };
+    two = record { plain = (refl, (refl, tt)); spelled = refl };
   };
   parts = inl (record {
-    year_is = record { enough = omega arith; few = omega arith; digits = (refl, refl, refl, refl, tt); value = refl };
-    month_is = record { enough = omega arith; few = omega arith; digits = (refl, refl, tt); value = refl };
-    day_is = record { enough = omega arith; few = omega arith; digits = (refl, refl, tt); value = refl };
+    year_is = record {
+      enough = omega arith;
+      few = omega arith;
+      digits = (refl, (refl, (refl, (refl, tt))));
+      value = refl;
+    };
+    month_is = record { enough = omega arith; few = omega arith; digits = (refl, (refl, tt)); value = refl };
+    day_is = record { enough = omega arith; few = omega arith; digits = (refl, (refl, tt)); value = refl };
   });
   day_of_calendar = record {
     year_from = omega arith;

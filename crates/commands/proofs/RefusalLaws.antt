@@ -1,7 +1,7 @@
 -- Lines with their numbers, which of them are refused, and what is counted of them.
-use Rattle.std.proofs.Common.{◌≡◌, ℕ, ◌+◌, ◌-◌, ◌*◌, ◌^◌, ◌≤◌, ◌<◌, ◌==◌, ◌||◌, min, not, Bool, true, false, cond, List}
+use Rattle.std.proofs.Common.{◌≡◌, ℕ, ◌+◌, ◌-◌, ◌^◌, ◌==◌, min, Bool, true, false, cond, List}
 use Rattle.std.proofs.Common.{[], ◌∷◌, ◌++◌, length, map, refl, sym, ◌∙◌, ap, subst, arith, append_assoc, append-nil}
-use Rattle.std.proofs.Common.{inl, inr, Option, Some, None}
+use Rattle.std.proofs.Common.{inl, inr, Option, Some}
 use Rattle.words36.specs.declared.moment.Moment.{Moment}
 use Rattle.meaning.specs.Lines.{Line, without_return, fitting}
 use Rattle.meaning.specs.Plans.{Act}
@@ -98,14 +98,16 @@ pub feeds_fed : (read front seen : List ℕ) (b : ℕ) → b ≡ 10 → read ≡
     → feeds (read ++ b ∷ []) ≡ feeds front + 1
 feeds_fed read front seen b feed parted unended =
     let all : feeds (read ++ b ∷ []) ≡ feeds ((front ++ seen) ++ 10 ∷ []) = λ i. feeds (parted i ++ feed i ∷ []) in
-    let last : feeds ((front ++ seen) ++ 10 ∷ []) ≡ feeds (front ++ seen) + 1 = feeds-append (front ++ seen) (10 ∷ []) in
+    let last : feeds ((front ++ seen) ++ 10 ∷ []) ≡ feeds (front ++ seen) + 1
+    = feeds-append (front ++ seen) (10 ∷ []) in
     omega (arith, all, last, feeds-append front seen, no_feeds seen unended)
 
 -- Transcripts.
 
 module _ (language : Language) (moment : Moment) where
   pub refusals_on : (who : Option ℕ) (lines more : List (ℕ × Line)) (acts next : List Act) (said here : Spoken)
-      (mid after : Option ℕ) (refused later : List ℕ) → IsNumberedTranscript language moment who lines acts said mid refused
+      (mid after : Option ℕ) (refused later : List ℕ)
+      → IsNumberedTranscript language moment who lines acts said mid refused
       → IsNumberedTranscript language moment mid more next here after later
       → IsNumberedTranscript language moment who (lines ++ more) (acts ++ next) (both_said said here) after
       (refused ++ later)

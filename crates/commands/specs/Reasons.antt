@@ -1,6 +1,7 @@
 -- What people may be told of a refusal beside what is printed: which lines were refused, and why bytes can't be a file.
 use Rattle.std.specs.Prelude.{◌≡◌, ◌≢◌, ◌+◌, ◌-◌, ◌*◌, ◌%◌, ◌^◌, ◌<◌, ◌≤◌, ◌==◌, ℕ, Bool, true, false, min, List, []}
-use Rattle.std.specs.Prelude.{◌∷◌, ◌++◌, length, map, take, slice_index, Option, Some, None, Result, Ok, Err, if◌then◌else◌}
+use Rattle.std.specs.Prelude.{◌∷◌, ◌++◌, length, map, take, slice_index, Option, Some, None, Result, Ok, Err}
+use Rattle.std.specs.Prelude.{if◌then◌else◌}
 use Rattle.words36.specs.Blocks.{number_at}
 use Rattle.meaning.specs.Errands.{is_character, AreWords}
 use Rattle.meaning.specs.Lines.{Line, feed, fitting, without_return}

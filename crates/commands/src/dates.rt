@@ -1,4 +1,4 @@
-ghost use Rattle.std.specs.Prelude.{◌≡◌, ◌≤◌, IfSome, IfNone, ℕ, List};
+ghost use Rattle.std.specs.Prelude.{◌≤◌, IfSome, IfNone, ℕ, List};
 ghost use Rattle.commands.specs.DayTexts.{AreDayFirst, AreDayParts, AreYearFirst, IsDayText, IsDecimal, IsHyphened};
 ghost use Rattle.commands.specs.DayTexts.{IsAtHyphen, IsMonthName};
 

@@ -7,14 +7,14 @@
 //!    (`lines_have_one_meaning`)
 //! 3. The greeting, the text of a refusal and the list of a directory, in columns and as a table, are the definition's,
 //!    byte by byte.
-//! 4. `session` reads to the end of the input, makes the calls that each line stands for, each by the
-//!    replies so far, and writes what they print: at Ok the writer got the text of all that the reader had,
-//!    the service went by these calls and a RESET of job 1 that prints nothing, and the tally is that of the
-//!    lines, with the numbers of those that were refused. (`ends`, `goes`, `served`, `IsNumberedTranscript`) COPY and TYPE move a whole body by INs and OUTs until an IN tells its
-//!    end, and a refused line leaves nothing of it. (`Plan`, `Led`) At the moment before the first call and
-//!    after each, all that a crash may leave stands for the files after the calls so far; from one moment to
-//!    the next a crash leaves these, or those after one call more. (`ActsBy`) On every disk the failure count rises by
-//!    one for each call that is answered Device, and for nothing else. (`CountsFailures`)
+//! 4. `session` reads to the end of the input, makes the calls that each line stands for, each by the replies so far,
+//!    and writes what they print: at Ok the writer got the text of all that the reader had, the service went by these
+//!    calls and a RESET of job 1 that prints nothing, and the tally is that of the lines, with the numbers of those
+//!    that were refused. (`ends`, `goes`, `served`, `IsNumberedTranscript`) COPY and TYPE move a whole body by INs and
+//!    OUTs until an IN tells its end, and a refused line leaves nothing of it. (`Plan`, `Led`) At the moment before the
+//!    first call and after each, all that a crash may leave stands for the files after the calls so far; from one
+//!    moment to the next a crash leaves these, or those after one call more. (`ActsBy`) On every disk the failure count
+//!    rises by one for each call that is answered Device, and for nothing else. (`CountsFailures`)
 //! 5. The text is a function of the lines, the state and the moment, where no call met want of memory or a
 //!    fault of the disk. (`served_texts_are_functions`)
 //! 6. Where it breaks off the writer holds a beginning of that text. At `Read` it holds all of it for the
@@ -33,8 +33,8 @@
 //! 11. `put` reads and tests all of its input before its first call, and `get` and `list` write nothing before their
 //!    last one. Each does a plan by calls of job 1, which logs in for it, and writes what that says; what a crash
 //!    leaves is said as of a session. (`Delivery`, `Errand`, `Survey`) `list` of all directories says that the service
-//!    has stopped only if it has failed. (`AreAsked`) `check` writes what a volume has. (`Checked`) If the
-//!    input of `put` can't be a file, the tally has the first byte or word that doesn't fit. (`IsMisfit`)
+//!    has stopped only if it has failed. (`AreAsked`) `check` writes what a volume has. (`Checked`) If the input of
+//!    `put` can't be a file, the tally has the first byte or word that doesn't fit. (`IsMisfit`)
 #![tactic(auto)]
 
 mod answer;

@@ -1,4 +1,4 @@
-ghost use Rattle.std.specs.Prelude.{◌≡◌, map, IfSome, IfNone, ℕ};
+ghost use Rattle.std.specs.Prelude.{map, IfSome, IfNone, ℕ};
 ghost use Rattle.meaning.specs.Lines.{upper};
 ghost use Rattle.commands.specs.Files.{IsFileName, IsOwnerName};
 

@@ -4,7 +4,8 @@
 //! 2. `request` answers Ok only with what `clap` matches: the subcommand, its texts and its numbers are
 //!    a function of the words, and each number is decimal and in its range. (`asked`, `range`, `taken`)
 //! 3. `Usage` comes only where `clap` refuses the words, or is asked for help or the version, and with
-//!    that kind; `BadArgument` only where the words are taken and ask for nothing. (`usage`, `bad`)
+//!    that kind, or for a date that names no day; `BadArgument` only where the words are taken and ask for nothing, and
+//!    the argument that it names isn't what it should be. (`usage`, `bad`)
 //! 4. Why a run ends before a line is served is shown as the definition has it, byte by byte, and the
 //!    status of such a run is the definition's. (`specs/Refusals.antt`)
 //! 5. `work` is a whole run: it ends, takes nothing but what it is handed, and answers a status from 0 to 4. `main`

@@ -1,5 +1,4 @@
 use Rattle.commands.proofs.NameLaws.{no_owner}
-use Rattle.commands.proofs.DayRows.{last_of_all}
 use Rattle.commands.proofs.names.owner_named.Goals as goal
 
 pub returns-in-None-clause-none : goal.returns-in-None-clause-none
