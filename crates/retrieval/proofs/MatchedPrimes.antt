@@ -1,8 +1,8 @@
 -- A prime block beside what core has of its version.
-use Rattle.std.proofs.Common.{◌≡◌, ℕ, ◌+◌, ◌*◌, ◌/◌, ◌<◌, ◌^◌, List, sym, ◌∙◌, subst, arith}
+use Rattle.std.proofs.Common.{◌≡◌, ℕ, ◌+◌, ◌*◌, ◌/◌, ◌^◌, List, sym, ◌∙◌, subst, arith}
 use Rattle.words36.specs.Words.{IsPpn}
 use Rattle.meaning.specs.Blocks.{head_or_zero}
-use Rattle.meaning.specs.Retrieval.{Run, IsMode, IsPrime, prime_block}
+use Rattle.meaning.specs.Retrieval.{Run, IsMode, prime_block}
 use Rattle.retrieval.specs.Modes.{mode_number}
 use Rattle.retrieval.specs.PrimeWords.{IsPrimeOf}
 use Rattle.retrieval.specs.Primes.{with_length, IsRewritten}

@@ -40,8 +40,8 @@ pub fn parse_extension(block: &Block) -> Option<ExtensionHead>
     Some(head)
 }
 
-/// Whether a block is the prime block of a version: its words are those of a prime block, they say of the file what this
-/// prime does, and they have the length and the first extension of the version. Where its data lie isn't compared.
+/// Whether a block is the prime block of a version: its words are those of a prime block, they say of the file what
+/// this prime does, and they have the length and the first extension of the version. Its pointers aren't compared.
 pub fn is_prime_of(block: &Block, prime: &Prime, version: &Version) -> bool
     ensures { IsTrue result ↔ IsPrimeOf block.now prime.now version.now }
 {

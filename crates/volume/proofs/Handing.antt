@@ -12,11 +12,8 @@ use Rattle.volume.specs.FileReading.{IsDamagedData}
 use Rattle.volume.specs.FaultsFound.{NamesInSpace, IsFaultOfFile, IsTableRefusal, error_of_chain}
 use Rattle.directory.specs.declared.error.DirectoryError.{DirectoryError}
 use Rattle.directory.specs.declared.error.DirectoryError.TheVariants as directory
-use Rattle.std.proofs.Common.{Bool, List, ◌+◌, ◌*◌, ◌/◌, ◌<◌, ◌≤◌, arith}
-use Rattle.meaning.specs.Regions.{table_start, space_start, table_blocks}
+use Rattle.std.proofs.Common.{Bool, List}
 use Rattle.alloctab.specs.Inside.{InTable}
-use Rattle.alloctab.specs.Reached.{IsWrongBlock}
-use Rattle.alloctab.specs.TableState.{TableState}
 use Rattle.volume.proofs.Finding.{refusal}
 
 -- what an error has that is handed on
@@ -135,15 +132,6 @@ table_named size result only named = each_error (NamesInSpace size) result by_er
     by_error NoMemory is = tt
     by_error Failed is = tt
     by_error (BadData n) is = absurd (refusal IsTableRefusal result (BadData n) is only)
-
--- A block of the table with a wrong bit is one of the table.
-pub wrong_in_table : (size n : ℕ) (t : TableState) (reached : List Bool) → t.size ≡ size → IsWrongBlock t reached n
-    → InTable size n
-wrong_in_table size n t reached same wrong =
-    let block = wrong.block in
-    let inside = wrong.inside in
-    let here = wrong.here in
-    subst (λ (s : ℕ). InTable s n) same (record { from = omega arith; below = omega arith })
 
 pub named_on : {T : Type 0} (size size' : ℕ) (result : Result T VolumeError) → size ≡ size'
     → IfErr result (NamesInSpace size) → IfErr result (NamesInSpace size')

@@ -1,5 +1,5 @@
 -- Blocks 0 to 2 stay: no call writes them, and none puts them.
-use Rattle.std.proofs.Common.{◌≡◌, ◌⊎◌, ⊎_elim, inl, ℕ, ◌<◌, ◌≤◌, List, refl, sym, ◌∙◌, subst, arith}
+use Rattle.std.proofs.Common.{◌≡◌, ◌⊎◌, ⊎_elim, inl, ℕ, ◌≤◌, List, refl, sym, ◌∙◌, subst, arith}
 use Rattle.std.specs.List.{AllByRecursion}
 use Rattle.words36.specs.declared.names.FileName.{FileName}
 use Rattle.blockdisk.specs.Disk.{Contents, DiskState, MayLeave, Keeps, Near, Modifies, LeavesOnly}
@@ -10,7 +10,6 @@ use Rattle.changeset.specs.PutLaws.{some_or_none}
 use Rattle.meaning.specs.declared.put.Put.{Put}
 use Rattle.meaning.specs.Faults.{InSpace}
 use Rattle.meaning.specs.Maps.{times}
-use Rattle.meaning.specs.Regions.{space_start}
 use Rattle.meaning.proofs.DiskMaps.{fixed_below}
 use Rattle.meaning.proofs.QuietLaws.{each_times}
 use Rattle.alloctab.specs.TableState.{bit}

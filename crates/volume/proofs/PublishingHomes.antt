@@ -1,6 +1,6 @@
 -- A version is published: its retrieval blocks and the puts of its change are none of the home copies.
 use Rattle.std.proofs.Common.{◌⊎◌, ℕ, ◌<◌, ◌≤◌, false, List, ◌∷◌, ◌∙◌, Result, OnOk, Ok, Err}
-use Rattle.blockdisk.specs.Disk.{Contents, DiskState, MayLeave, SameDisk, Near, Modifies, LeavesOnly}
+use Rattle.blockdisk.specs.Disk.{Contents, DiskState, MayLeave, Near, Modifies, LeavesOnly}
 use Rattle.changeset.specs.Crashes.{IsGateOrLog}
 use Rattle.changeset.specs.Puts.{IsPutIn}
 use Rattle.meaning.specs.declared.put.Put.{Put}

@@ -1,6 +1,6 @@
 -- A file gets another place: its prime block is read, and the puts are committed, over plain disk states.
 use Rattle.std.proofs.Common.{◌≡◌, ℕ, ◌<◌, ◌≤◌, ◌⊎◌, inl, ⊎_elim, Bool, true, false, if◌then◌else◌, List, length}
-use Rattle.std.proofs.Common.{◌++◌, Some, None, refl, sym, ap, subst, ◌∙◌, arith}
+use Rattle.std.proofs.Common.{◌++◌, Some, refl, sym, ap, subst, ◌∙◌, arith}
 use Rattle.std.proofs.lemmas.Bool.{cases_lt}
 use Rattle.std.specs.List.{AllByRecursion}
 use Rattle.words36.specs.declared.names.FileName.{FileName}
@@ -20,17 +20,14 @@ use Rattle.meaning.specs.Regions.{space_start, log_images}
 use Rattle.meaning.specs.Stands.{StoredDirectory, DiskMap, files_of, place_of}
 use Rattle.meaning.specs.Layouts.{pack_of}
 use Rattle.meaning.proofs.DiskMaps.{fixed_below}
-use Rattle.meaning.proofs.MapLaws.{some_none}
 use Rattle.meaning.proofs.MapSums.{times-append}
 use Rattle.alloctab.specs.TableState.{IsTable, holds}
 use Rattle.changeset.specs.PutLaws.{times_head}
 use Rattle.retrieval.specs.declared.prime.Prime.{Prime}
 use Rattle.volume.specs.Claims.{claims}
-use Rattle.volume.specs.Facts.{Facts}
 use Rattle.volume.specs.Known.{KnownVersion, KnownDirectory, IsKnownFile, IsKnownDirectory, IsHeld, blocks_reached}
 use Rattle.volume.specs.Live.{VolumeCore, slot, pending_at, as_known, held_reaches, pending_reaches, IsWholeCore}
 use Rattle.volume.specs.Moving.{files_moved, MovesWithin}
-use Rattle.volume.specs.Pins.{IsKeyOf}
 use Rattle.volume.specs.Rest.{IsAtRest, IsSoundCore, RestsAt, StandsForOneOf, KeepsRead, KeepsEachWritten}
 use Rattle.volume.specs.declared.live.LiveVersion.{LiveVersion}
 use Rattle.volume.specs.declared.pending.PendingVersion.{PendingVersion}
@@ -123,16 +120,6 @@ module _ (s mid : DiskState) (c : VolumeCore) (sound : IsSoundCore s c false) (s
 
     held_now : IsHeld s.size c.known at_rest.map s.contents
     held_now = at_rest.rest.all s.contents (λ n closed. refl)
-
-    -- that of a file isn't damaged
-    pub prime_stands : (ppn : ℕ) (name : FileName) (key : ℕ) (file : IsKeyOf c ppn name key)
-        → s.contents file.version.at ≡ None → ⊥
-    prime_stands ppn name key file none =
-        let found = held_now.known.each file.place (ppn, file.word) file.directory file.there.is file.directory_at in
-        let stored = found.2.each file.index (name, file.prime) (as_known file.version) file.at.is file.known in
-        let version = (held_now.stands.mapped.directories ppn found.0 found.1).files name stored.0 stored.1 in
-        let prime : stored.0.prime ≡ file.version.at = ap (λ (x : Facts). x.prime) stored.2 ∙ sym file.prime_is in
-        some_none (sym version.retrieved.prime_is ∙ ap s.contents prime ∙ none)
 
     module _ (keeps : Keeps s mid) where
       pub quiet : Modifies Nowhere s mid

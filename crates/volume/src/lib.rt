@@ -45,7 +45,7 @@
 //! 13. `rename` gives a file another place, in its directory or in another one, and another protection, by one change
 //!    of the directories and the prime block. A crash finds it so, or as it was; no block is taken but for a directory
 //!    that grows, and its version stays under its key, for whoever reads it. On every disk the prime block is rewritten
-//!    only if it is that of the file. (`crash`, `done`, `within`, `across`, `pending`, `held`, `here`, `gone`, `primes`)
+//!    only if it is the file's. (`crash`, `done`, `within`, `across`, `pending`, `held`, `here`, `gone`, `primes`)
 //! 14. `copy_image` copies a volume to another disk of as many blocks: what `open` says of its disk holds of the one
 //!    that is copied, and at Ok the copy stands for the same files, with its gate closed and no block open. (`files`,
 //!    `settled`, `copied`, `crash`, `refused`)

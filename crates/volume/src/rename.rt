@@ -42,8 +42,8 @@ impl<D: Disk> Volume<D> {
     /// with `NameExists` where the new place is another one and has a file already, and with `NoRoom` where the other
     /// directory costs a block more and there is no room for it; `NoMemory` where core can't grow. All is as before
     /// then. `Device` where the device failed, and the volume with it: a later start finds the files with the file so,
-    /// or those from before. `Failed`, and the volume with it, where the file's prime block is damaged or
-    /// isn't that of the file, which no honest disk shows.
+    /// or those from before. `Failed`, and the volume with it, where the file's prime block is damaged or isn't that of
+    /// the file, which no honest disk shows.
     pub fn rename(
         &mut self,
         alloc: Global,
@@ -66,8 +66,8 @@ impl<D: Disk> Volume<D> {
         // At Ok all that a crash may leave stands for the latter.
         ensures done { (D.state self.new.disk).honest → (f : Files File) → RestsAt (D.state self.old.disk) f
             → OnOk result (RestsAt (D.state self.new.disk) (files_moved f ppn name.now to_ppn to.now protection)) }
-        // What it does to core, and what it puts, where the prime block had these words. On every disk they are those of
-        // the prime block of this file.
+        // What it does to core, and what it puts, where the prime block had these words. On every disk they are those
+        // of the prime block of this file.
         ensures within { to_ppn ≡ ppn → OnOk result ((key : ℕ) × (v : LiveVersion) × (words : List ℕ)
             × (puts : List Put) × MovesWithin (D.state self.old.disk).size self.old.core self.new.core ppn name.now
             to.now protection key v words puts

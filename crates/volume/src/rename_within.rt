@@ -144,8 +144,8 @@ fn is_file_prime(
 ///
 /// # Errors
 ///
-/// `Device` where the device failed, and `Failed` where the block is damaged, or where its words aren't those of the prime
-/// block of this version and place.
+/// `Device` where the device failed, and `Failed` where the block is damaged, or where its words aren't those of the
+/// prime block of this version and place.
 pub(crate) fn read_prime<D: Disk>(
     disk: &mut D,
     at: u32,

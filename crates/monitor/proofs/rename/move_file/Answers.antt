@@ -21,6 +21,7 @@ use Rattle.monitor.proofs.Moves.{address_within, asks_for}
 use Rattle.monitor.proofs.ReadingJobs.{job_held}
 use Rattle.monitor.proofs.RenameRefusals.{address_fits, refusing_serves}
 use Rattle.monitor.proofs.RenameWanting.{rename_serves}
+use Rattle.volume.proofs.Marking.{on_ok}
 use Rattle.monitor.proofs.rename.move_file.Goals as goal
 
 pub overflow_add-address : goal.overflow_add-address
@@ -178,8 +179,10 @@ returns g c = record {
       (record {
         crash = facts.crash;
         done = facts.done;
-        within = facts.within;
-        across = facts.across;
+        within = λ same. on_ok c.rename-changed.result _ _
+            (λ found. (found.0, found.1, found.2, found.3, found.4, found.5)) (facts.within same);
+        across = λ other. on_ok c.rename-changed.result _ _
+            (λ found. (found.0, found.1, found.2, found.3, found.4, found.5)) (facts.across other);
         readers = facts.readers;
         writers = facts.writers;
         answers = record {

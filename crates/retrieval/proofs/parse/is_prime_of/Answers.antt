@@ -1,4 +1,4 @@
-use Rattle.std.proofs.Common.{◌≡◌, List, ℕ, ◌==◌, drop, take, rules}
+use Rattle.std.proofs.Common.{◌≡◌, ◌==◌, drop, take, rules}
 use Rattle.std.proofs.lemmas.Bool.Decides.{Decides-eqb}
 use Rattle.std.proofs.lemmas.Slice.Eq.{slice_eq-Decides}
 use Rattle.meaning.specs.Blocks.{head_or_zero}

@@ -192,8 +192,8 @@ returns-in-Ok-commit_puts-clause-home_blocks g c h served n small =
     let puts = c.move_in_core.new.set in
     let move = within_move c.requires.sound c.move_in_core.ensures.1 c.requires.protection c.requires.unclaimed in
     let low = move_low c.requires.sound move c.read_prime.ensures.same c.booked-booked.ensures.sound in
-    homes_stay (λ n. IsGateOrLog mid.size n ⊎ IsPutIn puts n) mid s' low (c.in-Ok-commit_puts.ensures.modified h) n small
-    ∙ (c.read_prime.ensures.keeps (c.commit_puts.ensures.same.was_honest h)).contents n
+    homes_stay (λ n. IsGateOrLog mid.size n ⊎ IsPutIn puts n) mid s' low (c.in-Ok-commit_puts.ensures.modified h) n
+    small ∙ (c.read_prime.ensures.keeps (c.commit_puts.ensures.same.was_honest h)).contents n
 
 pub returns-in-Err-commit_puts-clause-homes : goal.returns-in-Err-commit_puts-clause-homes
 returns-in-Err-commit_puts-clause-homes g c h =
