@@ -34,7 +34,7 @@ returns-in-Ok-clause-ran g c =
             settled = c.in-Ok.ensures.settled (first h);
           };
       transcript = c.attend-attended.ensures;
-      ends = c.ending.ensures.ends;
+      ends = c.ending-status.ensures.ends;
       ended = c.finish.ensures;
     })
 
