@@ -33,7 +33,6 @@ use Rattle.retrieval.specs.declared.prime.Prime.{Prime}
 use Rattle.volume.specs.Claims.{claims}
 use Rattle.volume.specs.Live.{VolumeCore}
 use Rattle.volume.specs.Live.{slot as version_at}
-use Rattle.volume.specs.PrimeBlocks.{IsFilePrime}
 use Rattle.volume.specs.Moving as volume
 use Rattle.volume.specs.Moving.{MovesWithin, MovesAcross}
 use Rattle.volume.specs.Rest.{IsSoundCore, RestsAt, StandsForOneOf, KeepsRead, KeepsEachWritten}
@@ -75,12 +74,10 @@ pub record Moves (d d' : DiskState) (c b : VolumeCore) (Same : Type 0) (failed' 
   pub done : d'.honest → (f : Files File) → RestsAt d f
       → OnOk answer (RestsAt d' (volume.files_moved f ppn name to_ppn to protection))
   pub within : to_ppn ≡ ppn → OnOk answer ((key : ℕ) × (v : LiveVersion) × (words : List ℕ) × (puts : List Put)
-      × MovesWithin d.size c b ppn name to protection key v words puts × (d'.honest → d.contents v.at ≡ Some words)
-      × IsFilePrime words ppn name v)
+      × MovesWithin d.size c b ppn name to protection key v words puts × (d'.honest → d.contents v.at ≡ Some words))
   pub across : (to_ppn ≡ ppn → ⊥) → OnOk answer ((key : ℕ) × (v : LiveVersion) × (words : List ℕ) × (puts : List Put)
       × MovesAcross d.size c b ppn name to_ppn to protection key v words puts
-      × (d'.honest → d.contents v.at ≡ Some words)
-      × IsFilePrime words ppn name v)
+      × (d'.honest → d.contents v.at ≡ Some words))
   pub readers : d'.honest → (IsErrOf answer Device → ⊥) → KeepsRead d.contents d'.contents c
   pub writers : d'.honest → (IsErrOf answer Device → ⊥) → KeepsEachWritten d.contents d'.contents c
   pub answers : IsMoveAnswer d.size c ppn name to_ppn to answer
@@ -113,11 +110,11 @@ pub moves_file : (d d' : DiskState) (c b : VolumeCore) (Same : Type 0) (failed' 
     → Moves d d' c b Same failed' ppn name to_ppn to protection (Ok x) → MovesFile c b ppn name to_ppn to protection
 moves_file d d' c b Same failed' ppn name to_ppn to protection x is = ⊎_elim
     (λ (here : to_ppn ≡ ppn).
-    let (key, v, words, puts, moved, at, prime) = is.within here in
+    let (key, v, words, puts, moved, at) = is.within here in
     subst (λ q. MovesFile c b ppn name q to protection) (sym here)
     (moves_within d.size c b ppn name to protection key v words puts moved))
     (λ apart.
-    let (key, v, words, puts, moved, at, prime) = is.across apart in
+    let (key, v, words, puts, moved, at) = is.across apart in
     moves_across d.size c b ppn name to_ppn to protection key v words puts moved)
     (cases_eq to_ppn ppn)
 
