@@ -519,6 +519,7 @@ def numbers_out_of_range(tries):
         (["calls", "V.IMG", "--minute"], "1440", "--minute <N>"),
     ]:
         tries.expect_mistaken(words + [number], f"error: invalid value '{number}' for '{argument}': ".encode())
+    tries.expect_mistaken(["run", "V.IMG", "--date=-5"], b"error: invalid value '-5' for '--date <DATE>': ")
 
 
 def words_that_no_command_takes(tries):

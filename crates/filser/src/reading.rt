@@ -231,15 +231,18 @@ fn wrong_argument<'a>(matches: &ArgMatches<'a>) -> Option<WrongArgument<'a>>
     None
 }
 
-/// Whether a text is a number, which may be larger than any that is taken.
+/// Whether a text is a number, which may be outside all that are taken.
 fn is_number(text: &str) -> bool {
-    match text.parse::<u32>() {
+    match text.parse::<i64>() {
         Ok(_) => true,
-        Err(error) => *error.kind() == IntErrorKind::PosOverflow,
+        Err(error) => matches!(
+            error.kind(),
+            IntErrorKind::PosOverflow | IntErrorKind::NegOverflow
+        ),
     }
 }
 
-/// The refusal of a number that is past the last date.
+/// The refusal of a number that is no date.
 fn past_dates(alloc: Global, text: &str) -> Result<Error, AllocError>
     ensures { IfOk result (λ error. kind_of error ≡ ValueValidation) }
 {
