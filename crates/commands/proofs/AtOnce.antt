@@ -1,10 +1,10 @@
 -- What a monitor does at once is what it does event by event.
-use Rattle.std.proofs.Common.{◌≡◌, ◌+◌, ◌<◌, ℕ, Bool, List, [], ◌∷◌, ◌++◌, length, slice_index, Option}
+use Rattle.std.proofs.Common.{◌≡◌, ◌+◌, ◌<◌, ℕ, Bool, List, [], ◌∷◌, length, slice_index, Option}
 use Rattle.std.proofs.Common.{None, Some, refl, sym, subst, arith}
 use Rattle.std.specs.Prelude.{IfSome}
 use Rattle.blockdisk.specs.Disk.{DiskState, Contents, MayLeave}
 use Rattle.blockdisk.specs.Laws.{still_start}
-use Rattle.meaning.specs.Plans.{Plan, Asks, Leads, each, deposits, if_done}
+use Rattle.meaning.specs.Plans.{Asks, each, deposits}
 use Rattle.meaning.specs.Runs.{Service, Answers}
 use Rattle.meaning.specs.declared.call.Event.{Event}
 use Rattle.meaning.specs.declared.call.Event.TheVariants.{Deposit, Examine}

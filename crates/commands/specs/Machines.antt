@@ -1,6 +1,6 @@
 -- What is known of a service of files, whatever it is made of: the disk that it serves, whether it has kept its
 -- promises so far, and which services of the definitions it may stand for.
-use Rattle.std.specs.Prelude.{◌≡◌, ◌⊎◌, ◌+◌, ◌<◌, ℕ, false, IsTrue, List, [], ◌∷◌, None, Result, length, slice_index}
+use Rattle.std.specs.Prelude.{◌≡◌, ◌⊎◌, ◌+◌, ◌<◌, ℕ, IsTrue, List, [], ◌∷◌, Result, length, slice_index}
 use Rattle.blockdisk.specs.Disk.{DiskState, Still, LeavesOnly, one_more}
 use Rattle.meaning.specs.Crashes.{may_change, StandsForEither}
 use Rattle.meaning.specs.Jobs.{State}

@@ -1,8 +1,7 @@
 -- The layout of contents, and what they stand for in it.
-use Rattle.std.proofs.Common.{◌≡◌, ℕ, ◌<◌, ◌≤◌, ◌==◌, ◌&&◌, inl, inr, Bool, true, false, cond, List, get_or, Option}
-use Rattle.std.proofs.Common.{Some, None, refl, sym, ap, subst, ◌∙◌}
+use Rattle.std.proofs.Common.{◌≡◌, ℕ, ◌<◌, ◌≤◌, ◌==◌, inl, inr, Bool, true, false, cond, List, Option}
+use Rattle.std.proofs.Common.{Some, None, refl, sym, ap, ◌∙◌}
 use Rattle.std.specs.Bool.{Decides}
-use Rattle.std.specs.Cmp.Lexicographic.{pointwise}
 use Rattle.std.proofs.lemmas.Bool.Decides.{Decides-and, Decides-eqb, Decides-ltb}
 use Rattle.std.proofs.lemmas.Bool.{leb-true, le-leb}
 use Rattle.std.proofs.lemmas.Slice.Eq.{slice_eq-Decides}
@@ -14,7 +13,6 @@ use Rattle.meaning.specs.Layouts.{SettledStandsOn, StandsOn}
 use Rattle.meaning.specs.Regions.{space_start}
 use Rattle.meaning.specs.Room.{Pack}
 use Rattle.meaning.specs.Stands.{SettledStands, Stands}
-use Rattle.meaning.proofs.MapLaws.{some_same}
 
 -- The test of a home copy.
 

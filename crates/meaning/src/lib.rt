@@ -33,8 +33,8 @@ pub use call::{Call, Event, Reply};
 pub use causes::{plans_go_on, refusals_have_causes};
 pub use changes::{
     attributes_change, directories_are_made, directories_are_protected, directories_are_removed,
-    files_are_removed, files_are_renamed, homes_are_raised, maps_change_by_parts, prime_blocks_are_rewritten,
-    versions_are_published, versions_are_superseded,
+    files_are_removed, files_are_renamed, homes_are_raised, maps_change_by_parts,
+    prime_blocks_are_rewritten, versions_are_published, versions_are_superseded,
 };
 pub use code::ErrorCode;
 pub use command::{Command, Spec};
@@ -43,8 +43,9 @@ pub use edits::{directory_edits, master_edits};
 pub use encoding::Encoding;
 pub use entry::Entry;
 pub use laws::{
-    bits_are_counted, chains_are_kept, layouts_are_named, log_is_no_part, maps_fit_their_cost, names_are_sixbit,
-    one_meaning, quiet_writes, vectors_stand, versions_are_kept, versions_fit_their_cost,
+    bits_are_counted, chains_are_kept, layouts_are_named, log_is_no_part, maps_fit_their_cost,
+    names_are_sixbit, one_meaning, quiet_writes, vectors_stand, versions_are_kept,
+    versions_fit_their_cost,
 };
 pub use machine::{
     jobs_are_apart, moments_go_on, readers_keep_versions, reading_holds_still,

@@ -1,5 +1,5 @@
 -- A monitor as a service in layout 1, which is the layout of every disk that is served so far.
-use Rattle.std.proofs.Common.{◌≡◌, Bool, List, Option, subst}
+use Rattle.std.proofs.Common.{Bool, List, Option, subst}
 use Rattle.blockdisk.specs.Disk.{Contents, DiskState, MayLeave, LeavesOnly}
 use Rattle.meaning.specs.Crashes.{StandsForState, StandsForEither}
 use Rattle.meaning.specs.Jobs.{State}

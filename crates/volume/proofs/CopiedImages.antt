@@ -17,7 +17,7 @@ use Rattle.meaning.specs.Table.{bit_in}
 use Rattle.meaning.specs.Directories.{Node, numbers, IsSpelled, master_words, IsMasterEntry, file_words, IsFileEntry}
 use Rattle.meaning.specs.Retrieval.{Extension, extension_numbers, AreExtensions}
 use Rattle.meaning.specs.Stands.{StoredFile, StoredDirectory, DiskMap, reaches}
-use Rattle.meaning.specs.Stands.{blocks_of_file, IsVersion, IsWhole, IsMapped, HasMap, SettledStands}
+use Rattle.meaning.specs.Stands.{blocks_of_file, IsVersion, IsWhole, IsMapped, HasMap}
 use Rattle.meaning.specs.Stands.{place_of}
 use Rattle.meaning.specs.Layouts.{pack_of, SettledStandsOn}
 use Rattle.meaning.proofs.MapLaws.{some_same}
@@ -27,9 +27,7 @@ use Rattle.meaning.proofs.DiskMaps.{directory_part, file_part}
 use Rattle.meaning.proofs.MapSums.{times-append}
 use Rattle.meaning.proofs.Walking.{undamaged_at}
 use Rattle.changeset.specs.Rest.{AtRest}
-use Rattle.changeset.specs.Reads.{OnlyReads}
 use Rattle.volume.specs.Copying.{copied, AreCopied}
-use Rattle.volume.proofs.Starting.{rest_read}
 use Rattle.volume.proofs.Packs.{rests_in, pack_rests}
 use Rattle.volume.specs.Rest.{RestsAt}
 

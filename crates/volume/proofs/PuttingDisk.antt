@@ -15,7 +15,7 @@ use Rattle.meaning.specs.Quiet.{DifferInFree}
 use Rattle.meaning.specs.Regions.{space_start}
 use Rattle.meaning.specs.Retrieval.{HasBody}
 use Rattle.meaning.specs.Splices.{splice, length_after}
-use Rattle.meaning.specs.Stands.{DiskMap, Stands, reaches}
+use Rattle.meaning.specs.Stands.{DiskMap, reaches}
 use Rattle.meaning.specs.Table.{table_bit, fixed}
 use Rattle.meaning.specs.Layouts.{pack_of, StandsOn}
 use Rattle.meaning.proofs.DiskMaps.{fixed_below, quiet, quiet_bits}

@@ -11,7 +11,6 @@ use Rattle.changeset.specs.PutLaws.{times_tail}
 use Rattle.meaning.specs.Faults.{InSpace}
 use Rattle.meaning.specs.Files.{File, Files}
 use Rattle.meaning.specs.Maps.{times}
-use Rattle.meaning.specs.Stands.{SettledStands}
 use Rattle.meaning.specs.Layouts.{pack_of, SettledStandsOn}
 use Rattle.meaning.proofs.Lists.{times_here, times_later}
 use Rattle.meaning.proofs.MapLaws.{some_none, some_same}

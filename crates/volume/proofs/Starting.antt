@@ -133,11 +133,10 @@ rest_pack : (s s' s'' : DiskState) (files : Files File) (layout : ℕ) → s'.si
 rest_pack s s' s'' files layout size size' recovered none reads stands =
     let pack = pack_in layout s.size in
     let rest : AtRest s'' (λ c. SettledStandsOn pack c files) =
-        rest_read s' s'' (λ c. SettledStandsOn pack c files) size' reads
-        (recover_rest s s' (λ c. SettledStandsOn pack c files) (stands_ignores_gate pack files) size
-        (λ settled is. subst (λ c. SettledStandsOn pack c files)
-        (settled_same s.size s.contents stands.0 settled stands.1 is) stands.2) recovered none) in
-    (
+    rest_read s' s'' (λ c. SettledStandsOn pack c files) size' reads
+    (recover_rest s s' (λ c. SettledStandsOn pack c files) (stands_ignores_gate pack files) size
+    (λ settled is. subst (λ c. SettledStandsOn pack c files)
+    (settled_same s.size s.contents stands.0 settled stands.1 is) stands.2) recovered none) in (
       pack_rests s'' pack files (sym (size' ∙ size)) rest,
       rests_in s'' pack files (sym (size' ∙ size)) rest,
     )
