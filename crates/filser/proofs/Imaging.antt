@@ -4,14 +4,14 @@ use Rattle.std.proofs.Common.{sym, subst, ◌∙◌, ◌+◌, ◌-◌, ◌*◌, 
 use Rattle.std.proofs.lemmas.List.{length-replicate}
 use Rattle.std.specs.Prelude.{IsErrOf, option_map, None as Nothing}
 use Rattle.std.specs.declared.io.Error.{Error}
-use Rattle.blockdisk.specs.Disk.{Contents, DiskState, MayLeave, LeavesOnly, NoneOpen, SameDisk, Still, one_more}
+use Rattle.blockdisk.specs.Disk.{DiskState, LeavesOnly, NoneOpen, SameDisk, Still, one_more}
 use Rattle.blockdisk.specs.Laws.{leaves_on}
 use Rattle.blockdisk.specs.Memory.{Memory as MemoryDisk, memory_state, zeroed}
 use Rattle.changeset.specs.Crashes.{IsRecovered}
 use Rattle.changeset.specs.Rest.{AtRest}
 use Rattle.imagefile.specs.Began.{BeganAs, begun_image}
 use Rattle.imagefile.specs.Image.{block_length, other_form}
-use Rattle.imagefile.specs.Unseen.{Unseen, size_of}
+use Rattle.imagefile.specs.Unseen.{Unseen}
 use Rattle.imagefile.specs.declared.form.Form.{Form}
 use Rattle.meaning.specs.Files.{File, Files}
 use Rattle.meaning.specs.Maps.{empty}

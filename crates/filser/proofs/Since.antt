@@ -1,11 +1,10 @@
 -- What holds since a disk was made holds since nothing was asked of its file.
-use Rattle.std.proofs.Common.{◌≡◌, ◌⊎◌, inl, inr, ⊎_elim, ℕ, List, [], Option, Result, sym, subst, ◌∙◌}
+use Rattle.std.proofs.Common.{◌≡◌, inl, inr, ⊎_elim, ℕ, List, [], Option, Result, sym, subst, ◌∙◌}
 use Rattle.std.proofs.Common.{◌+◌, ◌-◌, ◌^◌, min}
-use Rattle.blockdisk.specs.Disk.{Contents, DiskState, MayLeave, LeavesOnly, Still}
-use Rattle.blockdisk.specs.Laws.{same_contents, still_on, leaves_on, leaves_still, leaves_weaker}
+use Rattle.blockdisk.specs.Disk.{Contents, DiskState, MayLeave, LeavesOnly}
+use Rattle.blockdisk.specs.Laws.{same_contents, still_on, leaves_on, leaves_still}
 use Rattle.changeset.specs.Crashes.{IsRecovered}
 use Rattle.imagefile.specs.Began.{BeganAs, begun_image}
-use Rattle.imagefile.specs.Image.{image_state}
 use Rattle.imagefile.specs.ImageLaws.{image_only_now}
 use Rattle.imagefile.specs.Recorded.{recorded}
 use Rattle.imagefile.specs.RecordedLaws.{recorded_only_now}
@@ -13,7 +12,6 @@ use Rattle.imagefile.specs.Unseen.{Unseen}
 use Rattle.imagefile.specs.declared.form.Form.{Form}
 use Rattle.commands.specs.declared.answer.Tally.{Tally}
 use Rattle.commands.specs.declared.error.SessionError.{SessionError}
-use Rattle.meaning.specs.Files.{File, Files}
 use Rattle.meaning.specs.Layouts.{pack_of, StandsOn}
 use Rattle.meaning.specs.Stands.{Stands}
 use Rattle.volume.specs.Rest.{StandsLikeBefore}

@@ -1,5 +1,5 @@
 -- Why an image isn't served or made, and what is printed then.
-use Rattle.std.specs.Prelude.{◌≡◌, ◌≢◌, ◌⊎◌, ℕ, ℤ, List, Bool, true, false, Option, Some, None, Result, Ok, Err}
+use Rattle.std.specs.Prelude.{◌≡◌, ◌≢◌, ◌⊎◌, ℕ, List, Bool, true, false, Option, Some, None, Ok, Err}
 use Rattle.std.specs.Prelude.{option_map, pos, ◌≤ℤ◌}
 use Rattle.std.specs.IoError.{error_kind}
 use Rattle.std.specs.declared.fs.TryLockError.TheVariants.{WouldBlock}

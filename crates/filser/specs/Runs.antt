@@ -18,7 +18,7 @@ use Rattle.filser.specs.declared.error.WrongArgument.{WrongArgument}
 use Rattle.filser.specs.declared.error.RequestError.TheVariants.{Usage, BadArgument, NoMemory}
 use Rattle.filser.specs.declared.fault.HostFault.{HostFault}
 use Rattle.filser.specs.declared.status.Status.{Status}
-use Rattle.filser.specs.declared.status.Status.TheVariants.{Done, Fault}
+use Rattle.filser.specs.declared.status.Status.TheVariants.{Fault}
 use Rattle.filser.specs.declared.streams.MissingStreams.{MissingStreams}
 
 -- What a run is handed, and what it hands back: the leaves to open and to make a file with what is supposed of the

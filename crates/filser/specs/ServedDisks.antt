@@ -1,5 +1,5 @@
 -- What a run makes of the disk of an image. `begun` is the disk before anything was asked of it.
-use Rattle.std.specs.Prelude.{◌≡◌, ◌⊎◌, ℕ, List, Option, Result, Ok, Err, None, false, max, if◌then◌else◌}
+use Rattle.std.specs.Prelude.{◌≡◌, ◌⊎◌, ℕ, List, Option, Result, Ok, Err, false, max, if◌then◌else◌}
 use Rattle.blockdisk.specs.Disk.{DiskState, LeavesOnly, NoneOpen, Still, one_more}
 use Rattle.changeset.specs.Crashes.{IsRecovered}
 use Rattle.meaning.specs.Files.{File, Files}

@@ -1,5 +1,5 @@
 -- The standard streams: which of them is missing, and which leads to a file.
-use Rattle.std.specs.Prelude.{◌≡◌, ◌≢◌, ◌⊎◌, ℕ, ℤ, List, Option, Some, None, codes, pos, ◌≤ℤ◌}
+use Rattle.std.specs.Prelude.{◌≡◌, ◌≢◌, ◌⊎◌, ℕ, ℤ, List, Option, Some, None, codes, pos}
 use Rattle.std.specs.Fd.{file_raw_fd}
 use Rattle.std.specs.declared.fs.File.{File}
 use Rattle.filser.specs.Hosts.{HostFacts}

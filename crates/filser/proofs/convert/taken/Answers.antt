@@ -1,5 +1,3 @@
-use Rattle.std.proofs.Common.{subst, sym}
-use Rattle.filser.specs.Images.{IsTaken}
 use Rattle.filser.proofs.Imaging.{refused_by}
 use Rattle.filser.proofs.convert.taken.Goals as goal
 

@@ -1,4 +1,4 @@
-use Rattle.std.proofs.Common.{inl, inr, refl, subst, sym}
+use Rattle.std.proofs.Common.{inl, inr, refl, subst}
 use Rattle.filser.proofs.Attending.{was_honest}
 use Rattle.filser.proofs.Imaging.{refused_by}
 use Rattle.filser.proofs.serving.serve.Goals as goal
