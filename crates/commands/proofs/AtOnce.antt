@@ -47,8 +47,8 @@ module _ {D : Type 0} (state : D → DiskState) (only_now : (disk : D) (contents
     crash = λ honest s serves. crash_one (state disk) (state disk) map jobs s event reply serves.1
         (untouched_event state only_now disk disk refl map jobs event reply honest s serves.1);
     broken = λ honest serves. still_start (state disk);
-    answers = λ honest old serves. led_one (state disk) map failed jobs (Serves (state disk) map failed jobs') event reply
-        old serves (by old serves);
+    answers = λ honest old serves.
+        led_one (state disk) map failed jobs (Serves (state disk) map failed jobs') event reply old serves (by old serves);
     counted = (λ device. absurd (served device), λ other. refl);
   }
 

@@ -65,7 +65,8 @@ got pack s moment me encoding spec acts said last there few short led went = ⊎
     (λ refused. inr (
       refused,
       ⊎_elim
-          (λ (words, is). absurd (not_refused s.files said (prints (printed encoding words)) last refused is refl)) (λ r. r)
+          (λ (words, is). absurd (not_refused s.files said (prints (printed encoding words)) last refused is refl))
+          (λ r. r)
           (get_refusals moment me encoding spec acts said led),
     ))
     (gets_are_exact pack moment me s encoding spec said last there few short (acts, led, went))

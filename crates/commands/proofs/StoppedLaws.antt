@@ -136,7 +136,8 @@ module _ {D E : Type 0} (state : D → DiskState) (other : E → DiskState) (beg
       (Serving s) acts stopped last
       → (starts : List (E × E)) (left : Contents) (size : ℕ) → size ≡ (state begun.disk).size
       → AreStopped other (state stopped.disk) (state begun.disk).clock starts left
-      → (found : State) × IsAlongActs pack (Serving s) acts found × StandsOn (pack_in 1 size) left (without_serials found.files)
+      → (found : State) × IsAlongActs pack (Serving s) acts found × StandsOn (pack_in 1 size) left
+      (without_serials found.files)
   found_left only_now same by starts left size is were =
       let first = stopped_like other (state stopped.disk) (state begun.disk).clock starts left were in
       let found = acts_found (λ (m : MonitorState D). machine_of (state m.disk) m.map m.failed m.jobs)

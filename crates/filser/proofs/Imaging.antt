@@ -59,7 +59,8 @@ seen found Nothing is p = cc
 -- A new volume.
 
 pub empty_volume : (size : ℕ) (new : DiskState) → new.size ≡ size
-    → (new.honest → AtRest new (λ c. StandsOn (pack_in 1 size) c empty)) → (new.honest → NoneOpen new) → IsEmptyVolume new
+    → (new.honest → AtRest new (λ c. StandsOn (pack_in 1 size) c empty)) → (new.honest → NoneOpen new)
+    → IsEmptyVolume new
 empty_volume size new same rests settled = record {
   rests = λ h. subst (λ n. AtRest new (λ c. StandsOn (pack_in 1 n) c empty)) (sym same) (rests h);
   settled = settled;

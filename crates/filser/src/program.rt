@@ -37,11 +37,11 @@ use imagefile::Form;
 use std::alloc::Global;
 use std::io::{self, Read, Write};
 
-/// A whole run of the program: reads the words, the first of which is its name, does what they ask for over the files of
-/// the host, and answers the exit status, 0 to 4, with what is left of the images. Texts go to `writer`. To `errors` go
-/// those on wrong arguments, why the host didn't give what was asked of an image, that the date is past what a volume
-/// has, which lines of the input were refused, why it can't be a file, and the line that it broke off in; and, if
-/// `telling` says so, how far a conversion is.
+/// A whole run of the program: reads the words, the first of which is its name, does what they ask for over the files
+/// of the host, and answers the exit status, 0 to 4, with what is left of the images. Texts go to `writer`. To `errors`
+/// go those on wrong arguments, why the host didn't give what was asked of an image, that the date is past what a
+/// volume has, which lines of the input were refused, why it can't be a file, and the line that it broke off in; and,
+/// if `telling` says so, how far a conversion is.
 ///
 /// Where several faults stand, the first of these is met: the arguments, a new file that is there, a file
 /// that can't be opened or made or that another process has, its size, the start, the input.

@@ -8,13 +8,15 @@ use Rattle.meaning.specs.Blocks.{head_or_zero}
 use Rattle.meaning.specs.Home.{home_block, IsLayout, IsHome}
 use Rattle.meaning.specs.Regions.{table_start, space_start}
 use Rattle.meaning.specs.Retrieval.{date_limit}
-use Rattle.meaning.specs.Stands.{StoredFile, StoredDirectory, DiskMap, home_of, reaches, quota_limit, IsVersion, IsWhole}
+use Rattle.meaning.specs.Stands.{StoredFile, StoredDirectory, DiskMap, home_of, reaches}
+use Rattle.meaning.specs.Stands.{quota_limit, IsVersion, IsWhole}
 use Rattle.meaning.specs.Stands.{HasMap, place_of}
 use Rattle.meaning.specs.Directories.{master_words, IsMasterEntry}
 use Rattle.meaning.proofs.Chains.{directory_kept}
 use Rattle.meaning.proofs.DiskMaps.{none_below, whole_kept, directory_part, bits_kept_off}
 
-module _ (layout to : ℕ) (dates : date_limit layout ≤ date_limit to) (quotas : quota_limit layout ≤ quota_limit to) where
+module _ (layout to : ℕ) (dates : date_limit layout ≤ date_limit to)
+    (quotas : quota_limit layout ≤ quota_limit to) where
   version_raised : (contents : Contents) (place : Place) (f : StoredFile) → IsVersion layout contents place f
       → IsVersion to contents place f
   version_raised contents place f is = record {

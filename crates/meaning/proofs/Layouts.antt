@@ -32,7 +32,8 @@ copy_told size words =
     Decides-and _ _ (slice_eq-Decides {E = λ a b. a == b} (λ a b. Decides-eqb a b) words
     (home_block size (home_named words)) _ refl)
     (Decides-and _ _ (layout_told (home_named words).layout)
-    (Decides-and _ _ (leb-true (space_start size) (home_named words).master, le-leb (space_start size) (home_named words).master)
+    (Decides-and _ _
+    (leb-true (space_start size) (home_named words).master, le-leb (space_start size) (home_named words).master)
     (Decides-ltb (home_named words).master size)))
 
 copy_named : (size : ℕ) (contents : Contents) (n : ℕ) (words : List ℕ) → contents n ≡ Some words

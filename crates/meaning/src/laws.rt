@@ -26,8 +26,8 @@ pub fn one_meaning()
         → f ≡ g }
 {}
 
-/// The layout of contents is that of the home copy that counts, so it stays with the home copies, and contents stand for
-/// files in one layout at most.
+/// The layout of contents is that of the home copy that counts, so it stays with the home copies, and contents stand
+/// for files in one layout at most.
 pub fn layouts_are_named()
     ensures named { (size : ℕ) (contents : Contents) (home : Home) → IsHome size contents home
         → layout_of size contents ≡ home.layout }

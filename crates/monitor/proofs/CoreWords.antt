@@ -109,9 +109,11 @@ module _ (d : DiskState) (map : VolumeCore) (failed : Bool) (jobs jobs' : List (
       (deposit_reading map.live jobs jobs' n address word reply reading done refused) (leaves_none map)
       (pack_one d) (Deposit n address word) reply
       (λ serial files w. ⊎_elim
-      (λ is. let there = done is in subst (λ r. step (pack_one d) serial (state_of files w jobs) (Deposit n address word)
+      (λ is. let there = done is in subst (λ r. step (pack_one d) serial (state_of files w jobs)
+      (Deposit n address word)
       ≡ (r, state_of files w jobs')) (sym is)
-      (deposit_done_row (pack_one d) jobs n address serial files w jobs' word there.0 there.1 (sym answer ∙ is) there.2))
+      (deposit_done_row (pack_one d) jobs n address serial files w jobs' word there.0 there.1 (sym answer
+      ∙ is) there.2))
       (λ not. subst (λ js. step (pack_one d) serial (state_of files w jobs) (Deposit n address word)
       ≡ (reply, state_of files w js)) (sym (refused not))
       (deposit_other_row (pack_one d) jobs n address serial files w word reply (slot jobs n) refl answer not))
@@ -124,7 +126,8 @@ module _ (d : DiskState) (map : VolumeCore) (failed : Bool) (jobs jobs' : List (
   examine_answered serves keyed reading answer old is =
       led_here d map failed jobs (Serves d map failed jobs) (Examine n address) reply old is
       (row d map map failed jobs jobs keyed reading (leaves_none map) (pack_one d) (Examine n address) reply
-      (λ serial files w. examine_row (pack_one d) jobs n address serial files w reply (slot jobs n) refl answer) serves old is)
+      (λ serial files w. examine_row (pack_one d) jobs n address serial files w reply
+      (slot jobs n) refl answer) serves old is)
 
 -- words in a row that are shown, each as an event would be told it
 module _ (d : DiskState) (map : VolumeCore) (failed : Bool) (jobs : List (Option Job)) (n first count : ℕ) where

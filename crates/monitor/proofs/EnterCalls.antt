@@ -204,7 +204,8 @@ module _ (d : DiskState) (map map' : VolumeCore) (jobs jobs' : List (Option Job)
           λ i. record { place = (x i).place; kind = kind_of enters.kind; pending = (x i).file; next = 1 })
 
       -- the row
-      row_is : (serial : ℕ) → step (pack_one d) serial t (Calls n (Enter ch e) moment) ≡ (Done, state_of s.files w jobs')
+      row_is : (serial : ℕ) → step (pack_one d) serial t (Calls n (Enter ch e) moment)
+          ≡ (Done, state_of s.files w jobs')
       row_is serial =
           called d jobs n (Enter ch e) moment serial s.files w timely job there
           ∙ ap (λ o. on_channel t o (λ x. of_job t n (enter (pack_one d) t (job_of w job) ch x e moment)))

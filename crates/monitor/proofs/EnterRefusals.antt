@@ -108,7 +108,8 @@ module _ (d : DiskState) (map : VolumeCore) (failed : Bool) (jobs jobs' : List (
             ∙ ap (state_of s.files state.under) (sym set)
     by_channel serves (Some x) at (inr is) =
         by_step serves (λ serial. ap row_for at
-        ∙ ap (of_job before n) (ap (λ r. settled r (enter_done (pack_one d) before (job_of state.under job) ch x e moment
+        ∙ ap (of_job before n) (ap (λ r. settled r (enter_done (pack_one d) before
+        (job_of state.under job) ch x e moment
         (place_at (job_of state.under job) e)) (refused_at (job_of state.under job) e)) is.0
         ∙ settled_with reply _ (refused_at (job_of state.under job) e) not_done
         ∙ ap (λ j. (reply, j)) (sym (is.1 not_done))))

@@ -229,7 +229,8 @@ module _ {D : Type 0} (state : D → DiskState) where
         on services Broken last failed runs kept = stayed s services failed last runs (stays failed)
         on services (Serving u) last mid runs kept =
             let after = answered h (Serving u) mid in
-            went_on s u services once kept last runs (subst (λ p. LeavesOnly d d' (StandsForEither p u event reply)) kept
+            went_on s u services once kept last runs (subst (λ p. LeavesOnly d d'
+            (StandsForEither p u event reply)) kept
             (crash h u mid)) after.0 after.1
             (subst (λ p. Answers p (Serving u) event reply after.0) kept after.2)
 

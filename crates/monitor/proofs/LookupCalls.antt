@@ -162,7 +162,8 @@ module _ (d : DiskState) (map between map' : VolumeCore) (jobs jobs' : List (Opt
         ∙ ap (λ o. on_channel t o (λ y. of_job t n (lookup (pack_one d) t (job_of w job) ch y e)))
         (channel_is w job ch (Some c) looks.there)
         ∙ ap (of_job t n)
-        (ap (λ r. settled r (lookup_done (pack_one d) t (job_of w job) ch (channel_of w c) e (place_at (job_of w job) e))
+        (ap (λ r. settled r (lookup_done (pack_one d) t (job_of w job) ch (channel_of w c) e (place_at
+        (job_of w job) e))
         (refused_at (job_of w job) e)) answer
         ∙ ap (λ o. (Done, looked_up (pack_one d) (job_of w job) ch (channel_of w c) e (place_at (job_of w job) e) o))
         (ap (file_at s.files) (sym (looks.place w)) ∙ found.there)

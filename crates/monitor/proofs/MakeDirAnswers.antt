@@ -159,7 +159,8 @@ module _ {D : Type 0} (state_in : D → DiskState) (disk disk' : D) (c c' : Volu
   module _ (was : d'.honest → d.honest) (only_now : d.honest → (x : Contents) → d.left_since d.clock x → MayLeave d x)
       (crash : d'.honest → (f : Files File) → RestsAt d f
       → LeavesOnly d d'
-      (StandsForOneOf (pack_of d) f (files_made f (asked_owner job.core e) (directory_protection_asked job.core e)))) where
+      (StandsForOneOf (pack_of d) f (files_made f (asked_owner job.core e)
+      (directory_protection_asked job.core e)))) where
     unmoved_crashes : Same → CallCrashes d d' c jobs n (MakeDir e) moment
     unmoved_crashes same = subst (λ x. CallCrashes d (state_in x) c jobs n (MakeDir e) moment) (sym same.0)
         (idle_crashes d c jobs n (MakeDir e) moment only_now)
@@ -203,7 +204,8 @@ module _ {D : Type 0} (state_in : D → DiskState) (disk disk' : D) (c c' : Volu
         → ((s : State) → IsState d c jobs s → (new : Service) × Serves d c failed jobs' new
         × Answers (pack_one d) (Serving s) (Calls n (MakeDir e) moment) reply new) → Leads reply
     unmoved reply same alive by old stands =
-        on_disk state_in disk disk' failed failed' c' jobs' (Answers (pack_one d) old (Calls n (MakeDir e) moment) reply)
+        on_disk state_in disk disk' failed failed' c' jobs' (Answers (pack_one d) old (Calls n
+        (MakeDir e) moment) reply)
         (same.0, alive ∙ sym serves)
         (subst (λ m. (new : Service) × Serves d m failed jobs' new
         × Answers (pack_one d) old (Calls n (MakeDir e) moment) reply new) (sym same.1)

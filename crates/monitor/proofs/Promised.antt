@@ -161,7 +161,8 @@ module _ {D : Type 0} (state : D → DiskState) (only_now : (disk : D) (contents
     reading = λ serves. subst (AreReading core.live) (sym same) reading;
     others = λ m other. ap (λ js. slot js m) same;
     answered = λ honest old serves.
-        on_disk state disk disk false failed core jobs' (Answers (pack_one (state disk)) old (Calls n call moment) NoJob)
+        on_disk state disk disk false failed core jobs' (Answers (pack_one (state disk)) old
+        (Calls n call moment) NoJob)
         (refl, alive)
         (nobody (state disk) core false jobs n call moment refl timely jobs' keyed reading none same old serves);
     crash = untouched_crashes state only_now disk disk refl core jobs n call moment;

@@ -187,7 +187,8 @@ module _ {d d' : DiskState} {c b : VolumeCore} {failed failed' : Bool} {reply : 
             ∙ ap without_serials (sym stepped)) new,
       )))
 
-  module _ (idle : IsIdle reply → LeavesOnly d d' (λ contents. StandsOn (pack_of d) contents (without_serials s.files))) where
+  module _ (idle : IsIdle reply → LeavesOnly d d' (λ contents. StandsOn (pack_of d) contents
+      (without_serials s.files))) where
     crash_idle : (r : Reply) → reply ≡ r → IsIdle r → Crashes
     crash_idle r is idles = leaves_weaker d d' (λ contents. StandsOn (pack_of d) contents (without_serials s.files)) _
         (idle (subst IsIdle (sym is) idles)) (λ contents was. inl was)

@@ -327,7 +327,8 @@ module _ (d : DiskState) (map map' : VolumeCore) (jobs jobs' : List (Option Job)
           }))
 
       -- the row
-      row_is : (serial : ℕ) → step (pack_one d) serial t (Calls n (Enter ch e) moment) ≡ (Done, state_of s.files w jobs')
+      row_is : (serial : ℕ) → step (pack_one d) serial t (Calls n (Enter ch e) moment)
+          ≡ (Done, state_of s.files w jobs')
       row_is serial =
           called d jobs n (Enter ch e) moment serial s.files w timely job there
           ∙ ap (λ o. on_channel t o (λ y. of_job t n (enter (pack_one d) t (job_of w job) ch y e moment)))

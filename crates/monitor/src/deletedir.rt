@@ -46,7 +46,8 @@ fn delete_dir<D: Disk>(volume: &mut Volume<D>, job: &mut Job, address: u32) -> R
     // A crash finds the files as they were, or without the directory.
     ensures crash { (D.state volume.new.disk).honest → (f : Files File) → RestsAt (D.state volume.old.disk) f
         → LeavesOnly (D.state volume.old.disk) (D.state volume.new.disk)
-        (StandsForOneOf (pack_of (D.state volume.old.disk)) f (directory_removed f (asked_owner job.old.core address))) }
+        (StandsForOneOf (pack_of (D.state volume.old.disk)) f (directory_removed f
+        (asked_owner job.old.core address))) }
     ensures done { (D.state volume.new.disk).honest → (f : Files File) → RestsAt (D.state volume.old.disk) f
         → result ≡ Done
         → RestsAt (D.state volume.new.disk) (directory_removed f (asked_owner job.old.core address)) }

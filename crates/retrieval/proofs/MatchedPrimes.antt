@@ -24,7 +24,8 @@ pub says_same : (words : List ℕ) (p q : PrimeValue) (n : ℕ) (runs : List Run
     → SpellsPrime words (with_length p n) runs next → words ≡ prime_block (with_length q n) runs next
     → SpellsPrime words (with_length q n) runs next
 says_same words p q n runs next mode a is =
-    let same : prime_block (with_length p n) runs next ≡ prime_block (with_length q n) runs next = sym a.words_are ∙ is in
+    let same : prime_block (with_length p n) runs next ≡ prime_block (with_length q n) runs next = sym a.words_are
+    ∙ is in
     let ppns : p.ppn ≡ q.ppn = cc in
     let highs : p.file.ext * 2 ^ 18 + p.moment.date / 4096 * 2 ^ 15
     ≡ q.file.ext * 2 ^ 18 + q.moment.date / 4096 * 2 ^ 15 = cc in

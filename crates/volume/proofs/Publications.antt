@@ -28,7 +28,8 @@ unchanged_leaves s f g rests only_now = leaves_start s (StandsForOneOf (pack_of 
 -- Quiet writes leave the one.
 pub quiet_leaves_either : (s s' : DiskState) (f g : Files File) → LeavesOnly s s' (λ c. StandsOn (pack_of s) c f)
     → LeavesOnly s s' (StandsForOneOf (pack_of s) f g)
-quiet_leaves_either s s' f g leaves = leaves_weaker s s' (λ c. StandsOn (pack_of s) c f) (StandsForOneOf (pack_of s) f g) leaves
+quiet_leaves_either s s' f g leaves =
+    leaves_weaker s s' (λ c. StandsOn (pack_of s) c f) (StandsForOneOf (pack_of s) f g) leaves
     (λ c is. inl is)
 
 -- Quiet writes, and then a publication.

@@ -168,7 +168,8 @@ module _ {s mid : DiskState} {c c' : VolumeCore} {key : ℕ} {p : PendingVersion
     -- the commit leaves the files of before, or those with the new one
     pub committed_crash : (s' : DiskState) → LeavesOnly mid s' (AllOrNone puts mid) → (f : Files File)
         → RestsAt s f → ((d : Contents) → s.left_since s.clock d → MayLeave s d)
-        → LeavesOnly s s' (StandsForOneOf (pack_of s) f (files_published f p.prime.ppn p.prime.file (file_of p.prime body)))
+        → LeavesOnly s s' (StandsForOneOf (pack_of s) f (files_published f p.prime.ppn p.prime.file
+        (file_of p.prime body)))
     committed_crash s' leaves f rests only_now =
         crash_for s s' c.known c'.known at_rest.map new_map f (new_files f)
         at_rest.rest (files_are s c.known at_rest.map f at_rest.rest rests) (names f rests)

@@ -140,7 +140,11 @@ module _ (s mid : DiskState) (c : VolumeCore) (sound : IsSoundCore s c false) (s
           (quiet_stands s mid (IsHeld s.size c.known at_rest.map)
           (quiet_leaves Nowhere s mid (IsHeld s.size c.known at_rest.map)
           (ignores_nothing (IsHeld s.size c.known at_rest.map)) (λ none. none) at_rest.rest only_now quiet))
-          (λ d held. inl (held.0, held.1, (at_rest.map, held.2.stands, is, pack_held s c.known at_rest.map at_rest.rest)))
+          (λ d held. inl (
+            held.0,
+            held.1,
+            (at_rest.map, held.2.stands, is, pack_held s c.known at_rest.map at_rest.rest),
+          ))
 
 -- What a move does, whichever directory the file comes to: its version stays where it is, and the puts make of any map
 -- that the disk has the one with the file so.

@@ -56,7 +56,8 @@ returns-in-Err-begin-clause-answered g c h alive s known w =
     let map = c.args.volume.now.core in
     let prime = c.prime_for-prime.result in
     let sound = subst (IsSoundCore d map) alive c.requires.sound in
-    subst (λ p. IsAnswer {X = ℕ} (Err c.in-Err-begin.error) (begin_answer_at (pack_one d) s (job_of w c.args.job.now) p))
+    subst (λ p. IsAnswer {X = ℕ} (Err c.in-Err-begin.error) (begin_answer_at (pack_one d) s
+    (job_of w c.args.job.now) p))
     (at_place w c.args.job.now c.args.address prime.ppn prime.file
     (c.prime_for-prime.ensures.ppn ∙ c.in-Some.ensures.there)
     (ap (λ (x : FileName). x.name) c.prime_for-prime.ensures.file ∙ c.name_at-file.ensures.0)

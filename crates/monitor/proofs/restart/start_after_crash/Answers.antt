@@ -29,7 +29,8 @@ returns-clause-found g c h size pack blocks t s events replies new runs starts s
       found.1,
       ok_pair (λ m. (g.E.Disk.state m.disk).honest) (λ m. pack_of (g.E.Disk.state m.disk) ≡ pack)
           (λ m. ServesFiles (g.E.Disk.state m.disk) m.map m.failed m.jobs files) c.start.result
-          (start_in (λ m. (g.E.Disk.state m.disk).honest) (λ m. g.E.Disk.state m.disk) _ e pack files (blocks ∙ sym size)
+          (start_in (λ m. (g.E.Disk.state m.disk).honest) (λ m. g.E.Disk.state m.disk) _ e pack files (blocks
+          ∙ sym size)
           (subst (λ n. StandsOn (pack_in pack.layout n) e.contents files) (size ∙ sym blocks) here) c.start.result
           c.start.ensures.same c.start.ensures.stood)
           (ok_each (IsStart files) (λ m. (g.E.Disk.state m.disk).honest)

@@ -85,7 +85,8 @@ returns-in-Err-begin-clause-answered g c h alive s known w =
     let ok : may d map s known sound was job.ppn (place_of input.ppn input.file) ≡ Ok c.in-Ok.kind =
     (λ i. allowed_update (sym (c.find-found.ensures was alive (without_serials s.files) known.files) i) job.ppn
     input.ppn (sym c.bits-is_zero.ensures.value i == 0) (sym c.is_claimed-claimed.ensures i)) ∙ sym c.in-Ok.ensures in
-    subst (λ (p : Place). IsAnswer {X = ℕ} (Err c.in-Err-begin.error) (update_answer_at (pack_one d) s (job_of w job) p))
+    subst (λ (p : Place). IsAnswer {X = ℕ} (Err c.in-Err-begin.error) (update_answer_at (pack_one d) s
+    (job_of w job) p))
     at
     (not_begun d map s known sound was w job (place_of prime.ppn prime.file) c.in-Ok.kind c.begin.result
     (subst (λ (p : Place). may d map s known sound was job.ppn p ≡ Ok c.in-Ok.kind) (sym at) ok)
