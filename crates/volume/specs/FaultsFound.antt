@@ -1,5 +1,5 @@
 -- What a reader that stops has met: the fault that its refusal names, in the part of the disk that it was
--- to read. `marks` tells how often each block was reached before that part.
+-- to read, in the layout of the disk. `marks` tells how often each block was reached before that part.
 use Rattle.std.specs.Prelude.{◌≡◌, ℕ, ◌+◌, ◌≤◌, ◌⊎◌, Bool, List, Some}
 use Rattle.std.specs.List.{AllByRecursion}
 use Rattle.std.specs.Ordering.{nat_cmp}
@@ -43,56 +43,57 @@ error_of_chain directory.NoMemory = NoMemory
 
 -- One file, given by its place and its prime block.
 
-abbrev pub IsFaultOfFile : ℕ → Contents → List Bool → Place → ℕ → VolumeError → Type 0
-IsFaultOfFile size contents reached place prime NotVolume = ⊥
-IsFaultOfFile size contents reached place prime BadHome = ⊥
-IsFaultOfFile size contents reached place prime BadLog = ⊥
-IsFaultOfFile size contents reached place prime (BadDirectory n) = ⊥
-IsFaultOfFile size contents reached place prime (BadRetrieval n) = IsBadVersion size contents 1 prime n
-    ⊎ ((n ≡ prime) × IsOtherPlace contents place prime)
-IsFaultOfFile size contents reached place prime (BlockTwice n) = IsReachedTwice contents place prime reached n
-IsFaultOfFile size contents reached place prime (TableWrong n) = ⊥
-IsFaultOfFile size contents reached place prime Device = Unit {0}
-IsFaultOfFile size contents reached place prime NoMemory = Unit {0}
-IsFaultOfFile size contents reached place prime Failed = ⊥
-IsFaultOfFile size contents reached place prime (BadData n) = IsDamagedData contents place prime n
+abbrev pub IsFaultOfFile : ℕ → ℕ → Contents → List Bool → Place → ℕ → VolumeError → Type 0
+IsFaultOfFile size layout contents reached place prime NotVolume = ⊥
+IsFaultOfFile size layout contents reached place prime BadHome = ⊥
+IsFaultOfFile size layout contents reached place prime BadLog = ⊥
+IsFaultOfFile size layout contents reached place prime (BadDirectory n) = ⊥
+IsFaultOfFile size layout contents reached place prime (BadRetrieval n) = IsBadVersion size contents layout prime n
+    ⊎ ((n ≡ prime) × IsOtherPlace layout contents place prime)
+IsFaultOfFile size layout contents reached place prime (BlockTwice n) = IsReachedTwice layout contents place prime reached n
+IsFaultOfFile size layout contents reached place prime (TableWrong n) = ⊥
+IsFaultOfFile size layout contents reached place prime Device = Unit {0}
+IsFaultOfFile size layout contents reached place prime NoMemory = Unit {0}
+IsFaultOfFile size layout contents reached place prime Failed = ⊥
+IsFaultOfFile size layout contents reached place prime (BadData n) = IsDamagedData layout contents place prime n
 
 -- The files of one directory, given by its PPN and its entries.
 
 -- Block n, of a version that an entry names, is not as it should be.
-pub record IsBadFileOf (size : ℕ) (contents : Contents) (ppn : ℕ) (entries : List FileEntry) (n : ℕ) : Type 0 where
+pub record IsBadFileOf (size layout : ℕ) (contents : Contents) (ppn : ℕ) (entries : List FileEntry) (n : ℕ) : Type 0
+    where
   pub name : FileName
   pub prime : ℕ
   pub entry : find name_cmp name entries ≡ Some prime
-  pub bad : IsBadVersion size contents 1 prime n ⊎ ((n ≡ prime) × IsOtherPlace contents (place_of ppn name) prime)
+  pub bad : IsBadVersion size contents layout prime n ⊎ ((n ≡ prime) × IsOtherPlace layout contents (place_of ppn name) prime)
 
 -- Block n is a damaged data block.
-pub record IsBadDataOf (contents : Contents) (ppn : ℕ) (entries : List FileEntry) (n : ℕ) : Type 0 where
+pub record IsBadDataOf (layout : ℕ) (contents : Contents) (ppn : ℕ) (entries : List FileEntry) (n : ℕ) : Type 0 where
   pub name : FileName
   pub prime : ℕ
   pub entry : find name_cmp name entries ≡ Some prime
-  pub bad : IsDamagedData contents (place_of ppn name) prime n
+  pub bad : IsDamagedData layout contents (place_of ppn name) prime n
 
 -- Block n was reached twice.
-pub record IsTwiceInFiles (contents : Contents) (marks : ℕ
-    → ℕ) (ppn : ℕ) (entries : List FileEntry) (n : ℕ) : Type 0 where
+pub record IsTwiceInFiles (layout : ℕ) (contents : Contents) (marks : ℕ → ℕ) (ppn : ℕ) (entries : List FileEntry)
+    (n : ℕ) : Type 0 where
   pub files : List (FileName × ReadFile)
   pub once : EachOnce name_cmp files
-  pub read : AllByRecursion (IsFileRead 1 contents ppn entries) files
+  pub read : AllByRecursion (IsFileRead layout contents ppn entries) files
   pub twice : 2 ≤ marks n + total (λ e. times_in_file n e.1) files
 
-abbrev pub IsFaultOfFiles : ℕ → Contents → (ℕ → ℕ) → ℕ → List FileEntry → VolumeError → Type 0
-IsFaultOfFiles size contents marks ppn entries NotVolume = ⊥
-IsFaultOfFiles size contents marks ppn entries BadHome = ⊥
-IsFaultOfFiles size contents marks ppn entries BadLog = ⊥
-IsFaultOfFiles size contents marks ppn entries (BadDirectory n) = ⊥
-IsFaultOfFiles size contents marks ppn entries (BadRetrieval n) = IsBadFileOf size contents ppn entries n
-IsFaultOfFiles size contents marks ppn entries (BlockTwice n) = IsTwiceInFiles contents marks ppn entries n
-IsFaultOfFiles size contents marks ppn entries (TableWrong n) = ⊥
-IsFaultOfFiles size contents marks ppn entries Device = Unit {0}
-IsFaultOfFiles size contents marks ppn entries NoMemory = Unit {0}
-IsFaultOfFiles size contents marks ppn entries Failed = ⊥
-IsFaultOfFiles size contents marks ppn entries (BadData n) = IsBadDataOf contents ppn entries n
+abbrev pub IsFaultOfFiles : ℕ → ℕ → Contents → (ℕ → ℕ) → ℕ → List FileEntry → VolumeError → Type 0
+IsFaultOfFiles size layout contents marks ppn entries NotVolume = ⊥
+IsFaultOfFiles size layout contents marks ppn entries BadHome = ⊥
+IsFaultOfFiles size layout contents marks ppn entries BadLog = ⊥
+IsFaultOfFiles size layout contents marks ppn entries (BadDirectory n) = ⊥
+IsFaultOfFiles size layout contents marks ppn entries (BadRetrieval n) = IsBadFileOf size layout contents ppn entries n
+IsFaultOfFiles size layout contents marks ppn entries (BlockTwice n) = IsTwiceInFiles layout contents marks ppn entries n
+IsFaultOfFiles size layout contents marks ppn entries (TableWrong n) = ⊥
+IsFaultOfFiles size layout contents marks ppn entries Device = Unit {0}
+IsFaultOfFiles size layout contents marks ppn entries NoMemory = Unit {0}
+IsFaultOfFiles size layout contents marks ppn entries Failed = ⊥
+IsFaultOfFiles size layout contents marks ppn entries (BadData n) = IsBadDataOf layout contents ppn entries n
 
 -- One directory, given by its PPN and its first block.
 
@@ -107,27 +108,27 @@ pub record IsInChain (contents : Contents) (first : ℕ) (Fault : List FileEntry
   pub walk : LeadsAlong file_words contents first nodes last
   pub fault : Fault (items nodes)
 
-pub record IsTwiceInDirectory (contents : Contents) (marks : ℕ → ℕ) (ppn first n : ℕ) : Type 0 where
+pub record IsTwiceInDirectory (layout : ℕ) (contents : Contents) (marks : ℕ → ℕ) (ppn first n : ℕ) : Type 0 where
   pub directory : ReadDirectory
   pub walk : LeadsAlong file_words contents first directory.nodes directory.last
   pub once : EachOnce name_cmp directory.files
-  pub read : AllByRecursion (IsFileRead 1 contents ppn (items directory.nodes)) directory.files
+  pub read : AllByRecursion (IsFileRead layout contents ppn (items directory.nodes)) directory.files
   pub twice : 2 ≤ marks n + times_in_directory n directory
 
-abbrev pub IsFaultOfDirectory : ℕ → Contents → (ℕ → ℕ) → ℕ → ℕ → VolumeError → Type 0
-IsFaultOfDirectory size contents marks ppn first NotVolume = ⊥
-IsFaultOfDirectory size contents marks ppn first BadHome = ⊥
-IsFaultOfDirectory size contents marks ppn first BadLog = ⊥
-IsFaultOfDirectory size contents marks ppn first (BadDirectory n) = IsBadFileChain size contents first n
-IsFaultOfDirectory size contents marks ppn first (BadRetrieval n) = IsInChain contents first
-    (λ entries. IsBadFileOf size contents ppn entries n)
-IsFaultOfDirectory size contents marks ppn first (BlockTwice n) = IsTwiceInDirectory contents marks ppn first n
-IsFaultOfDirectory size contents marks ppn first (TableWrong n) = ⊥
-IsFaultOfDirectory size contents marks ppn first Device = Unit {0}
-IsFaultOfDirectory size contents marks ppn first NoMemory = Unit {0}
-IsFaultOfDirectory size contents marks ppn first Failed = ⊥
-IsFaultOfDirectory size contents marks ppn first (BadData n) = IsInChain contents first
-    (λ entries. IsBadDataOf contents ppn entries n)
+abbrev pub IsFaultOfDirectory : ℕ → ℕ → Contents → (ℕ → ℕ) → ℕ → ℕ → VolumeError → Type 0
+IsFaultOfDirectory size layout contents marks ppn first NotVolume = ⊥
+IsFaultOfDirectory size layout contents marks ppn first BadHome = ⊥
+IsFaultOfDirectory size layout contents marks ppn first BadLog = ⊥
+IsFaultOfDirectory size layout contents marks ppn first (BadDirectory n) = IsBadFileChain size contents first n
+IsFaultOfDirectory size layout contents marks ppn first (BadRetrieval n) = IsInChain contents first
+    (λ entries. IsBadFileOf size layout contents ppn entries n)
+IsFaultOfDirectory size layout contents marks ppn first (BlockTwice n) = IsTwiceInDirectory layout contents marks ppn first n
+IsFaultOfDirectory size layout contents marks ppn first (TableWrong n) = ⊥
+IsFaultOfDirectory size layout contents marks ppn first Device = Unit {0}
+IsFaultOfDirectory size layout contents marks ppn first NoMemory = Unit {0}
+IsFaultOfDirectory size layout contents marks ppn first Failed = ⊥
+IsFaultOfDirectory size layout contents marks ppn first (BadData n) = IsInChain contents first
+    (λ entries. IsBadDataOf layout contents ppn entries n)
 
 -- The directories that the master directory names, given by its entries.
 
@@ -139,28 +140,28 @@ pub record IsInEntry (entries : List MasterEntry) (Fault : ℕ → ℕ → Type 
   pub entry : find nat_cmp ppn entries ≡ Some (word, first)
   pub fault : Fault ppn first
 
-pub record IsTwiceInDirectories (contents : Contents) (marks : ℕ
-    → ℕ) (entries : List MasterEntry) (n : ℕ) : Type 0 where
+pub record IsTwiceInDirectories (layout : ℕ) (contents : Contents) (marks : ℕ → ℕ) (entries : List MasterEntry)
+    (n : ℕ) : Type 0 where
   pub directories : List (ℕ × ReadDirectory)
   pub once : EachOnce nat_cmp directories
-  pub read : AllByRecursion (IsDirectoryRead 1 contents entries) directories
+  pub read : AllByRecursion (IsDirectoryRead layout contents entries) directories
   pub twice : 2 ≤ marks n + total (λ e. times_in_directory n e.1) directories
 
-abbrev pub IsFaultOfDirectories : ℕ → Contents → (ℕ → ℕ) → List MasterEntry → VolumeError → Type 0
-IsFaultOfDirectories size contents marks entries NotVolume = ⊥
-IsFaultOfDirectories size contents marks entries BadHome = ⊥
-IsFaultOfDirectories size contents marks entries BadLog = ⊥
-IsFaultOfDirectories size contents marks entries (BadDirectory n) = IsInEntry entries
+abbrev pub IsFaultOfDirectories : ℕ → ℕ → Contents → (ℕ → ℕ) → List MasterEntry → VolumeError → Type 0
+IsFaultOfDirectories size layout contents marks entries NotVolume = ⊥
+IsFaultOfDirectories size layout contents marks entries BadHome = ⊥
+IsFaultOfDirectories size layout contents marks entries BadLog = ⊥
+IsFaultOfDirectories size layout contents marks entries (BadDirectory n) = IsInEntry entries
     (λ ppn first. IsBadFileChain size contents first n)
-IsFaultOfDirectories size contents marks entries (BadRetrieval n) = IsInEntry entries
-    (λ ppn first. IsInChain contents first (λ files. IsBadFileOf size contents ppn files n))
-IsFaultOfDirectories size contents marks entries (BlockTwice n) = IsTwiceInDirectories contents marks entries n
-IsFaultOfDirectories size contents marks entries (TableWrong n) = ⊥
-IsFaultOfDirectories size contents marks entries Device = Unit {0}
-IsFaultOfDirectories size contents marks entries NoMemory = Unit {0}
-IsFaultOfDirectories size contents marks entries Failed = ⊥
-IsFaultOfDirectories size contents marks entries (BadData n) = IsInEntry entries
-    (λ ppn first. IsInChain contents first (λ files. IsBadDataOf contents ppn files n))
+IsFaultOfDirectories size layout contents marks entries (BadRetrieval n) = IsInEntry entries
+    (λ ppn first. IsInChain contents first (λ files. IsBadFileOf size layout contents ppn files n))
+IsFaultOfDirectories size layout contents marks entries (BlockTwice n) = IsTwiceInDirectories layout contents marks entries n
+IsFaultOfDirectories size layout contents marks entries (TableWrong n) = ⊥
+IsFaultOfDirectories size layout contents marks entries Device = Unit {0}
+IsFaultOfDirectories size layout contents marks entries NoMemory = Unit {0}
+IsFaultOfDirectories size layout contents marks entries Failed = ⊥
+IsFaultOfDirectories size layout contents marks entries (BadData n) = IsInEntry entries
+    (λ ppn first. IsInChain contents first (λ files. IsBadDataOf layout contents ppn files n))
 
 -- what a reader of the table refuses
 abbrev pub IsTableRefusal : VolumeError → Type 0

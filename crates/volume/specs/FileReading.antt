@@ -37,37 +37,38 @@ IsFileRefusal error = ⊥
 
 -- What is found, and what is wrong.
 
--- A file of this place stands at the prime block, and this is what is known of it: what the prime block
--- says, and where the version lies.
-pub record IsFileFound (contents : Contents) (place : Place) (at : ℕ) (prime : PrimeValue)
+-- In this layout a file of this place stands at the prime block, and this is what is known of it: what the prime
+-- block says, and where the version lies.
+pub record IsFileFound (layout : ℕ) (contents : Contents) (place : Place) (at : ℕ) (prime : PrimeValue)
     (v : VersionState) : Type 0 where
   pub file : StoredFile
-  pub stands : IsVersion 1 contents place file
+  pub stands : IsVersion layout contents place file
   pub prime_is : file.prime ≡ at
   pub ribs_are : file.extensions ≡ v.ribs
   pub blocks_are : file.blocks ≡ v.blocks
   pub facts_are : prime_of place file.file ≡ with_length prime v.words
 
 -- The block is no prime block of this place.
-abbrev pub IsOtherPlace : Contents → Place → ℕ → Type 0
-IsOtherPlace contents place n =
+abbrev pub IsOtherPlace : ℕ → Contents → Place → ℕ → Type 0
+IsOtherPlace layout contents place n =
     (p : Prime) (runs : List Run) (next : ℕ) → contents n ≡ Some (prime_block p runs next) → p.place ≡ place
-    → IsPrime 1 p → length runs ≤ 112 → AllByRecursion IsRun runs → ⊥
+    → IsPrime layout p → length runs ≤ 112 → AllByRecursion IsRun runs → ⊥
 
 -- The retrieval blocks of a file of this place were read, and with its blocks block n is reached twice.
-pub record IsReachedTwice (contents : Contents) (place : Place) (at : ℕ) (reached : List Bool) (n : ℕ) : Type 0 where
+pub record IsReachedTwice (layout : ℕ) (contents : Contents) (place : Place) (at : ℕ) (reached : List Bool)
+    (n : ℕ) : Type 0 where
   pub file : ReadFile
   pub prime_is : file.prime ≡ at
   pub place_is : file.p.place ≡ place
-  pub retrieved : IsRetrieved 1 contents file.p file.prime file.extensions file.blocks
+  pub retrieved : IsRetrieved layout contents file.p file.prime file.extensions file.blocks
   pub twice : 2 ≤ digit_at reached n + times_in_file n file
 
 -- Block n is damaged, and is a data block of a file of this place.
-pub record IsDamagedData (contents : Contents) (place : Place) (at n : ℕ) : Type 0 where
+pub record IsDamagedData (layout : ℕ) (contents : Contents) (place : Place) (at n : ℕ) : Type 0 where
   pub p : Prime
   pub extensions : List ℕ
   pub blocks : List ℕ
   pub place_is : p.place ≡ place
-  pub retrieved : IsRetrieved 1 contents p at extensions blocks
+  pub retrieved : IsRetrieved layout contents p at extensions blocks
   pub inside : 0 < times n blocks
   pub damaged : contents n ≡ None

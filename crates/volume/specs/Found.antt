@@ -21,7 +21,7 @@ use Rattle.alloctab.specs.Reached.{wanted_bit}
 use Rattle.alloctab.specs.Reading.{IsTableOf}
 use Rattle.directory.specs.Chains.{ChainState, IsChain, IsOn}
 use Rattle.volume.specs.Facts.{facts_of, known_facts}
-use Rattle.volume.specs.Homes.{home_of_master}
+use Rattle.volume.specs.Homes.{home_in}
 use Rattle.volume.specs.FileReading.{IsFileFound}
 use Rattle.volume.specs.Known.{KnownVersion, KnownDirectory, IsKnownDirectory}
 
@@ -40,63 +40,63 @@ pub record IsAdded {A B : Type 0} (view : A → B) (old new : List A) (P : B →
   pub is : P (view added)
 
 -- The version of an entry was read, and its blocks were marked.
-pub record IsMarkedFile (contents : Contents) (ppn : ℕ) (entry : FileEntry) (marks marks' : ℕ
+pub record IsMarkedFile (layout : ℕ) (contents : Contents) (ppn : ℕ) (entry : FileEntry) (marks marks' : ℕ
     → ℕ) (v : KnownVersion) : Type 0 where
-  pub found : IsFileFound contents (place_of ppn entry.0) entry.1 v.prime v.version
+  pub found : IsFileFound layout contents (place_of ppn entry.0) entry.1 v.prime v.version
   pub marked : (n : ℕ) → marks' n ≡ marks n + times n (entry.1 ∷ (v.version.ribs ++ v.version.blocks))
 
--- The versions of these entries of a directory. `marks` tells how often each block was reached before and
--- after they were read.
-pub record AreFilesRead (contents : Contents) (ppn : ℕ) (entries : List FileEntry) (versions : List KnownVersion)
-    (marks marks' : ℕ → ℕ) : Type 0 where
+-- The versions of these entries of a directory, in this layout. `marks` tells how often each block was reached before
+-- and after they were read.
+pub record AreFilesRead (layout : ℕ) (contents : Contents) (ppn : ℕ) (entries : List FileEntry)
+    (versions : List KnownVersion) (marks marks' : ℕ → ℕ) : Type 0 where
   pub found : List (FileName × StoredFile)
   pub named : map (λ e. (e.0, e.1.prime)) found ≡ entries
-  pub whole : AllByRecursion (λ e. IsVersion 1 contents (place_of ppn e.0) e.1) found
+  pub whole : AllByRecursion (λ e. IsVersion layout contents (place_of ppn e.0) e.1) found
   pub known : AllZip IsKnownVersion found versions
   pub marked : (n : ℕ) → marks' n ≡ marks n + total (λ e. reaches_in_file n e.1) found
 
 -- The chain and the files of a directory that this entry names, as they were read.
-pub record IsEntryRead (contents : Contents) (entry : MasterEntry) (directory : ReadDirectory) : Type 0 where
+pub record IsEntryRead (layout : ℕ) (contents : Contents) (entry : MasterEntry) (directory : ReadDirectory) : Type 0 where
   pub walk : LeadsAlong file_words contents entry.1.1 directory.nodes directory.last
   pub once : EachOnce name_cmp directory.files
-  pub files : AllByRecursion (IsFileRead 1 contents entry.0 (items directory.nodes)) directory.files
+  pub files : AllByRecursion (IsFileRead layout contents entry.0 (items directory.nodes)) directory.files
 
 -- One directory, which this entry of the master directory names.
-pub record IsDirectoryFound (contents : Contents) (entry : MasterEntry) (directory : KnownDirectory) (marks marks' : ℕ
-    → ℕ) : Type 0 where
+pub record IsDirectoryFound (layout : ℕ) (contents : Contents) (entry : MasterEntry) (directory : KnownDirectory)
+    (marks marks' : ℕ → ℕ) : Type 0 where
   pub found : StoredDirectory
   pub named : entry_of found ≡ entry.1
-  pub whole : IsWhole 1 contents entry.0 found
+  pub whole : IsWhole layout contents entry.0 found
   pub known : IsKnownDirectory directory found
   pub on : IsOn file_words contents directory.chain
   pub read : ReadDirectory
-  pub read_is : IsEntryRead contents entry read
+  pub read_is : IsEntryRead layout contents entry read
   pub marked : (n : ℕ) → marks' n ≡ marks n + reaches_in_directory n found
   pub counted : (n : ℕ) → times_in_directory n read ≡ reaches_in_directory n found
 
 -- The directories of these entries.
-pub record AreDirectoriesRead (contents : Contents) (entries : List MasterEntry) (directories : List KnownDirectory)
-    (marks marks' : ℕ → ℕ) : Type 0 where
+pub record AreDirectoriesRead (layout : ℕ) (contents : Contents) (entries : List MasterEntry)
+    (directories : List KnownDirectory) (marks marks' : ℕ → ℕ) : Type 0 where
   pub found : List (ℕ × StoredDirectory)
   pub named : map (λ e. (e.0, entry_of e.1)) found ≡ entries
-  pub whole : AllByRecursion (λ e. IsWhole 1 contents e.0 e.1) found
+  pub whole : AllByRecursion (λ e. IsWhole layout contents e.0 e.1) found
   pub known : AllZip (λ e d. IsKnownDirectory d e.1) found directories
   pub on : AllByRecursion (λ d. IsOn file_words contents d.chain) directories
   pub read : List (MasterEntry × ReadDirectory)
   pub read_named : map (λ r. r.0) read ≡ entries
-  pub read_are : AllByRecursion (λ r. IsEntryRead contents r.0 r.1) read
+  pub read_are : AllByRecursion (λ r. IsEntryRead layout contents r.0 r.1) read
   pub counted : (n : ℕ) → total (λ r. times_in_directory n r.1) read ≡ total (λ e. reaches_in_directory n e.1) found
   pub marked : (n : ℕ) → marks' n ≡ marks n + total (λ e. reaches_in_directory n e.1) found
 
 -- What was read: the master directory, and the directories that it names.
-pub record IsMapFound (size : ℕ) (contents : Contents) (first : ℕ) (master : ChainState MasterEntry)
+pub record IsMapFound (size : ℕ) (contents : Contents) (layout first : ℕ) (master : ChainState MasterEntry)
     (directories : List KnownDirectory) (marks : ℕ → ℕ) : Type 0 where
   pub volume : IsVolumeSize size
-  pub home : IsHome size contents (home_of_master first)
-  pub chain : IsChain nat_cmp (IsMasterEntryOf 1) master
+  pub home : IsHome size contents (home_in layout first)
+  pub chain : IsChain nat_cmp (IsMasterEntryOf layout) master
   pub on : IsOn master_words contents master
   pub begins : head_or_zero master.blocks ≡ first
-  pub read : AreDirectoriesRead contents master.entries directories (λ n. times n master.blocks) marks
+  pub read : AreDirectoriesRead layout contents master.entries directories (λ n. times n master.blocks) marks
 
 -- Block n of the table is damaged, or has a bit that isn't as the reached blocks ask for.
 pub record IsWrongFor (size : ℕ) (contents : Contents) (reached : List Bool) (n : ℕ) : Type 0 where

@@ -4,6 +4,7 @@ use Rattle.std.specs.Prelude.{Some}
 use Rattle.blockdisk.specs.Disk.{Contents}
 use Rattle.meaning.specs.Regions.{table_blocks, table_start, space_start}
 use Rattle.meaning.specs.Home.{Home, home_block, IsHomeCopy}
+use Rattle.meaning.specs.Layouts.{layout_number}
 use Rattle.meaning.specs.Faults.{InSpace, HasName}
 use Rattle.meaning.specs.Readings.{found_map}
 use Rattle.meaning.specs.Stands.{DiskMap}
@@ -13,9 +14,9 @@ use Rattle.volume.specs.declared.home.HomeCopy.TheVariants.{Valid, Named, Unname
 
 -- Home copies.
 
--- the home block of layout 1 with this master directory
-abbrev pub home_of_master : ℕ → Home
-home_of_master master = record { layout = 1; master = master }
+-- what a home copy says that names this layout and this first block of the master directory
+abbrev pub home_in : ℕ → ℕ → Home
+home_in layout master = record { layout = layout; master = master }
 
 -- the copy in block n is not valid, whatever it may say
 abbrev pub IsNoCopy : ℕ → Contents → ℕ → Type 0
@@ -23,13 +24,13 @@ IsNoCopy size contents n = (home : Home) → IsHomeCopy size contents n home →
 
 -- What was found is what the copy in block n says.
 abbrev pub IsFound : ℕ → Contents → ℕ → HomeCopy → Type 0
-IsFound size contents n (Valid master) = IsHomeCopy size contents n (home_of_master master)
+IsFound size contents n (Valid home) = IsHomeCopy size contents n (home_in (layout_number home.layout) home.master)
 IsFound size contents n Named = HasName contents n × IsNoCopy size contents n
 IsFound size contents n Unnamed = HasName contents n → ⊥
 
 -- a valid copy that was found names a block of the free space
 abbrev pub IsFoundInSpace : ℕ → HomeCopy → Type 0
-IsFoundInSpace size (Valid master) = InSpace size master
+IsFoundInSpace size (Valid home) = InSpace size home.master
 IsFoundInSpace size Named = Unit {0}
 IsFoundInSpace size Unnamed = Unit {0}
 
@@ -57,8 +58,8 @@ zero_words = replicate 128 0
 -- Its blocks, as far as they are written.
 pub record IsBare (size : ℕ) (contents : Contents) : Type 0 where
   pub first : contents 0 ≡ Some zero_words
-  pub home : contents 1 ≡ Some (home_block size (home_of_master (space_start size)))
-  pub second_home : contents 2 ≡ Some (home_block size (home_of_master (space_start size)))
+  pub home : contents 1 ≡ Some (home_block size (home_in 1 (space_start size)))
+  pub second_home : contents 2 ≡ Some (home_block size (home_in 1 (space_start size)))
   pub gate : contents 3 ≡ Some zero_words
   pub log_header : contents 4 ≡ Some zero_words
   pub table : (i : ℕ) → i < table_blocks size → contents (table_start size + i) ≡ Some (table_words (fresh_bit size) i)
@@ -71,7 +72,7 @@ bare_map size = found_map 1 ((space_start size, []) ∷ []) []
 -- the words that block n of it gets
 abbrev pub fresh_words : ℕ → ℕ → List ℕ
 fresh_words size n =
-    if n == 1 then home_block size (home_of_master (space_start size)) else
-    if n == 2 then home_block size (home_of_master (space_start size)) else
+    if n == 1 then home_block size (home_in 1 (space_start size)) else
+    if n == 2 then home_block size (home_in 1 (space_start size)) else
     if nat_lt n (table_start size) then zero_words else
     if nat_lt n (space_start size) then table_words (fresh_bit size) (n - table_start size) else zero_words

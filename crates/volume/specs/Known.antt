@@ -54,9 +54,8 @@ pub record IsKnownDirectory (k : KnownDirectory) (d : StoredDirectory) : Type 0 
   pub each : (i : ℕ) (e : FileEntry) (v : KnownVersion) → slice_get k.chain.entries i ≡ Some e
       → slice_get k.versions i ≡ Some v → IsKnownFile d e v
 
--- The map is the one in core, in layout 1.
+-- The map is the one in core.
 pub record IsKnownMap (k : Known) (m : DiskMap) : Type 0 where
-  pub layout : m.layout ≡ 1
   pub chain : m.chain ≡ k.master.blocks
   pub names : map_values entry_of m.directories ≡ from_entries k.master.entries
   pub each : (i : ℕ) (e : MasterEntry) (d : KnownDirectory) → slice_get k.master.entries i ≡ Some e
@@ -118,7 +117,8 @@ cost_of_known master directories = length master.blocks + total cost_of_director
 pub record IsWholeMap (size : ℕ) (k : Known) : Type 0 where
   pub volume : IsVolumeSize size
   pub size_is : k.table.size ≡ size
-  pub chain : IsChain nat_cmp (IsMasterEntryOf 1) k.master
+  -- core has room for the entries of every layout
+  pub chain : IsChain nat_cmp (IsMasterEntryOf 2) k.master
   pub inside : AllByRecursion (InSpace size) k.master.blocks
   pub aligned : length k.directories ≡ length k.master.entries
   pub each : AllByRecursion (IsWholeDirectory size) k.directories

@@ -111,7 +111,7 @@ files_made f ppn protection = insert f ppn (record { protection = protection; qu
 pub record IsEntered (k k' : Known) (ppn protection first : ℕ) (grown : List ℕ) (puts : List Put) : Type 0 where
   pub blocks : k'.master.blocks ≡ k.master.blocks ++ grown
   pub entries : k'.master.entries ≡ k.master.entries ++ entry_made ppn protection first ∷ []
-  pub chain : IsChain nat_cmp (IsMasterEntryOf 1) k'.master
+  pub chain : IsChain nat_cmp (IsMasterEntryOf 2) k'.master
   pub directories : k'.directories ≡ k.directories ++ bare_known first ∷ []
   pub put : PutsChain master_words k.master k'.master [] puts
   pub few : length puts ≤ 2

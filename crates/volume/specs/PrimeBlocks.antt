@@ -13,7 +13,7 @@ abbrev pub file_prime : ℕ → FileName → LiveVersion → Prime
 file_prime ppn name v = record (with_length v.prime v.version.words) { place = place_of ppn name }
 
 -- These are the words of the prime block of a version in core, which a file of this place has: they name the place, and
--- say of the version what core knows, with its first extension.
+-- say of the version what core knows, with its first extension. Layout 2 has room for the dates of both layouts.
 pub record IsFilePrime (words : List ℕ) (ppn : ℕ) (name : FileName) (v : LiveVersion) : Type 0 where
   pub runs : List Run
-  pub spells : SpellsPrime words (file_prime ppn name v) runs (head_or_zero v.version.ribs)
+  pub spells : SpellsPrime 2 words (file_prime ppn name v) runs (head_or_zero v.version.ribs)

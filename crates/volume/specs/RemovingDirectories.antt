@@ -55,7 +55,7 @@ pub record IsDirectoryRemoved (size : ℕ) (k k' : Known) (ppn : ℕ) (puts : Li
   pub one_block : length directory.chain.blocks ≡ 1
   -- the master directory without its entry, and the block that its chain gives back, where its last one is left empty
   pub left : List ℕ
-  pub chain : IsChain nat_cmp (IsMasterEntryOf 1) k'.master
+  pub chain : IsChain nat_cmp (IsMasterEntryOf 2) k'.master
   pub blocks : k.master.blocks ≡ k'.master.blocks ++ left
   pub entries : k'.master.entries ≡ removed nat_cmp k.master.entries ppn
   pub names : from_entries {R = nat_cmp} k'.master.entries ≡ remove (from_entries k.master.entries) ppn

@@ -72,7 +72,7 @@ pub fn book_map(table: &mut Table, master: &Chain<MasterEntry>, directories: &[S
 /// space are in use than are booked.
 pub fn known_maps_are_booked()
     ensures cost { (size : ℕ) (known : Known) (m : DiskMap) → IsKnownMap known m
-        → IsChain nat_cmp (IsMasterEntryOf 1) known.master → length known.directories ≡ length known.master.entries
+        → IsChain nat_cmp (IsMasterEntryOf 2) known.master → length known.directories ≡ length known.master.entries
         → AllByRecursion (IsWholeDirectory size) known.directories
         → cost_of_known known.master known.directories ≡ cost_of_files (files_of m) }
     ensures used { (size : ℕ) (core : VolumeCore) → IsWholeCore size core

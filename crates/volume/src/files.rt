@@ -5,6 +5,7 @@ ghost use Rattle.blockdisk.specs.Disk.{Keeps, SameDisk, IsWholeBlock, one_more};
 ghost use Rattle.meaning.specs.Maps.{times};
 ghost use Rattle.meaning.specs.Costs.{blocks_of};
 ghost use Rattle.meaning.specs.Regions.{IsVolumeSize};
+ghost use Rattle.meaning.specs.Layouts.{layout_number};
 ghost use Rattle.meaning.specs.Retrieval.{most_blocks};
 ghost use Rattle.meaning.specs.Stands.{place_of};
 ghost use Rattle.meaning.specs.Faults.{InSpace, IsBadVersion};
@@ -21,6 +22,7 @@ use crate::VolumeError;
 use crate::marks::mark_version;
 use alloctab::Reached;
 use blockdisk::Disk;
+use meaning::layout::Layout;
 use retrieval::{Prime, RetrievalError, Run, Version, read_version};
 use std::alloc::Global;
 use words36::{FileName, Ppn};
@@ -34,10 +36,11 @@ pub struct StoredVersion {
     pub version: Version,
 }
 
-/// Reads the version of a file, whose prime block has to name the file's place.
+/// Reads the version of a file in a layout; its prime block has to name the file's place.
 fn read_named<D: Disk>(
     alloc: Global,
     disk: &mut D,
+    layout: Layout,
     ppn: Ppn,
     name: FileName,
     prime: u32,
@@ -47,7 +50,8 @@ fn read_named<D: Disk>(
     requires inside { prime < (D.state disk.old).size }
     // The version that was read, of this name.
     ensures ok { (D.state disk.new).honest
-        → IfOk result (λ v. IsVersionAt (D.state disk.old).size (D.state disk.old).contents prime v.prime v.version) }
+        → IfOk result (λ v. IsVersionAt (D.state disk.old).size (D.state disk.old).contents
+        (layout_number layout) prime v.prime v.version) }
     ensures name { IfOk result (λ v. v.prime.file ≡ name) }
     ensures ppn { IfOk result (λ v. v.prime.ppn ≡ ppn) }
     // It is as a version has to be.
@@ -58,8 +62,8 @@ fn read_named<D: Disk>(
     ensures few_ribs { IfOk result (λ v. length v.version.ribs ≤ rib_count (length v.version.blocks)) }
     // Which refusal comes when.
     ensures bad_version { (D.state disk.new).honest → (k : ℕ) → IsErrOf result (BadRetrieval k)
-        → IsBadVersion (D.state disk.old).size (D.state disk.old).contents 1 prime k
-        ⊎ ((k ≡ prime) × IsOtherPlace (D.state disk.old).contents (place_of ppn name) prime) }
+        → IsBadVersion (D.state disk.old).size (D.state disk.old).contents (layout_number layout) prime k
+        ⊎ ((k ≡ prime) × IsOtherPlace (layout_number layout) (D.state disk.old).contents (place_of ppn name) prime) }
     ensures only { IfErr result IsVersionRefusal }
     ensures named { (k : ℕ) → IsErrOf result (BadRetrieval k) → (k ≡ prime) ⊎ InSpace (D.state disk.old).size k }
     // The device: what failed, and how often.
@@ -68,7 +72,7 @@ fn read_named<D: Disk>(
     ensures failed { IsErrOf result Device → (D.state disk.new).failures ≡ one_more (D.state disk.old).failures }
     ensures served { (IsErrOf result Device → ⊥) → (D.state disk.new).failures ≡ (D.state disk.old).failures }
 {
-    let (facts, version) = match read_version(alloc, disk, prime) {
+    let (facts, version) = match read_version(alloc, disk, prime, layout) {
         Ok(read) => read,
         Err(RetrievalError::BadRetrieval(n)) => return Err(VolumeError::BadRetrieval(n)),
         Err(RetrievalError::Device) => return Err(VolumeError::Device),
@@ -126,7 +130,7 @@ fn read_data<D: Disk>(disk: &mut D, version: &Version) -> Result<(), VolumeError
     Ok(())
 }
 
-/// Reads the file that a directory's entry names, when the volume is opened: its version, and each of its
+/// Reads the file that a directory's entry names, when the volume is opened: its version in a layout, and each of its
 /// data blocks once. All its blocks are marked.
 ///
 /// # Errors
@@ -138,6 +142,7 @@ fn read_data<D: Disk>(disk: &mut D, version: &Version) -> Result<(), VolumeError
 pub fn read_file<D: Disk>(
     alloc: Global,
     disk: &mut D,
+    layout: Layout,
     ppn: Ppn,
     name: FileName,
     prime: u32,
@@ -149,7 +154,8 @@ pub fn read_file<D: Disk>(
     requires marks { length reached.old ≡ (D.state disk.old).size }
     // The version that was read, of this name, with its blocks marked.
     ensures ok { (D.state disk.new).honest
-        → IfOk result (λ v. IsFileFound (D.state disk.old).contents (place_of ppn name) prime v.prime v.version) }
+        → IfOk result (λ v. IsFileFound (layout_number layout) (D.state disk.old).contents (place_of ppn name) prime v.prime
+        v.version) }
     ensures name { IfOk result (λ v. v.prime.file ≡ name) }
     ensures ppn { IfOk result (λ v. v.prime.ppn ≡ ppn) }
     ensures marks { IfOk result (λ v. (n : ℕ)
@@ -164,12 +170,12 @@ pub fn read_file<D: Disk>(
     // Which refusal comes when.
     ensures memory { IsErrOf result NoMemory → reached.new ≡ reached.old }
     ensures bad_version { (D.state disk.new).honest → (k : ℕ) → IsErrOf result (BadRetrieval k)
-        → IsBadVersion (D.state disk.old).size (D.state disk.old).contents 1 prime k
-        ⊎ ((k ≡ prime) × IsOtherPlace (D.state disk.old).contents (place_of ppn name) prime) }
+        → IsBadVersion (D.state disk.old).size (D.state disk.old).contents (layout_number layout) prime k
+        ⊎ ((k ≡ prime) × IsOtherPlace (layout_number layout) (D.state disk.old).contents (place_of ppn name) prime) }
     ensures twice { (D.state disk.new).honest → (k : ℕ) → IsErrOf result (BlockTwice k)
-        → IsReachedTwice (D.state disk.old).contents (place_of ppn name) prime reached.old k }
+        → IsReachedTwice (layout_number layout) (D.state disk.old).contents (place_of ppn name) prime reached.old k }
     ensures bad_data { (D.state disk.new).honest → (k : ℕ) → IsErrOf result (BadData k)
-        → IsDamagedData (D.state disk.old).contents (place_of ppn name) prime k }
+        → IsDamagedData (layout_number layout) (D.state disk.old).contents (place_of ppn name) prime k }
     ensures only { IfErr result IsFileRefusal }
     ensures named { IfErr result (NamesInSpace (D.state disk.old).size) }
     // The device: what failed, and how often.
@@ -178,7 +184,7 @@ pub fn read_file<D: Disk>(
     ensures failed { IsErrOf result Device → (D.state disk.new).failures ≡ one_more (D.state disk.old).failures }
     ensures served { (IsErrOf result Device → ⊥) → (D.state disk.new).failures ≡ (D.state disk.old).failures }
 {
-    let stored = read_named(alloc, disk, ppn, name, prime)?;
+    let stored = read_named(alloc, disk, layout, ppn, name, prime)?;
     if let Err(block) = mark_version(reached, prime, &stored.version) {
         return Err(VolumeError::BlockTwice(block));
     }

@@ -13,10 +13,11 @@ ghost use Rattle.volume.specs.declared.error.VolumeError.{VolumeError};
 ghost use Rattle.volume.specs.declared.error.VolumeError.TheVariants.{NotVolume, Device};
 
 use crate::VolumeError;
-use crate::home::home_block;
+use crate::home::{Home, home_block};
 use blockdisk::{Disk, Fault};
 use meaning::layout::{
-    HOME_COPIES, LOG_START, TABLE_BLOCK_BITS, WORD_BITS, is_volume_size, space_start, table_start,
+    HOME_COPIES, LOG_START, Layout, TABLE_BLOCK_BITS, WORD_BITS, is_volume_size, space_start,
+    table_start,
 };
 use words36::{BLOCK_WORDS, Block, Word};
 
@@ -114,7 +115,11 @@ fn fresh_block(size: u32, n: u32) -> Block
 {
     let space = space_start(size);
     if HOME_COPIES.contains(&n) {
-        home_block(size, space)
+        let home = Home {
+            layout: Layout::One,
+            master: space,
+        };
+        home_block(size, home)
     } else if (table_start(size)..space).contains(&n) {
         table_block(n - table_start(size), space + 1)
     } else {

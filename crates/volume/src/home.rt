@@ -1,10 +1,12 @@
-ghost use Rattle.std.specs.Prelude.{◌≡◌, ◌⊎◌, ◌<◌, ◌≤◌, ℕ, IfOk, IsErrOf};
+ghost use Rattle.std.specs.Prelude.{◌≡◌, ◌⊎◌, ◌<◌, ◌≤◌, ℕ, IfOk, IfSome, IfNone, IsErrOf, slice_index};
 ghost use Rattle.blockdisk.specs.Disk.{SameDisk, one_more};
 ghost use Rattle.changeset.specs.Reads.{OnlyReads};
 ghost use Rattle.meaning.specs.Regions.{IsVolumeSize};
 ghost use Rattle.meaning.specs.Home.{home_block, IsHome};
 ghost use Rattle.meaning.specs.Faults.{InSpace, IsNotVolume, IsBadHome};
-ghost use Rattle.volume.specs.Homes.{home_of_master, IsFound, IsFoundInSpace, holds_words};
+ghost use Rattle.meaning.specs.Home.{IsLayout};
+ghost use Rattle.meaning.specs.Layouts.{layout_number};
+ghost use Rattle.volume.specs.Homes.{home_in, IsFound, IsFoundInSpace, holds_words};
 ghost use Rattle.volume.specs.declared.error.VolumeError.{VolumeError};
 ghost use Rattle.volume.specs.declared.error.VolumeError.TheVariants.{NotVolume, BadHome, Device};
 
@@ -16,34 +18,77 @@ use words36::{BLOCK_WORDS, Block, Word};
 /// FILSER in SIXBIT, the first word of a home copy.
 const HOME_WORD: u64 = 0o465154634562;
 
+/// The place of the word in a home copy that names the layout.
+const LAYOUT_PLACE: usize = 1;
+
 /// The place of the word in a home copy that names the first block of the master directory.
 const MASTER_PLACE: usize = 5;
+
+/// What a valid home copy says.
+#[derive(Clone, Copy)]
+pub struct Home {
+    /// The layout of the disk.
+    pub layout: Layout,
+    /// The first block of the master directory.
+    pub master: u32,
+}
 
 /// What a home copy is found to be.
 #[derive(Clone, Copy)]
 pub enum HomeCopy {
-    /// Every word of it is right, and it names this first block of the master directory.
-    Valid(u32),
+    /// Every word of it is right, and it says this.
+    Valid(Home),
     /// It has the name, and isn't valid.
     Named,
     /// It is damaged, or doesn't have the name.
     Unnamed,
 }
 
-/// The words of the home copies of a disk of so many blocks, whose master directory begins at block
-/// `master`.
-pub fn home_block(size: u32, master: u32) -> Block
+/// The words of the home copies of a disk of so many blocks that say this.
+pub fn home_block(size: u32, home: Home) -> Block
     requires { IsVolumeSize size }
-    ensures { result ≡ home_block size (home_of_master master) }
+    ensures { result ≡ home_block size (home_in (layout_number home.layout) home.master) }
 {
     let mut words = [Word::ZERO; BLOCK_WORDS];
     words[0] = Word::from_bits(HOME_WORD);
-    words[1] = Word::from_bits(Layout::One.number());
+    words[LAYOUT_PLACE] = Word::from_bits(home.layout.number());
     words[2] = Word::from_bits(u64::from(size));
     words[3] = Word::from_bits(u64::from(table_blocks(size)));
     words[4] = Word::from_bits(u64::from(log_images(size)));
-    words[MASTER_PLACE] = Word::from_bits(u64::from(master));
+    words[MASTER_PLACE] = Word::from_bits(u64::from(home.master));
     words
+}
+
+/// The layout that a word of a home copy names; `None` if an image may not have it.
+fn layout_at(word: Word) -> Option<Layout>
+    ensures some { IfSome result (λ layout. (layout_number layout ≡ word) × IsLayout word) }
+    ensures none { IfNone result (IsLayout word → ⊥) }
+{
+    match word.bits() {
+        1 => Some(Layout::One),
+        _ => None,
+    }
+}
+
+/// What the words of a home copy name on a disk of so many blocks; `None` if the layout is none that an image may have,
+/// or the first block of the master directory lies outside the free space.
+fn home_at(size: u32, words: &Block) -> Option<Home>
+    requires { IsVolumeSize size }
+    ensures layout { IfSome result (λ home. layout_number home.layout ≡ slice_index words.now 1) }
+    ensures allowed { IfSome result (λ home. IsLayout (layout_number home.layout)) }
+    ensures master { IfSome result (λ home. home.master ≡ slice_index words.now 5) }
+    ensures inside { IfSome result (λ home. InSpace size home.master) }
+    ensures none { IfNone result (IsLayout (slice_index words.now 1) → InSpace size (slice_index words.now 5) → ⊥) }
+{
+    let layout = layout_at(words[LAYOUT_PLACE])?;
+    let master = words[MASTER_PLACE].bits();
+    if !is_in_space(size, master) {
+        return None;
+    }
+    Some(Home {
+        layout,
+        master: master as u32,
+    })
 }
 
 /// What a home copy with these words is, on a disk of so many blocks.
@@ -55,11 +100,9 @@ fn copy_of(size: u32, words: &Block) -> HomeCopy
     if words[0].bits() != HOME_WORD {
         return HomeCopy::Unnamed;
     }
-    let master = words[MASTER_PLACE].bits();
-    if is_in_space(size, master) && *words == home_block(size, master as u32) {
-        HomeCopy::Valid(master as u32)
-    } else {
-        HomeCopy::Named
+    match home_at(size, words) {
+        Some(home) if *words == home_block(size, home) => HomeCopy::Valid(home),
+        _ => HomeCopy::Named,
     }
 }
 
@@ -88,18 +131,19 @@ fn read_copy<D: Disk>(disk: &mut D, n: u32) -> Result<HomeCopy, VolumeError>
     }
 }
 
-/// The first block of the master directory, as the first valid home copy has it. The second copy is read
-/// only where the first isn't valid.
+/// What the first valid home copy says. The second copy is read only if the first isn't valid.
 ///
 /// # Errors
 ///
 /// `NotVolume` where the disk has a number of blocks that no volume has, or neither copy has the name;
 /// `BadHome` where a copy has the name and none is valid; `Device` where the device failed.
-pub fn read_home<D: Disk>(disk: &mut D) -> Result<u32, VolumeError>
+pub fn read_home<D: Disk>(disk: &mut D) -> Result<Home, VolumeError>
     ensures ok { (D.state disk.new).honest
-        → IfOk result (λ master. IsHome (D.state disk.old).size (D.state disk.old).contents (home_of_master master)) }
-    ensures inside { IfOk result (λ master. InSpace (D.state disk.old).size master) }
-    ensures volume { IfOk result (λ master. IsVolumeSize (D.state disk.old).size) }
+        → IfOk result (λ home. IsHome (D.state disk.old).size (D.state disk.old).contents
+        (home_in (layout_number home.layout) home.master)) }
+    ensures inside { IfOk result (λ home. InSpace (D.state disk.old).size home.master) }
+    ensures layout { IfOk result (λ home. IsLayout (layout_number home.layout)) }
+    ensures volume { IfOk result (λ home. IsVolumeSize (D.state disk.old).size) }
     ensures not_volume { (D.state disk.new).honest → IsErrOf result NotVolume
         → IsNotVolume (D.state disk.old).size (D.state disk.old).contents }
     ensures bad { (D.state disk.new).honest → IsErrOf result BadHome
@@ -119,11 +163,11 @@ pub fn read_home<D: Disk>(disk: &mut D) -> Result<u32, VolumeError>
         return Err(VolumeError::NotVolume);
     }
     let first = read_copy(disk, HOME_COPIES[0])?;
-    if let HomeCopy::Valid(master) = first {
-        return Ok(master);
+    if let HomeCopy::Valid(home) = first {
+        return Ok(home);
     }
     match (first, read_copy(disk, HOME_COPIES[1])?) {
-        (_, HomeCopy::Valid(master)) => Ok(master),
+        (_, HomeCopy::Valid(home)) => Ok(home),
         (HomeCopy::Unnamed, HomeCopy::Unnamed) => Err(VolumeError::NotVolume),
         _ => Err(VolumeError::BadHome),
     }

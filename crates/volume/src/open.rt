@@ -5,7 +5,8 @@ ghost use Rattle.blockdisk.specs.Disk.{SameDisk, one_more};
 ghost use Rattle.changeset.specs.Reads.{OnlyReads};
 ghost use Rattle.meaning.specs.Blocks.{head_or_zero};
 ghost use Rattle.meaning.specs.Directories.{master_words};
-ghost use Rattle.meaning.specs.Home.{IsHome};
+ghost use Rattle.meaning.specs.Home.{IsHome, IsLayout};
+ghost use Rattle.meaning.specs.Layouts.{layout_number};
 ghost use Rattle.meaning.specs.Maps.{times};
 ghost use Rattle.meaning.specs.Regions.{IsVolumeSize, table_blocks};
 ghost use Rattle.meaning.specs.Stands.{DiskMap as MapValue};
@@ -17,7 +18,7 @@ ghost use Rattle.alloctab.specs.Reached.{wanted_bit};
 ghost use Rattle.alloctab.specs.TableState.{bit};
 ghost use Rattle.directory.specs.Chains.{nodes_of, IsChain, IsOn, viewed};
 ghost use Rattle.volume.specs.Cores.{master_view, known_directory, known_of};
-ghost use Rattle.volume.specs.Homes.{home_of_master};
+ghost use Rattle.volume.specs.Homes.{home_in};
 ghost use Rattle.volume.specs.Known.{known_reaches, IsWholeDirectory, IsWholeMap, IsBooked, IsHeld};
 ghost use Rattle.volume.specs.Found.{IsOnlySpace, IsMapFound, IsRightFor, IsWrongFor};
 ghost use Rattle.volume.specs.FaultsFound.{NamesInSpace, SettledRefuses, IsTableRefusal};
@@ -31,13 +32,15 @@ use crate::read::read_directories;
 use alloctab::{Reached, Table, TableError};
 use blockdisk::Disk;
 use directory::{Chain, MasterEntry};
+use meaning::layout::Layout;
 use std::alloc::Global;
 
-/// Reads the chain of the master directory that begins in block `first`.
+/// Reads the chain of the master directory that begins in block `first`, in a layout.
 fn load_master<D: Disk>(
     alloc: Global,
     disk: &mut D,
     first: u32,
+    layout: Layout,
     reached: &mut Reached,
 ) -> Result<Chain<MasterEntry>, VolumeError>
     // What the caller sees to.
@@ -52,14 +55,15 @@ fn load_master<D: Disk>(
         → IfOk result (λ chain. LeadsAlong master_words (D.state disk.old).contents first
         (nodes_of chain.blocks (map master_view chain.entries)) 0) }
     ensures begins { IfOk result (λ chain. head_or_zero chain.blocks ≡ first) }
-    ensures chain { IfOk result (λ chain. IsChain nat_cmp (IsMasterEntryOf 1) (viewed master_view chain)) }
+    ensures chain { IfOk result (λ chain. IsChain nat_cmp (IsMasterEntryOf (layout_number layout))
+        (viewed master_view chain)) }
     ensures inside { IfOk result (λ chain. AllByRecursion (InSpace (D.state disk.old).size) chain.blocks) }
     ensures targets { IfOk result (λ chain. AllByRecursion (λ e. InSpace (D.state disk.old).size e.1.1)
         (map master_view chain.entries)) }
     ensures marked { IfOk result (λ chain. (n : ℕ) → digit_at reached.new n ≡ times n chain.blocks) }
     // Which refusal comes when.
     ensures fault { (D.state disk.new).honest
-        → IsHome (D.state disk.old).size (D.state disk.old).contents (home_of_master first)
+        → IsHome (D.state disk.old).size (D.state disk.old).contents (home_in (layout_number layout) first)
         → IfErr result (SettledRefuses (D.state disk.old).size (D.state disk.old).contents) }
     ensures named { IfErr result (NamesInSpace (D.state disk.old).size) }
     // The device: what failed, and how often.
@@ -75,11 +79,12 @@ fn load_master<D: Disk>(
     }
 }
 
-/// Reads the master directory, that begins in block `first`, and all that it names.
+/// Reads the master directory, that begins in block `first`, and all that it names, in a layout.
 fn read_tree<D: Disk>(
     alloc: Global,
     disk: &mut D,
     first: u32,
+    layout: Layout,
     reached: &mut Reached,
 ) -> Result<(Chain<MasterEntry>, Vec<StoredDirectory>), VolumeError>
     // What the caller sees to.
@@ -89,18 +94,19 @@ fn read_tree<D: Disk>(
     requires fresh { (n : ℕ) → digit_at reached.old n ≡ 0 }
     // What was read, or met where it is refused.
     ensures read { (D.state disk.new).honest
-        → IsHome (D.state disk.old).size (D.state disk.old).contents (home_of_master first)
-        → IfOk result (λ tree. IsMapFound (D.state disk.old).size (D.state disk.old).contents first
+        → IsHome (D.state disk.old).size (D.state disk.old).contents (home_in (layout_number layout) first)
+        → IfOk result (λ tree. IsMapFound (D.state disk.old).size (D.state disk.old).contents (layout_number layout) first
         (viewed master_view tree.0) (map known_directory tree.1.items) (digit_at reached.new)) }
     ensures fault { (D.state disk.new).honest
-        → IsHome (D.state disk.old).size (D.state disk.old).contents (home_of_master first)
+        → IsHome (D.state disk.old).size (D.state disk.old).contents (home_in (layout_number layout) first)
         → IfErr result (SettledRefuses (D.state disk.old).size (D.state disk.old).contents) }
     ensures named { IfErr result (NamesInSpace (D.state disk.old).size) }
     // It is as a map has to be, with its blocks marked.
     ensures marked { IfOk result (λ tree. (n : ℕ)
         → digit_at reached.new n ≡ known_reaches n (viewed master_view tree.0) (map known_directory tree.1.items)) }
     ensures space { IfOk result (λ tree. IsOnlySpace (D.state disk.old).size reached.new) }
-    ensures chain { IfOk result (λ tree. IsChain nat_cmp (IsMasterEntryOf 1) (viewed master_view tree.0)) }
+    ensures chain { IfOk result (λ tree. IsChain nat_cmp (IsMasterEntryOf (layout_number layout))
+        (viewed master_view tree.0)) }
     ensures inside { IfOk result (λ tree. AllByRecursion (InSpace (D.state disk.old).size) tree.0.blocks) }
     ensures whole { IfOk result (λ tree. AllByRecursion (IsWholeDirectory (D.state disk.old).size)
         (map known_directory tree.1.items)) }
@@ -112,8 +118,8 @@ fn read_tree<D: Disk>(
     ensures failed { IsErrOf result Device → (D.state disk.new).failures ≡ one_more (D.state disk.old).failures }
     ensures served { (IsErrOf result Device → ⊥) → (D.state disk.new).failures ≡ (D.state disk.old).failures }
 {
-    let master = load_master(alloc, disk, first, reached)?;
-    let directories = read_directories(alloc, disk, master.entries(), reached)?;
+    let master = load_master(alloc, disk, first, layout, reached)?;
+    let directories = read_directories(alloc, disk, layout, master.entries(), reached)?;
     Ok((master, directories))
 }
 
@@ -158,7 +164,8 @@ fn load_table<D: Disk>(alloc: Global, disk: &mut D, reached: &Reached) -> Result
 pub fn read_map<D: Disk>(alloc: Global, disk: &mut D) -> Result<DiskMap, VolumeError>
     ensures held { (D.state disk.new).honest
         → IfOk result (λ read. (m : MapValue)
-        × IsHeld (D.state disk.old).size (known_of read) m (D.state disk.old).contents) }
+        × IsHeld (D.state disk.old).size (known_of read) m (D.state disk.old).contents
+        × (m.layout ≡ layout_number read.layout)) }
     ensures fault { (D.state disk.new).honest
         → IfErr result (SettledRefuses (D.state disk.old).size (D.state disk.old).contents) }
     ensures named { IfErr result (NamesInSpace (D.state disk.old).size) }
@@ -169,12 +176,13 @@ pub fn read_map<D: Disk>(alloc: Global, disk: &mut D) -> Result<DiskMap, VolumeE
     ensures failed { IsErrOf result Device → (D.state disk.new).failures ≡ one_more (D.state disk.old).failures }
     ensures served { (IsErrOf result Device → ⊥) → (D.state disk.new).failures ≡ (D.state disk.old).failures }
 {
-    let first = read_home(disk)?;
+    let home = read_home(disk)?;
     let mut reached = Reached::new(alloc, disk.blocks())?;
-    let (master, directories) = read_tree(alloc, disk, first, &mut reached)?;
+    let (master, directories) = read_tree(alloc, disk, home.master, home.layout, &mut reached)?;
     let mut table = load_table(alloc, disk, &reached)?;
     book_map(&mut table, &master, &directories);
     Ok(DiskMap {
+        layout: home.layout,
         master,
         directories,
         table,

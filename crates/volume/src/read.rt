@@ -8,7 +8,8 @@ ghost use Rattle.meaning.specs.Maps.{EachOnce, times, total};
 ghost use Rattle.meaning.specs.Regions.{IsVolumeSize};
 ghost use Rattle.meaning.specs.Stands.{place_of};
 ghost use Rattle.meaning.specs.Walks.{LeadsAlong};
-ghost use Rattle.meaning.specs.Faults.{InSpace};
+ghost use Rattle.meaning.specs.Faults.{InSpace, IsMasterEntryOf};
+ghost use Rattle.meaning.specs.Layouts.{layout_number};
 ghost use Rattle.std.specs.Ordering.{nat_cmp};
 ghost use Rattle.alloctab.specs.Lists.{digit_at};
 ghost use Rattle.directory.specs.Chains.{nodes_of, IsChain, IsOn, viewed};
@@ -27,6 +28,7 @@ use crate::map::StoredDirectory;
 use alloctab::Reached;
 use blockdisk::Disk;
 use directory::{Chain, FileEntry, MasterEntry};
+use meaning::layout::Layout;
 use std::alloc::Global;
 use words36::Ppn;
 
@@ -55,8 +57,8 @@ fn load_files<D: Disk>(
     ensures marked { IfOk result (λ chain. (n : ℕ)
         → digit_at reached.new n ≡ digit_at reached.old n + times n chain.blocks) }
     // Which refusal comes when.
-    ensures fault { (D.state disk.new).honest → (ppn : ℕ)
-        → IfErr result (IsFaultOfDirectory (D.state disk.old).size (D.state disk.old).contents
+    ensures fault { (D.state disk.new).honest → (layout ppn : ℕ)
+        → IfErr result (IsFaultOfDirectory (D.state disk.old).size layout (D.state disk.old).contents
         (digit_at reached.old) ppn first) }
     ensures named { IfErr result (NamesInSpace (D.state disk.old).size) }
     // The device: what failed, and how often.
@@ -72,10 +74,11 @@ fn load_files<D: Disk>(
     }
 }
 
-/// Reads the file of an entry, and puts its version behind the others.
+/// Reads the file of an entry in a layout, and puts its version behind the others.
 fn add_file<D: Disk>(
     alloc: Global,
     disk: &mut D,
+    layout: Layout,
     ppn: Ppn,
     entry: &FileEntry,
     reached: &mut Reached,
@@ -88,12 +91,12 @@ fn add_file<D: Disk>(
     // What was read, or met where it is refused.
     ensures read { (D.state disk.new).honest
         → OnOk result (IsAdded known_version versions.old.items versions.new.items
-        (IsMarkedFile (D.state disk.old).contents ppn (file_view entry.now) (digit_at reached.old)
+        (IsMarkedFile (layout_number layout) (D.state disk.old).contents ppn (file_view entry.now) (digit_at reached.old)
         (digit_at reached.new))) }
     ensures marked { OnOk result (IsAdded known_version versions.old.items versions.new.items (λ v. (n : ℕ)
         → digit_at reached.new n ≡ digit_at reached.old n + times n (blocks_reached entry.now.prime v.version))) }
     ensures fault { (D.state disk.new).honest
-        → IfErr result (IsFaultOfFile (D.state disk.old).size (D.state disk.old).contents reached.old
+        → IfErr result (IsFaultOfFile (D.state disk.old).size (layout_number layout) (D.state disk.old).contents reached.old
         (place_of ppn entry.now.name) entry.now.prime) }
     ensures named { IfErr result (NamesInSpace (D.state disk.old).size) }
     // It is as a map has to be.
@@ -108,17 +111,18 @@ fn add_file<D: Disk>(
     ensures failed { IsErrOf result Device → (D.state disk.new).failures ≡ one_more (D.state disk.old).failures }
     ensures served { (IsErrOf result Device → ⊥) → (D.state disk.new).failures ≡ (D.state disk.old).failures }
 {
-    let version = read_file(alloc, disk, ppn, entry.name, entry.prime, reached)?;
+    let version = read_file(alloc, disk, layout, ppn, entry.name, entry.prime, reached)?;
     if versions.push(version).is_err() {
         return Err(VolumeError::NoMemory);
     }
     Ok(())
 }
 
-/// Reads the files of these entries of a directory, in their order.
+/// Reads the files of these entries of a directory in a layout, in their order.
 fn read_files<D: Disk>(
     alloc: Global,
     disk: &mut D,
+    layout: Layout,
     ppn: Ppn,
     entries: &[FileEntry],
     reached: &mut Reached,
@@ -130,12 +134,12 @@ fn read_files<D: Disk>(
     requires marks { length reached.old ≡ (D.state disk.old).size }
     // What was read, or met where it is refused.
     ensures read { (D.state disk.new).honest
-        → IfOk result (λ versions. AreFilesRead (D.state disk.old).contents ppn (map file_view entries.now)
+        → IfOk result (λ versions. AreFilesRead (layout_number layout) (D.state disk.old).contents ppn (map file_view entries.now)
         (map known_version versions.items) (digit_at reached.old) (digit_at reached.new)) }
     ensures marked { IfOk result (λ versions. (n : ℕ) → digit_at reached.new n ≡ digit_at reached.old n
         + reaches_in_entries n (map file_view entries.now) (map known_version versions.items)) }
     ensures fault { (D.state disk.new).honest
-        → IfErr result (IsFaultOfFiles (D.state disk.old).size (D.state disk.old).contents (digit_at reached.old) ppn
+        → IfErr result (IsFaultOfFiles (D.state disk.old).size (layout_number layout) (D.state disk.old).contents (digit_at reached.old) ppn
         (map file_view entries.now)) }
     ensures named { IfErr result (NamesInSpace (D.state disk.old).size) }
     // It is as a map has to be.
@@ -152,30 +156,32 @@ fn read_files<D: Disk>(
 {
     let mut versions = Vec::new(alloc);
     for entry in entries {
-        add_file(alloc, disk, ppn, entry, reached, &mut versions)?;
+        add_file(alloc, disk, layout, ppn, entry, reached, &mut versions)?;
     }
     Ok(versions)
 }
 
-/// Reads a directory with all its files.
+/// Reads a directory with all its files in a layout.
 fn read_directory<D: Disk>(
     alloc: Global,
     disk: &mut D,
+    layout: Layout,
     entry: &MasterEntry,
     reached: &mut Reached,
 ) -> Result<StoredDirectory, VolumeError>
     // What the caller sees to.
     requires volume { IsVolumeSize (D.state disk.old).size }
+    requires entry { IsMasterEntryOf (layout_number layout) (master_view entry.now) }
     requires inside { InSpace (D.state disk.old).size entry.now.first }
     requires marks { length reached.old ≡ (D.state disk.old).size }
     // What was read, or met where it is refused.
     ensures read { (D.state disk.new).honest
-        → IfOk result (λ directory. IsDirectoryFound (D.state disk.old).contents (master_view entry.now)
+        → IfOk result (λ directory. IsDirectoryFound (layout_number layout) (D.state disk.old).contents (master_view entry.now)
         (known_directory directory) (digit_at reached.old) (digit_at reached.new)) }
     ensures marked { IfOk result (λ directory. (n : ℕ)
         → digit_at reached.new n ≡ digit_at reached.old n + reaches_in_known n (known_directory directory)) }
     ensures fault { (D.state disk.new).honest
-        → IfErr result (IsFaultOfDirectory (D.state disk.old).size (D.state disk.old).contents
+        → IfErr result (IsFaultOfDirectory (D.state disk.old).size (layout_number layout) (D.state disk.old).contents
         (digit_at reached.old) entry.now.ppn entry.now.first) }
     ensures named { IfErr result (NamesInSpace (D.state disk.old).size) }
     // It is as a map has to be.
@@ -190,31 +196,33 @@ fn read_directory<D: Disk>(
     ensures served { (IsErrOf result Device → ⊥) → (D.state disk.new).failures ≡ (D.state disk.old).failures }
 {
     let chain = load_files(alloc, disk, entry.first, reached)?;
-    let versions = read_files(alloc, disk, entry.ppn, chain.entries(), reached)?;
+    let versions = read_files(alloc, disk, layout, entry.ppn, chain.entries(), reached)?;
     Ok(StoredDirectory { chain, versions })
 }
 
-/// Reads the directory of an entry, and puts it behind the others.
+/// Reads the directory of an entry in a layout, and puts it behind the others.
 fn add_directory<D: Disk>(
     alloc: Global,
     disk: &mut D,
+    layout: Layout,
     entry: &MasterEntry,
     reached: &mut Reached,
     directories: &mut Vec<StoredDirectory>,
 ) -> Result<(), VolumeError>
     // What the caller sees to.
     requires volume { IsVolumeSize (D.state disk.old).size }
+    requires entry { IsMasterEntryOf (layout_number layout) (master_view entry.now) }
     requires inside { InSpace (D.state disk.old).size entry.now.first }
     requires marks { length reached.old ≡ (D.state disk.old).size }
     // What was read, or met where it is refused.
     ensures read { (D.state disk.new).honest
         → OnOk result (IsAdded known_directory directories.old.items directories.new.items
-        (λ d. IsDirectoryFound (D.state disk.old).contents (master_view entry.now) d (digit_at reached.old)
+        (λ d. IsDirectoryFound (layout_number layout) (D.state disk.old).contents (master_view entry.now) d (digit_at reached.old)
         (digit_at reached.new))) }
     ensures marked { OnOk result (IsAdded known_directory directories.old.items directories.new.items (λ d. (n : ℕ)
         → digit_at reached.new n ≡ digit_at reached.old n + reaches_in_known n d)) }
     ensures fault { (D.state disk.new).honest
-        → IfErr result (IsFaultOfDirectory (D.state disk.old).size (D.state disk.old).contents
+        → IfErr result (IsFaultOfDirectory (D.state disk.old).size (layout_number layout) (D.state disk.old).contents
         (digit_at reached.old) entry.now.ppn entry.now.first) }
     ensures named { IfErr result (NamesInSpace (D.state disk.old).size) }
     // It is as a map has to be.
@@ -230,33 +238,35 @@ fn add_directory<D: Disk>(
     ensures failed { IsErrOf result Device → (D.state disk.new).failures ≡ one_more (D.state disk.old).failures }
     ensures served { (IsErrOf result Device → ⊥) → (D.state disk.new).failures ≡ (D.state disk.old).failures }
 {
-    let directory = read_directory(alloc, disk, entry, reached)?;
+    let directory = read_directory(alloc, disk, layout, entry, reached)?;
     if directories.push(directory).is_err() {
         return Err(VolumeError::NoMemory);
     }
     Ok(())
 }
 
-/// Reads the directories of these entries of the master directory, in their order.
+/// Reads the directories of these entries of the master directory in a layout, in their order.
 pub fn read_directories<D: Disk>(
     alloc: Global,
     disk: &mut D,
+    layout: Layout,
     entries: &[MasterEntry],
     reached: &mut Reached,
 ) -> Result<Vec<StoredDirectory>, VolumeError>
     // What the caller sees to.
     requires volume { IsVolumeSize (D.state disk.old).size }
     requires inside { AllByRecursion (λ e. InSpace (D.state disk.old).size e.1.1) (map master_view entries.now) }
+    requires entries { AllByRecursion (IsMasterEntryOf (layout_number layout)) (map master_view entries.now) }
     requires once { EachOnce nat_cmp (map master_view entries.now) }
     requires marks { length reached.old ≡ (D.state disk.old).size }
     // What was read, or met where it is refused.
     ensures read { (D.state disk.new).honest
-        → IfOk result (λ directories. AreDirectoriesRead (D.state disk.old).contents (map master_view entries.now)
+        → IfOk result (λ directories. AreDirectoriesRead (layout_number layout) (D.state disk.old).contents (map master_view entries.now)
         (map known_directory directories.items) (digit_at reached.old) (digit_at reached.new)) }
     ensures marked { IfOk result (λ directories. (n : ℕ) → digit_at reached.new n
         ≡ digit_at reached.old n + total (reaches_in_known n) (map known_directory directories.items)) }
     ensures fault { (D.state disk.new).honest
-        → IfErr result (IsFaultOfDirectories (D.state disk.old).size (D.state disk.old).contents (digit_at reached.old)
+        → IfErr result (IsFaultOfDirectories (D.state disk.old).size (layout_number layout) (D.state disk.old).contents (digit_at reached.old)
         (map master_view entries.now)) }
     ensures named { IfErr result (NamesInSpace (D.state disk.old).size) }
     // It is as a map has to be.
@@ -274,7 +284,7 @@ pub fn read_directories<D: Disk>(
 {
     let mut directories = Vec::new(alloc);
     for entry in entries {
-        add_directory(alloc, disk, entry, reached, &mut directories)?;
+        add_directory(alloc, disk, layout, entry, reached, &mut directories)?;
     }
     Ok(directories)
 }

@@ -43,6 +43,7 @@ use blockdisk::{Disk, Fault};
 use changeset::ChangeSet;
 use directory::FileEntry;
 use meaning::ErrorCode;
+use meaning::layout::Layout;
 use retrieval::{Prime, is_prime_of, prime_block_for};
 use slab::Slab;
 use words36::{Block, FileName, Ppn};
@@ -137,7 +138,7 @@ fn is_file_prime(
         unreachable!() // there is one
     };
     let prime = prime_moved(&version.prime, ppn, name, version.prime.protection);
-    is_prime_of(words, &prime, &version.version)
+    is_prime_of(words, Layout::Two, &prime, &version.version)
 }
 
 /// The words of the prime block `at` of the version under a key, which a file of this place has.
@@ -451,6 +452,7 @@ impl<D: Disk> Volume<D> {
         ensures served { (IsErrOf result Device → ⊥) → (D.state self.new.disk).failures
             ≡ (D.state self.old.disk).failures }
         ensures same { SameDisk (D.state self.old.disk) (D.state self.new.disk) }
+        ensures layout { self.new.layout ≡ self.old.layout }
     {
         if self.failed {
             return Err(CallError::Failed);

@@ -4,7 +4,7 @@ ghost use Rattle.blockdisk.specs.Disk.{Near, NoneOpen, SameDisk, Still, Modifies
 ghost use Rattle.changeset.specs.Crashes.{IsRecovered, SyncsFirst};
 ghost use Rattle.changeset.specs.Rest.{AtRest};
 ghost use Rattle.meaning.specs.Files.{File, Files};
-ghost use Rattle.meaning.specs.Layouts.{StandsOn, pack_in, pack_of};
+ghost use Rattle.meaning.specs.Layouts.{StandsOn, layout_number, pack_in, pack_of};
 ghost use Rattle.meaning.specs.Log.{IsGateOpen};
 ghost use Rattle.meaning.specs.Maps.{empty};
 ghost use Rattle.meaning.specs.Regions.{IsVolumeSize};
@@ -51,6 +51,8 @@ pub fn read_volume<D: Disk>(alloc: Global, disk: &mut D) -> Result<DiskMap, Volu
         → IfOk result (λ map. (files : Files File)
         × StandsOn (pack_of (D.state disk.new)) (D.state disk.old).contents files × RestsAt (D.state disk.new) files) }
     ensures rest { (D.state disk.new).honest → IfOk result (λ map. IsAtRest (D.state disk.new) (known_of map)) }
+    ensures layout { (D.state disk.new).honest
+        → IfOk result (λ map. layout_number map.layout ≡ (pack_of (D.state disk.new)).layout) }
     ensures files { (D.state disk.new).honest → (files : Files File)
         → Stands (D.state disk.old).size (D.state disk.old).contents files
         → IfOk result (λ map. RestsAt (D.state disk.new) files) }
@@ -158,14 +160,18 @@ impl<D: Disk> Volume<D> {
     {
         let mut disk = disk;
         match read_volume(alloc, &mut disk) {
-            Ok(map) => match keep(alloc, map) {
-                Ok(map) => Ok(Volume {
-                    disk,
-                    map,
-                    failed: false,
-                }),
-                Err(NoMemory) => Err((VolumeError::NoMemory, disk)),
-            },
+            Ok(map) => {
+                let layout = map.layout;
+                match keep(alloc, map) {
+                    Ok(map) => Ok(Volume {
+                        disk,
+                        map,
+                        failed: false,
+                        layout,
+                    }),
+                    Err(NoMemory) => Err((VolumeError::NoMemory, disk)),
+                }
+            }
             Err(error) => Err((error, disk)),
         }
     }
