@@ -88,19 +88,19 @@ module _ (s : DiskState) (k : Known) (files : Files File) (holds : Holds s k fil
       by None is = refl
       by (Some d) is = cc
 
-  pub directory_protection : (p first : ℕ) → find nat_cmp ppn k.master.entries ≡ Some (master_word p 0, first)
+  pub directory_protection : (p quota first : ℕ) → quota < 262144
+      → find nat_cmp ppn k.master.entries ≡ Some (master_word p quota, first)
       → protection_answer (get files ppn) ≡ Ok p
-  directory_protection p first found = ap protection_answer found_files
+  directory_protection p quota first few found = ap protection_answer found_files
       ∙ by (get holds.map.directories ppn) refl (found_entry ∙ found)
     where
       by : (was : Option StoredDirectory) → get holds.map.directories ppn ≡ was → option_map entry_of was
-          ≡ Some (master_word p 0, first) → protection_answer (option_map directory_of was) ≡ Ok p
+          ≡ Some (master_word p quota, first) → protection_answer (option_map directory_of was) ≡ Ok p
       by None at is = cc
       by (Some d) at is =
           let whole = holds.held.stands.mapped.directories ppn d at in
-          let none : d.quota
-          < quota_limit 1 = subst (λ (n : ℕ). d.quota < quota_limit n) holds.held.known.layout whole.quota in
-          let word : master_word d.protection d.quota ≡ master_word p 0 = ap (λ e. e.0) (some_same is) in
+          let own = few_quotas holds.map.layout d.quota whole.quota in
+          let word : master_word d.protection d.quota ≡ master_word p quota = ap (λ e. e.0) (some_same is) in
           ap Ok (omega arith)
 
 -- what is seen at a place

@@ -1,6 +1,6 @@
 -- A version that begins with the file of its place has that file's words, and costs what the file does.
 use Rattle.std.proofs.Common.{◌≡◌, ◌↔◌, inl, inr, ℕ, ◌+◌, ◌<◌, Bool, true, false, [], length, Option, Some, None}
-use Rattle.std.proofs.Common.{is_none}
+use Rattle.std.proofs.Common.{is_none, if◌then◌else◌}
 use Rattle.std.proofs.Common.{Result, Ok, Err, IsErrOf, refl, sym, ap, subst, ◌∙◌, arith}
 use Rattle.std.specs.Cmp.{nat_cmp_total}
 use Rattle.std.specs.Ordering.{nat_cmp}
@@ -11,13 +11,15 @@ use Rattle.blockdisk.specs.Disk.{DiskState}
 use Rattle.meaning.specs.declared.code.ErrorCode.TheVariants.{NoDirectory, NotFound, NoRoom}
 use Rattle.meaning.specs.Costs.{blocks_of, cost_of_blocks, version_cost}
 use Rattle.meaning.specs.Files.{File, Directory, Files, name_cmp}
+use Rattle.meaning.specs.Layouts.{pack_of}
 use Rattle.meaning.specs.Maps.{get}
+use Rattle.meaning.specs.Retrieval.{date_limit}
 use Rattle.meaning.specs.Stands.{directory_of}
 use Rattle.meaning.proofs.MapLaws.{some_same}
 use Rattle.meaning.proofs.Names.{name_total, name_exact}
 use Rattle.alloctab.specs.TableState.{space}
 use Rattle.retrieval.specs.declared.prime.Prime.{Prime}
-use Rattle.volume.specs.Beginning.{is_update, begin_cost, entries_with, begun, IsBegun, IsDirectoryOf}
+use Rattle.volume.specs.Beginning.{is_update, begin_cost, entries_with, begun, shared_prime, IsBegun, IsDirectoryOf}
 use Rattle.volume.specs.Known.{KnownVersion, KnownDirectory, Before, IsNamed, IsWholeVersion, IsWholeDirectory}
 use Rattle.volume.specs.Known.{cost_of_version}
 use Rattle.volume.specs.Live.{VolumeCore, pending_at, as_written, is_create, IsWholeCore}
@@ -30,7 +32,9 @@ use Rattle.volume.specs.declared.pending.Kind.{Kind}
 use Rattle.volume.specs.declared.pending.Kind.TheVariants.{Create, Supersede, Update, Append}
 use Rattle.volume.proofs.Answering.{Holds, rest_holds, all_at_place}
 use Rattle.volume.proofs.Lookups.{first_place}
+use Rattle.volume.proofs.FileDates.{known_dated}
 use Rattle.volume.proofs.MakingHeld.{element_at}
+use Rattle.volume.proofs.Packs.{pack_held}
 use Rattle.volume.proofs.PinnedFiles.{IsFileOf, named_file, file_body, at_rest_holds, pin_refused}
 
 module _ (s : DiskState) (c c' : VolumeCore) (failed : Bool) (key : ℕ) (kind : Kind) (prime : Prime)
@@ -46,6 +50,23 @@ module _ (s : DiskState) (c c' : VolumeCore) (failed : Bool) (key : ℕ) (kind :
       let holds = at_rest_holds s c failed sound h ok in
       let file = file_before holds.0 holds.1 v is in
       file_body s.contents v.1 file.file file.version_is
+
+  -- and a moment that the layout holds, so that what begins with it has, too
+  pub date_before : prime.moment.date < date_limit (pack_of s).layout
+      → (begun kind prime begins.old).prime.moment.date < date_limit (pack_of s).layout
+  date_before timely = by (is_update kind) begins.old refl
+    where
+      by : (b : Bool) (old : Before) → begins.old ≡ old
+          → (if b then shared_prime prime old else prime).moment.date < date_limit (pack_of s).layout
+      by false old is = timely
+      by true None is = timely
+      by true (Some v) is =
+          let own = sound.rest h ok in
+          let there = begins.there in
+          subst (λ (layout : ℕ). v.1.prime.moment.date < date_limit layout) (pack_held s c.known own.map own.rest)
+          (known_dated s.size c.known own.map s.contents (own.rest.all s.contents (λ n closed. refl)) prime.ppn
+          begins.directory there.0 there.1 there.2 there.3 prime.file v
+          (subst (IsNamed begins.directory prime.file) is begins.named))
 
   version_begun : (l : Kind) (v : ℕ × KnownVersion) (file : File) → is_update l ≡ true
       → IsVersionOf s.contents v.1 file → IsVersionOf s.contents (as_written (begun l prime (Some v))) file

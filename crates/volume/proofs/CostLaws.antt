@@ -104,7 +104,7 @@ directory_costs size_of_disk k d known whole =
     omega arith
 
 pub cost_is : (size_of_disk : ℕ) (k : Known) (m : DiskMap) → IsKnownMap k m
-    → IsChain nat_cmp (IsMasterEntryOf 1) k.master → length k.directories ≡ length k.master.entries
+    → IsChain nat_cmp (IsMasterEntryOf 2) k.master → length k.directories ≡ length k.master.entries
     → AllByRecursion (IsWholeDirectory size_of_disk) k.directories
     → cost_of_known k.master k.directories ≡ cost_of_files (files_of m)
 cost_is size_of_disk k m known chain aligned each =

@@ -27,10 +27,10 @@ use Rattle.volume.specs.FaultsFound.{IsFaultOfFiles, IsFaultOfDirectory, IsFault
 use Rattle.volume.proofs.Lookups.{all_of_map, all_both, all_push, all_to_map, total-push, total-map, found_in_front}
 
 -- A block of its chain was reached before.
-pub chain_twice : (size : ℕ) (contents : Contents) (reached : List Bool) (ppn first n : ℕ)
+pub chain_twice : (size layout : ℕ) (contents : Contents) (reached : List Bool) (ppn first n : ℕ)
     → IsTwiceInChain file_words contents reached first n
-    → IsFaultOfDirectory size contents (digit_at reached) ppn first (BlockTwice n)
-chain_twice size contents reached ppn first n met = record {
+    → IsFaultOfDirectory size layout contents (digit_at reached) ppn first (BlockTwice n)
+chain_twice size layout contents reached ppn first n met = record {
   directory = record { nodes = met.before; last = n; files = [] };
   walk = met.walk;
   once = tt;
@@ -39,13 +39,13 @@ chain_twice size contents reached ppn first n met = record {
 }
 
 -- Its chain was walked to the end, and a file of it is at fault.
-pub files_fault : (size : ℕ) (contents : Contents) (marks between : ℕ
+pub files_fault : (size layout : ℕ) (contents : Contents) (marks between : ℕ
     → ℕ) (ppn first : ℕ) (chain : ChainState FileEntry) (error : VolumeError) → IsChain name_cmp IsFileEntry chain
     → LeadsAlong file_words contents first (nodes_of chain.blocks chain.entries) 0
     → ((n : ℕ) → between n ≡ marks n + times n chain.blocks)
-    → IsFaultOfFiles size contents between ppn chain.entries error
-    → IsFaultOfDirectory size contents marks ppn first error
-files_fault size contents marks between ppn first chain error is walk marked = by_error error
+    → IsFaultOfFiles size layout contents between ppn chain.entries error
+    → IsFaultOfDirectory size layout contents marks ppn first error
+files_fault size layout contents marks between ppn first chain error is walk marked = by_error error
   where
     nodes : List (Node FileEntry)
     nodes = nodes_of chain.blocks chain.entries
@@ -53,8 +53,8 @@ files_fault size contents marks between ppn first chain error is walk marked = b
     all : items nodes ≡ chain.entries
     all = chain_items file_words IsFileEntry chain is
 
-    by_error : (er : VolumeError) → IsFaultOfFiles size contents between ppn chain.entries er
-        → IsFaultOfDirectory size contents marks ppn first er
+    by_error : (er : VolumeError) → IsFaultOfFiles size layout contents between ppn chain.entries er
+        → IsFaultOfDirectory size layout contents marks ppn first er
     by_error NotVolume met = met
     by_error BadHome met = met
     by_error BadLog met = met
@@ -74,7 +74,7 @@ files_fault size contents marks between ppn first chain error is walk marked = b
       directory = record { nodes = nodes; last = 0; files = met.files };
       walk = walk;
       once = met.once;
-      read = subst (λ es. AllByRecursion (IsFileRead 1 contents ppn es) met.files) (sym all) met.read;
+      read = subst (λ es. AllByRecursion (IsFileRead layout contents ppn es) met.files) (sym all) met.read;
       twice = let a = met.twice in let b = marked n in let c = ap (times n) (numbers_of chain.blocks chain.entries) in
           omega arith;
     }
@@ -99,15 +99,15 @@ files_fault size contents marks between ppn first chain error is walk marked = b
 abbrev directory_named : MasterEntry × ReadDirectory → ℕ × ReadDirectory
 directory_named r = (r.0.0, r.1)
 
-all_directories_read : (contents : Contents) (all rest : List MasterEntry) (read : List (MasterEntry × ReadDirectory))
+all_directories_read : (layout : ℕ) (contents : Contents) (all rest : List MasterEntry) (read : List (MasterEntry × ReadDirectory))
     → all ≡ map (λ r. r.0) read ++ rest → EachOnce nat_cmp all
-    → AllByRecursion (λ r. IsEntryRead contents r.0 r.1) read
-    → AllByRecursion (IsDirectoryRead 1 contents all) (map directory_named read)
-all_directories_read contents all rest read is once are =
+    → AllByRecursion (λ r. IsEntryRead layout contents r.0 r.1) read
+    → AllByRecursion (IsDirectoryRead layout contents all) (map directory_named read)
+all_directories_read layout contents all rest read is once are =
     let named : MasterEntry × ReadDirectory → MasterEntry = λ r. r.0 in
-    all_to_map (IsDirectoryRead 1 contents all) directory_named read
-    (all_both (λ r. find nat_cmp r.0.0 all ≡ Some r.0.1) (λ r. IsEntryRead contents r.0 r.1)
-    (λ r. IsDirectoryRead 1 contents all (directory_named r)) read
+    all_to_map (IsDirectoryRead layout contents all) directory_named read
+    (all_both (λ r. find nat_cmp r.0.0 all ≡ Some r.0.1) (λ r. IsEntryRead layout contents r.0 r.1)
+    (λ r. IsDirectoryRead layout contents all (directory_named r)) read
     (λ r entry e. record {
       word = r.0.1.0;
       first = r.0.1.1;
@@ -133,11 +133,11 @@ once_read all rest read is once =
     keys (x ∷ xs) = ap (λ (l : List (ℕ × ℕ)). (x.0.0, 0) ∷ l) (keys xs)
 
 -- The next directory is at fault.
-pub directory_fault : (size : ℕ) (contents : Contents) (all front rest : List MasterEntry)
+pub directory_fault : (size layout : ℕ) (contents : Contents) (all front rest : List MasterEntry)
     (directories : List KnownDirectory) (marks before : ℕ → ℕ) (e : MasterEntry) (error : VolumeError)
-    → all ≡ front ++ e ∷ rest → EachOnce nat_cmp all → AreDirectoriesRead contents front directories marks before
-    → IsFaultOfDirectory size contents before e.0 e.1.1 error → IsFaultOfDirectories size contents marks all error
-directory_fault size contents all front rest directories marks before e error is once read = by_error error
+    → all ≡ front ++ e ∷ rest → EachOnce nat_cmp all → AreDirectoriesRead layout contents front directories marks before
+    → IsFaultOfDirectory size layout contents before e.0 e.1.1 error → IsFaultOfDirectories size layout contents marks all error
+directory_fault size layout contents all front rest directories marks before e error is once read = by_error error
   where
     entry : find nat_cmp e.0 all ≡ Some e.1
     entry = last front (found_in_front nat_cmp_total all (front ++ e ∷ []) rest (is
@@ -148,8 +148,8 @@ directory_fault size contents all front rest directories marks before e error is
         last [] b = b.0
         last (x ∷ xs) b = last xs b.1
 
-    by_error : (er : VolumeError) → IsFaultOfDirectory size contents before e.0 e.1.1 er
-        → IsFaultOfDirectories size contents marks all er
+    by_error : (er : VolumeError) → IsFaultOfDirectory size layout contents before e.0 e.1.1 er
+        → IsFaultOfDirectories size layout contents marks all er
     by_error NotVolume met = met
     by_error BadHome met = met
     by_error BadLog met = met
@@ -166,8 +166,8 @@ directory_fault size contents all front rest directories marks before e error is
         record {
           directories = map directory_named reads;
           once = once_read all rest reads whole once;
-          read = all_directories_read contents all rest reads whole once
-              (all_push (λ (x : MasterEntry × ReadDirectory). IsEntryRead contents x.0 x.1) read.read r read.read_are
+          read = all_directories_read layout contents all rest reads whole once
+              (all_push (λ (x : MasterEntry × ReadDirectory). IsEntryRead layout contents x.0 x.1) read.read r read.read_are
               (record { walk = met.walk; once = met.once; files = met.read }));
           twice =
               let a = met.twice in

@@ -16,19 +16,19 @@ use Rattle.volume.specs.declared.error.VolumeError.{VolumeError}
 use Rattle.volume.specs.declared.error.VolumeError.TheVariants.{NotVolume, BadHome, BadLog, BadDirectory, BadRetrieval}
 use Rattle.volume.specs.declared.error.VolumeError.TheVariants.{BlockTwice, TableWrong, Device, NoMemory, Failed}
 use Rattle.volume.specs.declared.error.VolumeError.TheVariants.{BadData}
-use Rattle.volume.specs.Homes.{home_of_master}
+use Rattle.volume.specs.Homes.{home_in}
 use Rattle.volume.specs.FileReading.{IsOtherPlace}
 use Rattle.volume.specs.FaultsFound.{NamesInSpace, IsFaultOfDirectories, SettledRefuses, IsBadFileOf, IsInChain}
 
 -- A block of the master directory's chain is not as it should be.
-pub master_fault : (size : ℕ) (contents : Contents) (first n : ℕ) → IsVolumeSize size
-    → IsHome size contents (home_of_master first)
-    → IsBadChain nat_cmp master_words (IsMasterEntryOf 1) (λ e. e.1.1) size contents first n
+pub master_fault : (size : ℕ) (contents : Contents) (layout first n : ℕ) → IsVolumeSize size
+    → IsHome size contents (home_in layout first)
+    → IsBadChain nat_cmp master_words (IsMasterEntryOf layout) (λ e. e.1.1) size contents first n
     → SettledRefuses size contents (BadDirectory n)
-master_fault size contents first n volume home met = (
+master_fault size contents layout first n volume home met = (
   met.inside,
   inl (record {
-    layout = 1;
+    layout = layout;
     before = met.before;
     walk = record { volume = volume; master = first; home = home; walk = met.walk };
     inside = met.inside;
@@ -37,17 +37,17 @@ master_fault size contents first n volume home met = (
 )
 
 -- A block of it was reached before.
-pub master_twice : (size : ℕ) (contents : Contents) (reached : List Bool) (first n : ℕ)
-    → IsVolumeSize size → IsHome size contents (home_of_master first)
+pub master_twice : (size : ℕ) (contents : Contents) (reached : List Bool) (layout first n : ℕ)
+    → IsVolumeSize size → IsHome size contents (home_in layout first)
     → ((k : ℕ) → digit_at reached k ≡ 0) → InSpace size n
     → IsTwiceInChain master_words contents reached first n
     → SettledRefuses size contents (BlockTwice n)
-master_twice size contents reached first n volume home fresh inside met = (
+master_twice size contents reached layout first n volume home fresh inside met = (
   inside,
   record {
     m = record { nodes = met.before; last = n; directories = [] };
     read = record {
-      layout = 1;
+      layout = layout;
       walk = record { volume = volume; master = first; home = home; walk = met.walk };
       once = tt;
       directories = tt;
@@ -57,20 +57,20 @@ master_twice size contents reached first n volume home fresh inside met = (
 )
 
 -- The master directory was read, and one that it names is at fault.
-pub directories_fault : (size : ℕ) (contents : Contents) (first : ℕ) (nodes : List (Node MasterEntry))
+pub directories_fault : (size : ℕ) (contents : Contents) (layout first : ℕ) (nodes : List (Node MasterEntry))
     (entries : List MasterEntry) (marks : ℕ → ℕ) (error : VolumeError) → IsVolumeSize size
-    → IsHome size contents (home_of_master first)
+    → IsHome size contents (home_in layout first)
     → LeadsAlong master_words contents first nodes 0 → items nodes ≡ entries
     → ((n : ℕ) → marks n ≡ times n (numbers nodes))
-    → NamesInSpace size error → IsFaultOfDirectories size contents marks entries error
+    → NamesInSpace size error → IsFaultOfDirectories size layout contents marks entries error
     → SettledRefuses size contents error
-directories_fault size contents first nodes entries marks error volume home walk all marked = by_error error
+directories_fault size contents layout first nodes entries marks error volume home walk all marked = by_error error
   where
-    master_walk : IsMasterWalk size contents 1 nodes 0
+    master_walk : IsMasterWalk size contents layout nodes 0
     master_walk = record { volume = volume; master = first; home = home; walk = walk }
 
     named : (ppn word at : ℕ) → find nat_cmp ppn entries ≡ Some (word, at)
-        → IsDirectoryNamed size contents 1 ppn word at
+        → IsDirectoryNamed size contents layout ppn word at
     named ppn word at is = record {
       nodes = nodes;
       last = 0;
@@ -79,11 +79,11 @@ directories_fault size contents first nodes entries marks error volume home walk
     }
 
     retrieval : (ppn word at n : ℕ) → find nat_cmp ppn entries ≡ Some (word, at)
-        → IsInChain contents at (λ files. IsBadFileOf size contents ppn files n) → IsBadRetrieval size contents n
+        → IsInChain contents at (λ files. IsBadFileOf size layout contents ppn files n) → IsBadRetrieval size contents n
     retrieval ppn word at n is met =
         let bad = met.fault in
         let place = place_of ppn bad.name in
-        let there : IsFileNamed size contents 1 place bad.prime =
+        let there : IsFileNamed size contents layout place bad.prime =
         record {
           nodes = met.nodes;
           last = met.last;
@@ -91,11 +91,11 @@ directories_fault size contents first nodes entries marks error volume home walk
           entry = bad.entry;
         } in
         ⊎_elim
-        (λ v. IsBadRetrieval.of_version 1 place bad.prime there v)
-        (λ other. IsBadRetrieval.of_another_place 1 place (subst (λ (p : ℕ). IsFileNamed size contents 1 place p)
-        (sym other.0) there) (subst (λ (p : ℕ). IsOtherPlace contents place p) (sym other.0) other.1)) bad.bad
+        (λ v. IsBadRetrieval.of_version layout place bad.prime there v)
+        (λ other. IsBadRetrieval.of_another_place layout place (subst (λ (p : ℕ). IsFileNamed size contents layout place p)
+        (sym other.0) there) (subst (λ (p : ℕ). IsOtherPlace layout contents place p) (sym other.0) other.1)) bad.bad
 
-    by_error : (er : VolumeError) → NamesInSpace size er → IsFaultOfDirectories size contents marks entries er
+    by_error : (er : VolumeError) → NamesInSpace size er → IsFaultOfDirectories size layout contents marks entries er
         → SettledRefuses size contents er
     by_error NotVolume inside met = absurd met
     by_error BadHome inside met = absurd met
@@ -104,7 +104,7 @@ directories_fault size contents first nodes entries marks error volume home walk
         let bad = met.fault in (
           inside,
           inr (record {
-            layout = 1;
+            layout = layout;
             ppn = met.ppn;
             before = bad.before;
             walk = record {
@@ -123,11 +123,11 @@ directories_fault size contents first nodes entries marks error volume home walk
       record {
         m = record { nodes = nodes; last = 0; directories = met.directories };
         read = record {
-          layout = 1;
+          layout = layout;
           walk = master_walk;
           once = met.once;
           directories = subst (λ (es : List MasterEntry).
-              AllByRecursion (IsDirectoryRead 1 contents es) met.directories) (sym all) met.read;
+              AllByRecursion (IsDirectoryRead layout contents es) met.directories) (sym all) met.read;
         };
         twice = let t = met.twice in let m = marked n in omega arith;
       },
@@ -142,7 +142,7 @@ directories_fault size contents first nodes entries marks error volume home walk
         let bad = data_of.bad in (
           inside,
           record {
-            layout = 1;
+            layout = layout;
             place = place_of met.ppn data_of.name;
             p = bad.p;
             prime = data_of.prime;

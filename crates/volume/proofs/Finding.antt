@@ -106,12 +106,12 @@ module _ (c : Contents) where
       )
 
 -- A version of the place that was asked for.
-module _ (size : ℕ) (c : Contents) (ppn : ℕ) (name : FileName) (at : ℕ) (prime : PrimeValue) (v : VersionState)
-    (is : IsVersionAt size c at prime v) (name_is : prime.file ≡ name) (ppn_is : prime.ppn ≡ ppn) where
+module _ (size layout : ℕ) (c : Contents) (ppn : ℕ) (name : FileName) (at : ℕ) (prime : PrimeValue) (v : VersionState)
+    (is : IsVersionAt size c layout at prime v) (name_is : prime.file ≡ name) (ppn_is : prime.ppn ≡ ppn) where
   place_is : (with_length prime v.words).place ≡ place_of ppn name
   place_is = λ i. record { ppn = ppn_is i; name = name_is i }
 
-  pub file_found : AllByRecursion (IsWholeBlock c) v.blocks → IsFileFound c (place_of ppn name) at prime v
+  pub file_found : AllByRecursion (IsWholeBlock c) v.blocks → IsFileFound layout c (place_of ppn name) at prime v
   file_found whole =
       let body = body_found c v.blocks v.words whole is.retrieved.enough in
       let file : File = record {
@@ -132,7 +132,7 @@ module _ (size : ℕ) (c : Contents) (ppn : ℕ) (name : FileName) (at : ℕ) (p
       record {
         file = record { file = file; prime = at; extensions = v.ribs; blocks = v.blocks };
         stands = record {
-          retrieved = subst (λ p. IsRetrieved 1 c p at v.ribs v.blocks) (sym facts) is.retrieved;
+          retrieved = subst (λ p. IsRetrieved layout c p at v.ribs v.blocks) (sym facts) is.retrieved;
           body = body.2;
         };
         prime_is = refl;
@@ -142,7 +142,7 @@ module _ (size : ℕ) (c : Contents) (ppn : ℕ) (name : FileName) (at : ℕ) (p
       }
 
   pub reached_twice : (reached : List Bool) (n : ℕ) → 2 ≤ digit_at reached n + times n (at ∷ (v.ribs ++ v.blocks))
-      → IsReachedTwice c (place_of ppn name) at reached n
+      → IsReachedTwice layout c (place_of ppn name) at reached n
   reached_twice reached n twice = record {
     file = record { p = with_length prime v.words; prime = at; extensions = v.ribs; blocks = v.blocks };
     prime_is = refl;
@@ -151,7 +151,7 @@ module _ (size : ℕ) (c : Contents) (ppn : ℕ) (name : FileName) (at : ℕ) (p
     twice = twice;
   }
 
-  pub damaged_data : (n : ℕ) → 0 < times n v.blocks → c n ≡ None → IsDamagedData c (place_of ppn name) at n
+  pub damaged_data : (n : ℕ) → 0 < times n v.blocks → c n ≡ None → IsDamagedData layout c (place_of ppn name) at n
   damaged_data n inside damaged = record {
     p = with_length prime v.words;
     extensions = v.ribs;

@@ -13,7 +13,7 @@ use Rattle.meaning.specs.Maps.{EachOnce, times, from_entries}
 use Rattle.meaning.specs.Blocks.{head_or_zero}
 use Rattle.meaning.specs.Files.{name_cmp}
 use Rattle.meaning.specs.Directories.{MasterEntry, master_word, FileEntry, file_words, IsFileEntry, numbers, items}
-use Rattle.meaning.specs.Stands.{StoredFile, StoredDirectory, entry_of, reaches_in_directory, IsWhole}
+use Rattle.meaning.specs.Stands.{StoredFile, StoredDirectory, quota_limit, entry_of, reaches_in_directory, IsWhole}
 use Rattle.meaning.specs.Faults.{InSpace, ReadFile, ReadDirectory, times_in_file, times_in_directory, IsFileRead}
 use Rattle.meaning.specs.Readings.{found_directory}
 use Rattle.meaning.specs.Walks.{LeadsAlong}
@@ -54,28 +54,28 @@ all_at P (a ∷ xs) zero x all is = subst P (some_same is) all.0
 all_at P (a ∷ xs) (suc i) x all is = all_at P xs i x all.1 is
 
 -- One directory, whose chain and files were read.
-pub directory_found : (contents : Contents) (ppn protection first : ℕ) (chain : ChainState FileEntry)
+pub directory_found : (layout : ℕ) (contents : Contents) (ppn protection quota first : ℕ) (chain : ChainState FileEntry)
     (versions : List KnownVersion) (marks between after : ℕ → ℕ)
-    → protection < 512 → IsChain name_cmp IsFileEntry chain → IsOn file_words contents chain
+    → protection < 512 → quota < quota_limit layout → IsChain name_cmp IsFileEntry chain → IsOn file_words contents chain
     → head_or_zero chain.blocks ≡ first → LeadsAlong file_words contents first (nodes_of chain.blocks chain.entries) 0
     → ((n : ℕ) → between n ≡ marks n + times n chain.blocks)
-    → AreFilesRead contents ppn chain.entries versions between after
-    → IsDirectoryFound contents (ppn, (master_word protection 0, first))
+    → AreFilesRead layout contents ppn chain.entries versions between after
+    → IsDirectoryFound layout contents (ppn, (master_word protection quota, first))
     (record { chain = chain; versions = versions }) marks after
-directory_found contents ppn protection first chain versions marks between after small is on begins walk marked read =
+directory_found layout contents ppn protection quota first chain versions marks between after small few is on begins walk
+    marked read =
     let nodes = nodes_of chain.blocks chain.entries in
     let chain_is = chain_read file_words IsFileEntry contents chain is on in
     let all : items nodes ≡ chain.entries = chain_items file_words IsFileEntry chain is in
     let blocks : numbers nodes ≡ chain.blocks = numbers_of chain.blocks chain.entries in
     let named : map (λ (e : FileName × StoredFile). (e.0, e.1.prime)) read.found ≡ items nodes = read.named ∙ sym all in
-    let found = found_directory protection 0 nodes read.found in
+    let found = found_directory protection quota nodes read.found in
     let once : EachOnce name_cmp read.found = EachOnce-from_map name_cmp (λ (f : StoredFile). f.prime) read.found
     (subst (EachOnce name_cmp) (sym read.named) is.each_once) in
     record {
       found = found;
-      named = λ i. (master_word protection 0, (ap head_or_zero blocks ∙ begins) i);
-      whole = directory_whole 1 contents ppn protection 0 nodes read.found small
-          (omega arith) chain_is named read.whole;
+      named = λ i. (master_word protection quota, (ap head_or_zero blocks ∙ begins) i);
+      whole = directory_whole layout contents ppn protection quota nodes read.found small few chain_is named read.whole;
       known = record {
         chain = blocks;
         names = mapped-from_entries name_total name_exact (λ (f : StoredFile). f.prime) read.found
@@ -100,23 +100,23 @@ directory_found contents ppn protection first chain versions marks between after
       read_is = record {
         walk = walk;
         once = files_once ppn chain.entries read.found read.named is.each_once;
-        files = subst (λ es. AllByRecursion (IsFileRead 1 contents ppn es) (map (as_read ppn) read.found))
-            (sym all) (files_read contents ppn chain.entries versions between after is.each_once read);
+        files = subst (λ es. AllByRecursion (IsFileRead layout contents ppn es) (map (as_read ppn) read.found))
+            (sym all) (files_read layout contents ppn chain.entries versions between after is.each_once read);
       };
       counted = λ n.
-          let c = directory_reaches n protection 0 nodes read.found once in
+          let c = directory_reaches n protection quota nodes read.found once in
           let d = total-map (λ (x : FileName × ReadFile). times_in_file n x.1) (as_read ppn) read.found in
           omega arith;
       marked = λ n.
           let a = read.marked n in
           let b = marked n in
-          let c = directory_reaches n protection 0 nodes read.found once in
+          let c = directory_reaches n protection quota nodes read.found once in
           let d = ap (times n) blocks in
           omega arith;
     }
 
-pub no_directories : (contents : Contents) (marks : ℕ → ℕ) → AreDirectoriesRead contents [] [] marks marks
-no_directories contents marks = record {
+pub no_directories : (layout : ℕ) (contents : Contents) (marks : ℕ → ℕ) → AreDirectoriesRead layout contents [] [] marks marks
+no_directories layout contents marks = record {
   found = [];
   named = refl;
   whole = tt;
@@ -130,23 +130,23 @@ no_directories contents marks = record {
 }
 
 -- one directory more
-pub more_directories : (contents : Contents) (entries : List MasterEntry) (directories : List KnownDirectory)
+pub more_directories : (layout : ℕ) (contents : Contents) (entries : List MasterEntry) (directories : List KnownDirectory)
     (marks before after : ℕ → ℕ) (e : MasterEntry) (d : KnownDirectory)
-    → AreDirectoriesRead contents entries directories marks before → IsDirectoryFound contents e d before after
-    → AreDirectoriesRead contents (entries ++ e ∷ []) (directories ++ d ∷ []) marks after
-more_directories contents entries directories marks before after e d read found =
+    → AreDirectoriesRead layout contents entries directories marks before → IsDirectoryFound layout contents e d before after
+    → AreDirectoriesRead layout contents (entries ++ e ∷ []) (directories ++ d ∷ []) marks after
+more_directories layout contents entries directories marks before after e d read found =
     let x : ℕ × StoredDirectory = (e.0, found.found) in
     record {
       found = read.found ++ x ∷ [];
       named = map-append (λ (y : ℕ × StoredDirectory). (y.0, entry_of y.1)) read.found (x ∷ [])
           ∙ (λ i. read.named i ++ (e.0, found.named i) ∷ []);
-      whole = all_push (λ (y : ℕ × StoredDirectory). IsWhole 1 contents y.0 y.1) read.found x read.whole found.whole;
+      whole = all_push (λ (y : ℕ × StoredDirectory). IsWhole layout contents y.0 y.1) read.found x read.whole found.whole;
       known = zip_behind (λ (y : ℕ × StoredDirectory) k. IsKnownDirectory k y.1) read.found directories
           x d read.known found.known;
       read = read.read ++ (e, found.read) ∷ [];
       read_named = map-append (λ (r : MasterEntry × ReadDirectory). r.0) read.read ((e, found.read) ∷ [])
           ∙ ap (λ (l : List MasterEntry). l ++ e ∷ []) read.read_named;
-      read_are = all_push (λ (r : MasterEntry × ReadDirectory). IsEntryRead contents r.0 r.1) read.read
+      read_are = all_push (λ (r : MasterEntry × ReadDirectory). IsEntryRead layout contents r.0 r.1) read.read
           (e, found.read) read.read_are found.read_is;
       counted = λ n.
           let a = read.counted n in
@@ -161,20 +161,20 @@ more_directories contents entries directories marks before after e d read found 
     }
 
 -- the next directory was read
-pub directories_go_on : {A E : Type 0} (view : A → KnownDirectory) (contents now : Contents) (named : E
+pub directories_go_on : {A E : Type 0} (view : A → KnownDirectory) (layout : ℕ) (contents now : Contents) (named : E
     → MasterEntry) (es : List E) (i : ℕ) (e : E) (old new : List A) (marks before after : ℕ → ℕ)
     → i < length es → e ≡ get_or es i e → now ≡ contents
-    → AreDirectoriesRead contents (map named (take i es)) (map view old) marks before
-    → IsAdded view old new (λ d. IsDirectoryFound now (named e) d before after)
-    → AreDirectoriesRead contents (map named (take (i + 1) es)) (map view new) marks after
-directories_go_on view contents now named es i e old new marks before after below is same read added =
-    let f : IsDirectoryFound contents (named e) (view added.added) before after = subst
-    (λ (c : Contents). IsDirectoryFound c (named e) (view added.added) before after) same added.is in
-    subst (λ (l : List MasterEntry). AreDirectoriesRead contents l (map view new) marks after)
+    → AreDirectoriesRead layout contents (map named (take i es)) (map view old) marks before
+    → IsAdded view old new (λ d. IsDirectoryFound layout now (named e) d before after)
+    → AreDirectoriesRead layout contents (map named (take (i + 1) es)) (map view new) marks after
+directories_go_on view layout contents now named es i e old new marks before after below is same read added =
+    let f : IsDirectoryFound layout contents (named e) (view added.added) before after = subst
+    (λ (c : Contents). IsDirectoryFound layout c (named e) (view added.added) before after) same added.is in
+    subst (λ (l : List MasterEntry). AreDirectoriesRead layout contents l (map view new) marks after)
     (sym (viewed_more named es i e below is))
-    (subst (λ (l : List KnownDirectory). AreDirectoriesRead contents (map named (take i es)
+    (subst (λ (l : List KnownDirectory). AreDirectoriesRead layout contents (map named (take i es)
     ++ named e ∷ []) l marks after) (sym (ap (map view) added.pushed ∙ map-append view old (added.added ∷ [])))
-    (more_directories contents (map named (take i es)) (map view old) marks before after (named e)
+    (more_directories layout contents (map named (take i es)) (map view old) marks before after (named e)
     (view added.added) read f))
 
 -- what holds of each that was pushed

@@ -29,27 +29,27 @@ use Rattle.volume.specs.FaultsFound.{IsFaultOfFile, IsFaultOfFiles}
 use Rattle.volume.proofs.Lookups.{viewed_more, all_of_map, all_both, all_each, all_push, all_to_map, zip_behind}
 use Rattle.volume.proofs.Lookups.{total-push, total-map, found_in_front}
 
-pub no_files : (contents : Contents) (ppn : ℕ) (marks : ℕ → ℕ) → AreFilesRead contents ppn [] [] marks marks
-no_files contents ppn marks = record { found = []; named = refl; whole = tt; known = tt; marked = λ n. omega arith }
+pub no_files : (layout : ℕ) (contents : Contents) (ppn : ℕ) (marks : ℕ → ℕ) → AreFilesRead layout contents ppn [] [] marks marks
+no_files layout contents ppn marks = record { found = []; named = refl; whole = tt; known = tt; marked = λ n. omega arith }
 
 -- one file more
-pub more_files : (contents : Contents) (ppn : ℕ) (entries : List FileEntry) (versions : List KnownVersion)
+pub more_files : (layout : ℕ) (contents : Contents) (ppn : ℕ) (entries : List FileEntry) (versions : List KnownVersion)
     (marks before after : ℕ → ℕ) (e : FileEntry) (v : KnownVersion)
-    → AreFilesRead contents ppn entries versions marks before
-    → IsFileFound contents (place_of ppn e.0) e.1 v.prime v.version
+    → AreFilesRead layout contents ppn entries versions marks before
+    → IsFileFound layout contents (place_of ppn e.0) e.1 v.prime v.version
     → ((n : ℕ) → after n ≡ before n + times n (e.1 ∷ (v.version.ribs ++ v.version.blocks)))
-    → AreFilesRead contents ppn (entries ++ e ∷ []) (versions ++ v ∷ []) marks after
-more_files contents ppn entries versions marks before after e v read found marked =
+    → AreFilesRead layout contents ppn (entries ++ e ∷ []) (versions ++ v ∷ []) marks after
+more_files layout contents ppn entries versions marks before after e v read found marked =
     let x : FileName × StoredFile = (e.0, found.file) in
     let same : facts_of found.file
-    ≡ known_facts e.1 v.prime v.version = facts_found contents (place_of ppn e.0) e.1 v.prime v.version found in
+    ≡ known_facts e.1 v.prime v.version = facts_found layout contents (place_of ppn e.0) e.1 v.prime v.version found in
     let reached : (n : ℕ) → reaches_in_file n found.file ≡ times n (e.1 ∷ (v.version.ribs ++ v.version.blocks)) = λ n i.
     times n (found.prime_is i ∷ (found.ribs_are i ++ found.blocks_are i)) in
     record {
       found = read.found ++ x ∷ [];
       named = map-append (λ (y : FileName × StoredFile). (y.0, y.1.prime)) read.found (x ∷ [])
           ∙ (λ i. read.named i ++ (e.0, found.prime_is i) ∷ []);
-      whole = all_push (λ y. IsVersion 1 contents (place_of ppn y.0) y.1) read.found x read.whole found.stands;
+      whole = all_push (λ y. IsVersion layout contents (place_of ppn y.0) y.1) read.found x read.whole found.stands;
       known = zip_behind IsKnownVersion read.found versions x v read.known (same
           ∙ ap (λ at. known_facts at v.prime v.version) (sym found.prime_is));
       marked = λ n. let a = marked n in let b = read.marked n in
@@ -76,29 +76,29 @@ named_again ppn [] = refl
 named_again ppn (x ∷ xs) = ap (λ (l : List FileEntry). (x.0, x.1.prime) ∷ l) (named_again ppn xs)
 
 -- the file's place and blocks are on the disk
-abbrev pub HasPlace : Contents → ℕ → FileName × ReadFile → Type 0
-HasPlace contents ppn e = (e.1.p.place ≡ place_of ppn e.0)
-    × IsRetrieved 1 contents e.1.p e.1.prime e.1.extensions e.1.blocks
+abbrev pub HasPlace : ℕ → Contents → ℕ → FileName × ReadFile → Type 0
+HasPlace layout contents ppn e = (e.1.p.place ≡ place_of ppn e.0)
+    × IsRetrieved layout contents e.1.p e.1.prime e.1.extensions e.1.blocks
 
-pub all_read : (contents : Contents) (ppn : ℕ) (all rest : List FileEntry) (files : List (FileName × ReadFile))
+pub all_read : (layout : ℕ) (contents : Contents) (ppn : ℕ) (all rest : List FileEntry) (files : List (FileName × ReadFile))
     → all ≡ map (λ e. (e.0, e.1.prime)) files ++ rest → EachOnce name_cmp all
-    → AllByRecursion (HasPlace contents ppn) files → AllByRecursion (IsFileRead 1 contents ppn all) files
-all_read contents ppn all rest files is once placed =
+    → AllByRecursion (HasPlace layout contents ppn) files → AllByRecursion (IsFileRead layout contents ppn all) files
+all_read layout contents ppn all rest files is once placed =
     let named : FileName × ReadFile → FileEntry = λ e. (e.0, e.1.prime) in
-    all_both (λ e. find name_cmp e.0 all ≡ Some e.1.prime) (HasPlace contents ppn) (IsFileRead 1 contents ppn all) files
+    all_both (λ e. find name_cmp e.0 all ≡ Some e.1.prime) (HasPlace layout contents ppn) (IsFileRead layout contents ppn all) files
     (λ e entry place. record { entry = entry; place_is = place.0; retrieved = place.1 })
     (all_of_map (λ (e : FileEntry). find name_cmp e.0 all ≡ Some e.1) named files
     (found_in_front name_total all (map named files) rest is once)) placed
 
 -- Files that were read, as a reader of faults sees them.
-pub files_read : (contents : Contents) (ppn : ℕ) (entries : List FileEntry) (versions : List KnownVersion)
-    (marks after : ℕ → ℕ) → EachOnce name_cmp entries → (read : AreFilesRead contents ppn entries versions marks after)
-    → AllByRecursion (IsFileRead 1 contents ppn entries) (map (as_read ppn) read.found)
-files_read contents ppn entries versions marks after once read =
-    all_read contents ppn entries [] (map (as_read ppn) read.found) (sym read.named ∙ sym (named_again ppn read.found)
+pub files_read : (layout : ℕ) (contents : Contents) (ppn : ℕ) (entries : List FileEntry) (versions : List KnownVersion)
+    (marks after : ℕ → ℕ) → EachOnce name_cmp entries → (read : AreFilesRead layout contents ppn entries versions marks after)
+    → AllByRecursion (IsFileRead layout contents ppn entries) (map (as_read ppn) read.found)
+files_read layout contents ppn entries versions marks after once read =
+    all_read layout contents ppn entries [] (map (as_read ppn) read.found) (sym read.named ∙ sym (named_again ppn read.found)
     ∙ sym (append-nil _)) once
-    (all_to_map (HasPlace contents ppn) (as_read ppn) read.found
-    (all_each (λ y. IsVersion 1 contents (place_of ppn y.0) y.1) (λ y. HasPlace contents ppn (as_read ppn y)) read.found
+    (all_to_map (HasPlace layout contents ppn) (as_read ppn) read.found
+    (all_each (λ y. IsVersion layout contents (place_of ppn y.0) y.1) (λ y. HasPlace layout contents ppn (as_read ppn y)) read.found
     (λ y v. (refl, v.retrieved)) read.whole))
 
 pub files_once : (ppn : ℕ) (entries : List FileEntry) (found : List (FileName × StoredFile))
@@ -108,13 +108,13 @@ files_once ppn entries found named once = EachOnce-from_map name_cmp (λ (f : Re
     (map (as_read ppn) found) (subst (EachOnce name_cmp) (sym (named_again ppn found ∙ named)) once)
 
 -- The next file is at fault.
-pub file_fault : (size : ℕ) (contents : Contents) (ppn : ℕ) (all front rest : List FileEntry)
+pub file_fault : (size layout : ℕ) (contents : Contents) (ppn : ℕ) (all front rest : List FileEntry)
     (versions : List KnownVersion) (marks : ℕ → ℕ) (e : FileEntry) (error : VolumeError) (reached : List Bool)
     → all ≡ front ++ e ∷ rest → EachOnce name_cmp all
-    → AreFilesRead contents ppn front versions marks (digit_at reached)
-    → IsFaultOfFile size contents reached (place_of ppn e.0) e.1 error
-    → IsFaultOfFiles size contents marks ppn all error
-file_fault size contents ppn all front rest versions marks e error reached is once read = by_error error
+    → AreFilesRead layout contents ppn front versions marks (digit_at reached)
+    → IsFaultOfFile size layout contents reached (place_of ppn e.0) e.1 error
+    → IsFaultOfFiles size layout contents marks ppn all error
+file_fault size layout contents ppn all front rest versions marks e error reached is once read = by_error error
   where
     entry : find name_cmp e.0 all ≡ Some e.1
     entry = (all_last (found_in_front name_total all (front ++ e ∷ []) rest (is
@@ -129,8 +129,8 @@ file_fault size contents ppn all front rest versions marks e error reached is on
             last [] b = b.0
             last (x ∷ xs) b = last xs b.1
 
-    by_error : (er : VolumeError) → IsFaultOfFile size contents reached (place_of ppn e.0) e.1 er
-        → IsFaultOfFiles size contents marks ppn all er
+    by_error : (er : VolumeError) → IsFaultOfFile size layout contents reached (place_of ppn e.0) e.1 er
+        → IsFaultOfFiles size layout contents marks ppn all er
     by_error NotVolume met = met
     by_error BadHome met = met
     by_error BadLog met = met
@@ -151,11 +151,11 @@ file_fault size contents ppn all front rest versions marks e error reached is on
           once = EachOnce-from_map name_cmp (λ (f : ReadFile). f.prime) files
               (once_front name_cmp (map {B = FileEntry} (λ (x : FileName × ReadFile). (x.0, x.1.prime)) files) rest
               (subst (EachOnce name_cmp) whole once));
-          read = all_read contents ppn all rest files whole once
-              (all_push (HasPlace contents ppn) (map (as_read ppn) read.found) file
-              (all_to_map (HasPlace contents ppn) (as_read ppn) read.found
-              (all_each (λ y. IsVersion 1 contents (place_of ppn y.0) y.1)
-              (λ y. HasPlace contents ppn (as_read ppn y)) read.found (λ y v. (refl, v.retrieved)) read.whole))
+          read = all_read layout contents ppn all rest files whole once
+              (all_push (HasPlace layout contents ppn) (map (as_read ppn) read.found) file
+              (all_to_map (HasPlace layout contents ppn) (as_read ppn) read.found
+              (all_each (λ y. IsVersion layout contents (place_of ppn y.0) y.1)
+              (λ y. HasPlace layout contents ppn (as_read ppn y)) read.found (λ y v. (refl, v.retrieved)) read.whole))
               (met.place_is, met.retrieved));
           twice =
               let a = met.twice in
@@ -172,18 +172,18 @@ file_fault size contents ppn all front rest versions marks e error reached is on
     by_error (BadData n) met = record { name = e.0; prime = e.1; entry = entry; bad = met }
 
 -- the next file was read
-pub files_go_on : {A E : Type 0} (view : A → KnownVersion) (contents now : Contents) (ppn : ℕ) (named : E
+pub files_go_on : {A E : Type 0} (view : A → KnownVersion) (layout : ℕ) (contents now : Contents) (ppn : ℕ) (named : E
     → FileEntry) (es : List E) (i : ℕ) (e : E) (old new : List A) (marks before after : ℕ → ℕ)
     → i < length es → e ≡ get_or es i e → now ≡ contents
-    → AreFilesRead contents ppn (map named (take i es)) (map view old) marks before
-    → IsAdded view old new (IsMarkedFile now ppn (named e) before after)
-    → AreFilesRead contents ppn (map named (take (i + 1) es)) (map view new) marks after
-files_go_on view contents now ppn named es i e old new marks before after below is same read added =
-    let f : IsMarkedFile contents ppn (named e) before after (view added.added) = subst
-    (λ (c : Contents). IsMarkedFile c ppn (named e) before after (view added.added)) same added.is in
-    subst (λ (l : List FileEntry). AreFilesRead contents ppn l (map view new) marks after)
+    → AreFilesRead layout contents ppn (map named (take i es)) (map view old) marks before
+    → IsAdded view old new (IsMarkedFile layout now ppn (named e) before after)
+    → AreFilesRead layout contents ppn (map named (take (i + 1) es)) (map view new) marks after
+files_go_on view layout contents now ppn named es i e old new marks before after below is same read added =
+    let f : IsMarkedFile layout contents ppn (named e) before after (view added.added) = subst
+    (λ (c : Contents). IsMarkedFile layout c ppn (named e) before after (view added.added)) same added.is in
+    subst (λ (l : List FileEntry). AreFilesRead layout contents ppn l (map view new) marks after)
     (sym (viewed_more named es i e below is))
-    (subst (λ (l : List KnownVersion). AreFilesRead contents ppn (map named (take i es) ++ named e ∷ []) l marks after)
+    (subst (λ (l : List KnownVersion). AreFilesRead layout contents ppn (map named (take i es) ++ named e ∷ []) l marks after)
     (sym (ap (map view) added.pushed ∙ map-append view old (added.added ∷ [])))
-    (more_files contents ppn (map named (take i es)) (map view old) marks before after (named e)
+    (more_files layout contents ppn (map named (take i es)) (map view old) marks before after (named e)
     (view added.added) read f.found f.marked))

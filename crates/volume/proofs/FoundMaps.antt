@@ -23,26 +23,26 @@ use Rattle.alloctab.specs.Lists.{digit_at, digit, flag_at}
 use Rattle.alloctab.specs.TableState.{TableState}
 use Rattle.directory.specs.Chains.{ChainState, nodes_of, IsChain, IsOn}
 use Rattle.directory.specs.ChainLaws.{chain_read, chain_items, numbers_of, master_chain}
-use Rattle.volume.specs.Homes.{home_of_master}
+use Rattle.volume.specs.Homes.{home_in}
 use Rattle.volume.specs.Known.{KnownDirectory, IsKnownDirectory, IsKnownMap, IsHeld}
 use Rattle.volume.specs.Found.{IsOnlySpace, IsMapFound, IsWrongFor, IsRightFor}
 use Rattle.volume.proofs.Lookups.{found_in_front}
 use Rattle.volume.proofs.FoundDirectories.{zip_at, mapped_at, all_at}
 
-module _ (size : ℕ) (contents : Contents) (first : ℕ) (master : ChainState MasterEntry)
+module _ (size : ℕ) (contents : Contents) (layout first : ℕ) (master : ChainState MasterEntry)
     (directories : List KnownDirectory) (marks : ℕ
-    → ℕ) (r : IsMapFound size contents first master directories marks) where
+    → ℕ) (r : IsMapFound size contents layout first master directories marks) where
   nodes : List (Node MasterEntry)
   nodes = nodes_of master.blocks master.entries
 
   abbrev pub map_found : DiskMap
-  map_found = found_map 1 (nodes_of master.blocks master.entries) r.read.found
+  map_found = found_map layout (nodes_of master.blocks master.entries) r.read.found
 
   is_chain : IsChain nat_cmp IsMasterEntry master
-  is_chain = master_chain master r.chain
+  is_chain = master_chain layout master r.chain
 
-  home : IsHome size contents (record { layout = 1; master = first_of (nodes_of master.blocks master.entries) })
-  home = subst (λ (n : ℕ). IsHome size contents (home_of_master n)) (sym r.begins
+  home : IsHome size contents (record { layout = layout; master = first_of (nodes_of master.blocks master.entries) })
+  home = subst (λ (n : ℕ). IsHome size contents (home_in layout n)) (sym r.begins
       ∙ ap head_or_zero (sym (numbers_of master.blocks master.entries))
       ∙ head-numbers (nodes_of master.blocks master.entries)) r.home
 
@@ -55,19 +55,18 @@ module _ (size : ℕ) (contents : Contents) (first : ℕ) (master : ChainState M
 
   reached : (n : ℕ) → reaches n map_found ≡ marks n
   reached n =
-      let a = map_reaches n 1 (nodes_of master.blocks master.entries) r.read.found once in
+      let a = map_reaches n layout (nodes_of master.blocks master.entries) r.read.found once in
       let b = r.read.marked n in
       let c = ap (times n) (numbers_of master.blocks master.entries) in
       omega arith
 
   pub map_is_mapped : IsMapped size contents map_found
-  map_is_mapped = map_mapped size 1 contents (nodes_of master.blocks master.entries) r.read.found home
+  map_is_mapped = map_mapped size layout contents (nodes_of master.blocks master.entries) r.read.found home
       (chain_read master_words IsMasterEntry contents master is_chain r.on) named r.read.whole
 
   known : (table : TableState)
       → IsKnownMap (record { master = master; directories = directories; table = table }) map_found
   known table = record {
-    layout = refl;
     chain = numbers_of master.blocks master.entries;
     names = mapped-from_entries nat_cmp_total nat_cmp-IsAntisymmetric entry_of r.read.found
         ∙ ap from_entries r.read.named;
@@ -93,7 +92,7 @@ module _ (size : ℕ) (contents : Contents) (first : ℕ) (master : ChainState M
       → IsHeld size (record { master = master; directories = directories; table = table }) map_found contents
   map_held reached_marks table same only right = record {
     known = known table;
-    stands = map_stands size 1 contents (nodes_of master.blocks master.entries) r.read.found r.volume home
+    stands = map_stands size layout contents (nodes_of master.blocks master.entries) r.read.found r.volume home
         (chain_read master_words IsMasterEntry contents master is_chain r.on) named r.read.whole
         right.read.undamaged
         (λ n past. outside n past)

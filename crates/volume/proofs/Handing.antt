@@ -40,17 +40,17 @@ pub each_error : {T E : Type 0} (P : E → Type 0) (result : Result T E) → ((e
 each_error P (Ok x) all = tt
 each_error P (Err e) all = all e refl
 
-pub file_met_by : {T : Type 0} (size : ℕ) (contents : Contents) (reached : List Bool) (place : Place)
+pub file_met_by : {T : Type 0} (size layout : ℕ) (contents : Contents) (reached : List Bool) (place : Place)
     (prime : ℕ) (result : Result T VolumeError) → IfErr result IsFileRefusal
-    → ((k : ℕ) → result ≡ Err (BadRetrieval k) → IsBadVersion size contents 1 prime k
-    ⊎ ((k ≡ prime) × IsOtherPlace contents place prime))
-    → ((k : ℕ) → result ≡ Err (BlockTwice k) → IsReachedTwice contents place prime reached k)
-    → ((k : ℕ) → result ≡ Err (BadData k) → IsDamagedData contents place prime k)
-    → IfErr result (IsFaultOfFile size contents reached place prime)
-file_met_by size contents reached place prime result only bad twice damaged = each_error
-    (IsFaultOfFile size contents reached place prime) result by_error
+    → ((k : ℕ) → result ≡ Err (BadRetrieval k) → IsBadVersion size contents layout prime k
+    ⊎ ((k ≡ prime) × IsOtherPlace layout contents place prime))
+    → ((k : ℕ) → result ≡ Err (BlockTwice k) → IsReachedTwice layout contents place prime reached k)
+    → ((k : ℕ) → result ≡ Err (BadData k) → IsDamagedData layout contents place prime k)
+    → IfErr result (IsFaultOfFile size layout contents reached place prime)
+file_met_by size layout contents reached place prime result only bad twice damaged = each_error
+    (IsFaultOfFile size layout contents reached place prime) result by_error
   where
-    by_error : (e : VolumeError) → result ≡ Err e → IsFaultOfFile size contents reached place prime e
+    by_error : (e : VolumeError) → result ≡ Err e → IsFaultOfFile size layout contents reached place prime e
     by_error NotVolume is = refusal IsFileRefusal result NotVolume is only
     by_error BadHome is = refusal IsFileRefusal result BadHome is only
     by_error BadLog is = refusal IsFileRefusal result BadLog is only

@@ -1,18 +1,18 @@
 -- What the words of a home copy say.
 use Rattle.std.proofs.Common.{◌≡◌, Bool, ◌==◌, ℕ, ◌<◌, ◌≤◌, List, [], ◌∷◌, length, get_or, replicate, Some, refl, sym}
-use Rattle.std.proofs.Common.{◌∙◌, ap, subst, arith}
+use Rattle.std.proofs.Common.{◌∙◌, ap, subst, arith, slice_index}
 use Rattle.std.specs.Bool.{Decides}
 use Rattle.std.specs.Cmp.Lexicographic.{pointwise}
 use Rattle.std.proofs.lemmas.Bool.Decides.{Decides-eqb}
 use Rattle.std.proofs.lemmas.Slice.Eq.{slice_eq-Decides}
 use Rattle.blockdisk.specs.Disk.{Contents}
-use Rattle.meaning.specs.Regions.{table_blocks, log_images, space_start}
-use Rattle.meaning.specs.Home.{filser_word, home_block, IsHomeCopy}
+use Rattle.meaning.specs.Regions.{space_start}
+use Rattle.meaning.specs.Home.{filser_word, home_block, IsHomeCopy, IsLayout}
 use Rattle.meaning.specs.Faults.{InSpace, HasName}
 use Rattle.meaning.proofs.MapLaws.{some_same}
 use Rattle.volume.specs.declared.home.HomeCopy.{HomeCopy}
 use Rattle.volume.specs.declared.home.HomeCopy.TheVariants.{Valid, Named, Unnamed}
-use Rattle.volume.specs.Homes.{home_of_master, IsNoCopy, IsFound, holds_words}
+use Rattle.volume.specs.Homes.{home_in, IsNoCopy, IsFound, holds_words}
 
 -- words that begin with the name
 pub has_name : (words : List ℕ) (n cell first : ℕ) → length words ≡ 128 → first ≡ get_or words 0 cell
@@ -20,25 +20,26 @@ pub has_name : (words : List ℕ) (n cell first : ℕ) → length words ≡ 128 
 has_name [] n cell first long at is = absurd (omega arith)
 has_name (word ∷ words) n cell first long at is = (words, ap (λ (w : ℕ). Some (w ∷ words)) (sym at ∙ is))
 
--- all words of a valid copy follow from the fifth, counted from 0
-pub no_copy : (size n cell master : ℕ) (words : List ℕ) → master ≡ get_or words 5 cell
-    → (InSpace size master → words ≡ home_block size (home_of_master master) → ⊥) → IsNoCopy size (holds_words words) n
-no_copy size n cell master words at wrong home copy =
+-- A valid copy is the block of the layout and the first block that its words name.
+pub no_copy : (size n : ℕ) (words : List ℕ) → (IsLayout (slice_index words 1) → InSpace size (slice_index words 5)
+    → words ≡ home_block size (home_in (slice_index words 1) (slice_index words 5)) → ⊥)
+    → IsNoCopy size (holds_words words) n
+no_copy size n words wrong home copy =
     let whole : words ≡ home_block size home = some_same copy.words in
-    let named : home.master ≡ master = sym (at ∙ ap (λ (l : List ℕ). get_or l 5 cell) whole) in
-    let layout : home.layout ≡ 1 = copy.layout in
-    wrong
+    let layout : home.layout ≡ slice_index words 1 = sym (ap (λ (l : List ℕ). slice_index l 1) whole) in
+    let master : home.master ≡ slice_index words 5 = sym (ap (λ (l : List ℕ). slice_index l 5) whole) in
+    wrong (subst IsLayout layout copy.layout)
     (record {
-      from = subst (λ (k : ℕ). space_start size ≤ k) named copy.master_from;
-      below = subst (λ (k : ℕ). k < size) named copy.master_below;
+      from = subst (λ (k : ℕ). space_start size ≤ k) master copy.master_from;
+      below = subst (λ (k : ℕ). k < size) master copy.master_below;
     })
-    (whole ∙ (λ i. filser_word ∷ layout i ∷ size ∷ table_blocks size ∷ log_images size ∷ named i ∷ replicate 122 0))
+    (whole ∙ (λ i. home_block size (home_in (layout i) (master i))))
 
-pub valid_copy : (size n master : ℕ) (words : List ℕ) → InSpace size master
-    → words ≡ home_block size (home_of_master master) → IsHomeCopy size (holds_words words) n (home_of_master master)
-valid_copy size n master words inside whole = record {
+pub valid_copy : (size n layout master : ℕ) (words : List ℕ) → IsLayout layout → InSpace size master
+    → words ≡ home_block size (home_in layout master) → IsHomeCopy size (holds_words words) n (home_in layout master)
+valid_copy size n layout master words allowed inside whole = record {
   words = ap Some whole;
-  layout = refl;
+  layout = allowed;
   master_from = inside.from;
   master_below = inside.below;
 }
@@ -46,7 +47,7 @@ valid_copy size n master words inside whole = record {
 -- what is found in the words of a block is found in the block
 pub found_in : (size : ℕ) (c : Contents) (n : ℕ) (words : List ℕ) (copy : HomeCopy) → c n ≡ Some words
     → IsFound size (holds_words words) n copy → IsFound size c n copy
-found_in size c n words (Valid master) is found = record {
+found_in size c n words (Valid home) is found = record {
   words = is ∙ found.words;
   layout = found.layout;
   master_from = found.master_from;

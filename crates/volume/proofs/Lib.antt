@@ -95,6 +95,9 @@ pub mod MovingCore
 pub mod MovingAnswers
 pub mod RetiredPrimes
 pub mod Arriving
+pub mod FileDates
+pub mod LayoutLimits
+pub mod SoundVolumes
 pub mod Leaving
 pub mod MovingAcross
 pub mod MovingLaw

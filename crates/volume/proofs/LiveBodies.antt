@@ -14,7 +14,7 @@ use Rattle.volume.specs.declared.live.LiveVersion.{LiveVersion}
 use Rattle.volume.specs.declared.pending.PendingVersion.{PendingVersion}
 use Rattle.volume.specs.Known.{blocks_reached, reaches_in_known}
 use Rattle.volume.specs.Live.{VolumeCore, slot, pending_at, held_reaches, pending_reaches, IsWholeCore}
-use Rattle.volume.specs.Rest.{HasSomeBody, IsSoundCore, KeepsRead, KeepsEachWritten}
+use Rattle.volume.specs.Rest.{AreDated, HasSomeBody, IsSoundCore, KeepsRead, KeepsEachWritten}
 use Rattle.volume.proofs.MakingLaw.{bit_few}
 use Rattle.volume.proofs.Pinning.{total_at, current_stands}
 
@@ -92,6 +92,10 @@ bodies_stay s c failed contents sound h ok same = record {
   written = λ key p is. body_stays s.contents contents p.version (sound.written h ok key p is)
       (λ n there. same n (written_used s.size c sound.whole key p is n there));
 }
+
+-- the same moments in another core
+pub dated_of : (layout : ℕ) (c c' : VolumeCore) → c'.pending ≡ c.pending → AreDated layout c → AreDated layout c'
+dated_of layout c c' pending dated key p is = dated key p (ap (λ l. pending_at l key) (sym pending) ∙ is)
 
 -- the same versions in another core
 pub bodies_of : (contents : Contents) (c c' : VolumeCore) → c'.live ≡ c.live → c'.pending ≡ c.pending

@@ -39,7 +39,7 @@ use Rattle.volume.specs.Live.{current_reaches, entry_reaches, pending_reaches, p
 use Rattle.volume.specs.Live.{AreWaiting, IsWholeCore}
 use Rattle.volume.specs.declared.pending.PendingVersion.{PendingVersion}
 use Rattle.volume.specs.Making.{LeadsTo, IsAligned, bare_known, entry_made, map_made, files_made, IsMade}
-use Rattle.volume.specs.Rest.{IsAtRest, IsSoundCore, RestsAt, StandsForOneOf}
+use Rattle.volume.specs.Rest.{AreDated, IsAtRest, IsSoundCore, RestsAt, StandsForOneOf}
 use Rattle.volume.proofs.Apart.{apart_same}
 use Rattle.volume.proofs.Packs.{pack_held, rests_in}
 use Rattle.volume.proofs.Pinning.{total_at}
@@ -64,18 +64,14 @@ files_are s k m f rest rests = stands_same s.size s.contents (files_of m) f
     (settled_in_any (pack_of s) s.contents f (rests.all s.contents (λ n closed. refl)))
 
 pub crash_for : (s s' : DiskState) (k k' : Known) (m m' : DiskMap) (f f' : Files File)
-    → AtRest s (IsHeld s.size k m) → files_of m ≡ f → files_of m' ≡ f'
+    → AtRest s (IsHeld s.size k m) → files_of m ≡ f → files_of m' ≡ f' → m'.layout ≡ m.layout
     → LeavesOnly s s' (λ c. SettlesTo s.size (IsHeld s.size k m) c ⊎ SettlesTo s.size (IsHeld s.size k' m') c)
     → LeavesOnly s s' (StandsForOneOf (pack_of s) f f')
-crash_for s s' k k' m m' f f' rest is is' leaves =
+crash_for s s' k k' m m' f f' rest is is' layout leaves =
     leaves_weaker s s' (λ c. SettlesTo s.size (IsHeld s.size k m) c ⊎ SettlesTo s.size (IsHeld s.size k' m') c)
     (StandsForOneOf (pack_of s) f f') leaves
     (λ c. ⊎_elim (λ old. inl (old.0, old.1, (m, old.2.stands, is, pack_held s k m rest)))
-    (λ new. inr (new.0, new.1, (m', new.2.stands, is', layout new.2))))
-  where
-    layout : {c : Contents} → IsHeld s.size k' m' c → m'.layout ≡ (pack_of s).layout
-    layout held = held.known.layout ∙ sym (rest.all s.contents (λ n closed. refl)).known.layout
-        ∙ pack_held s k m rest
+    (λ new. inr (new.0, new.1, (m', new.2.stands, is', layout ∙ pack_held s k m rest))))
 
 pub rest_for : (s s' : DiskState) (k' : Known) (m' : DiskMap) (f' : Files File) → s'.size ≡ s.size → files_of m' ≡ f'
     → AtRest s' (IsHeld s.size k' m') → RestsAt s' f'
@@ -86,14 +82,20 @@ rest_for s s' k' m' f' size is rest = rests_in s' (pack_in m'.layout s'.size) f'
 
 pub sound_for : (s s' : DiskState) (c' : VolumeCore) (failed : Bool) → s'.size ≡ s.size → IsWholeCore s.size c'
     → (s'.honest → failed ≡ false → HaveBodies s'.contents c')
-    → (s'.honest → failed ≡ false → (m' : DiskMap) × AtRest s' (IsHeld s.size c'.known m')) → IsSoundCore s' c' failed
-sound_for s s' c' failed size whole bodies rest = record {
+    → (s'.honest → failed ≡ false → AreDated (pack_of s).layout c')
+    → (s'.honest → failed ≡ false → (m' : DiskMap) × AtRest s' (IsHeld s.size c'.known m')
+    × (m'.layout ≡ (pack_of s).layout)) → IsSoundCore s' c' failed
+sound_for s s' c' failed size whole bodies dated rest = record {
   whole = subst (λ (b : ℕ). IsWholeCore b c') (sym size) whole;
   read = λ h ok. (bodies h ok).read;
   written = λ h ok. (bodies h ok).written;
-  rest = λ h ok. let r = rest h ok in
-      record { map = r.0; rest = subst (λ (b : ℕ). AtRest s' (IsHeld b c'.known r.0)) (sym size) r.1 };
+  dated = λ h ok. let r = rest h ok in
+      subst (λ (l : ℕ). AreDated l c') (sym r.2 ∙ pack_held s' c'.known r.0 (sized r.0 r.1)) (dated h ok);
+  rest = λ h ok. let r = rest h ok in record { map = r.0; rest = sized r.0 r.1 };
 }
+  where
+    sized : (m' : DiskMap) → AtRest s' (IsHeld s.size c'.known m') → AtRest s' (IsHeld s'.size c'.known m')
+    sized m' = subst (λ (b : ℕ). AtRest s' (IsHeld b c'.known m')) (sym size)
 
 -- a sound volume that has failed stays sound, whatever the disk does
 pub sound_failed : (s s' : DiskState) (c' : VolumeCore) (failed : Bool) → s'.size ≡ s.size → IsWholeCore s.size c'
@@ -103,6 +105,7 @@ sound_failed s s' c' failed size whole gone = record {
   rest = λ h ok. absurd (apart (sym gone ∙ ok));
   read = λ h ok. absurd (apart (sym gone ∙ ok));
   written = λ h ok. absurd (apart (sym gone ∙ ok));
+  dated = λ h ok. absurd (apart (sym gone ∙ ok));
 }
   where
     apart : true ≡ false → ⊥
@@ -376,7 +379,7 @@ module _ (s s' : DiskState) (k k' : Known) (ppn protection first : ℕ) (puts : 
       let same = files_are s k at.map f at.rest rests in
       crash_for s s' k k' at.map next f (files_made f ppn protection) at.rest same
       (files_of_made at.map k'.master.blocks ppn protection 0 (first ∷ [])
-      ∙ ap (λ (z : Files File). files_made z ppn protection) same)
+      ∙ ap (λ (z : Files File). files_made z ppn protection) same) refl
       (transaction at.map next whole.aligned (made_aligned s.size k k' ppn protection first puts whole made) at.rest
       (first_clear s.size k k' ppn protection first puts whole made)
       (leads s.size k k' ppn protection first puts whole made s.contents at.map fits))
@@ -402,5 +405,9 @@ module _ (s s' : DiskState) (k k' : Known) (ppn protection first : ℕ) (puts : 
   pub made_at : s'.size ≡ s.size → ((m m' : DiskMap) → IsAligned k → IsAligned k' → AtRest s (IsHeld s.size k m)
       → bit k.table first ≡ 0 → LeadsTo s.size s.contents first (replicate 128 0) puts k m k' m'
       → AtRest s' (IsHeld s.size k' m'))
-      → (m' : DiskMap) × AtRest s' (IsHeld s.size k' m')
-  made_at size transaction = (map_made at.map k'.master.blocks ppn protection first, made_rest transaction)
+      → (m' : DiskMap) × AtRest s' (IsHeld s.size k' m') × (m'.layout ≡ (pack_of s).layout)
+  made_at size transaction = (
+    map_made at.map k'.master.blocks ppn protection first,
+    made_rest transaction,
+    pack_held s k at.map at.rest,
+  )

@@ -58,7 +58,7 @@ pub is_entered : (k k' : Known) (ppn protection first : ℕ) (fresh : Option ℕ
     → find nat_cmp ppn k.master.entries ≡ None → before ≡ []
     → k'.master.blocks ≡ k.master.blocks ++ option_to_list fresh
     → k'.master.entries ≡ inserted nat_cmp k.master.entries (entry_made ppn protection first)
-    → IsChain nat_cmp (IsMasterEntryOf 1) k'.master → k'.directories ≡ k.directories ++ bare_known first ∷ []
+    → IsChain nat_cmp (IsMasterEntryOf 2) k'.master → k'.directories ≡ k.directories ++ bare_known first ∷ []
     → PutsChain master_words k.master k'.master before after → length after ≤ length before + 2
     → IsEntered k k' ppn protection first (option_to_list fresh) after
 is_entered k k' ppn protection first fresh before after absent none blocks entries chain directories put few = record {
@@ -110,7 +110,7 @@ entered_for k k' l l' ppn protection first p q f grown puts master directories m
           ∙ ap (λ (x : ChainState MasterEntry). x.blocks ++ grown) (sym master);
       entries = ap (λ x. x.entries) master' ∙ is.entries
           ∙ ap (λ (x : ChainState MasterEntry). x.entries ++ entry_made ppn protection first ∷ []) (sym master);
-      chain = subst (IsChain nat_cmp (IsMasterEntryOf 1)) (sym master') is.chain;
+      chain = subst (IsChain nat_cmp (IsMasterEntryOf 2)) (sym master') is.chain;
       directories = directories' ∙ is.directories
           ∙ ap (λ (x : List KnownDirectory). x ++ bare_known first ∷ []) (sym directories);
       put = subst (λ x. PutsChain master_words x l'.master [] puts) (sym master)

@@ -186,14 +186,14 @@ module _ (size : ℕ) (k k' : Known) (m : DiskMap) (ppn protection first : ℕ) 
   new_master : IsMasterChain (with_puts puts c) k'.master.blocks
       (insert (entries_of m) ppn (entry_of (bare_directory protection 0 (first ∷ []))))
   new_master =
-      let dir = chain_stands {R = nat_cmp} master_words (IsMasterEntryOf 1)
+      let dir = chain_stands {R = nat_cmp} master_words (IsMasterEntryOf 2)
       (with_puts puts c) k'.master made.entered.chain new_on in
       record {
         nodes = dir.nodes;
         spelled = dir.spelled;
         filled = dir.filled;
         blocks_are = dir.blocks_are;
-        are_entries = all_each (IsMasterEntryOf 1) IsMasterEntry (items dir.nodes) (λ e good. good.ppn) dir.are_entries;
+        are_entries = all_each (IsMasterEntryOf 2) IsMasterEntry (items dir.nodes) (λ e good. good.ppn) dir.are_entries;
         each_once = dir.each_once;
         map_is = dir.map_is ∙ names;
       }
@@ -223,7 +223,7 @@ module _ (size : ℕ) (k k' : Known) (m : DiskMap) (ppn protection first : ℕ) 
   new_map : HasMap size (with_puts puts c) (map_made m k'.master.blocks ppn protection first)
   new_map = directory_made size c (with_puts puts c) m k'.master.blocks ppn protection 0
       (first ∷ []) held.stands absent fits
-      (subst (λ l. 0 < quota_limit l) (sym held.known.layout) (omega arith))
+      (some_quota m.layout)
       (chain_stands {R = name_cmp} file_words IsFileEntry (with_puts puts c)
       (record { blocks = first ∷ []; entries = [] }) (bare_chain first)
       (bare_on file_words (with_puts puts c) first new_first))
@@ -287,7 +287,6 @@ module _ (size : ℕ) (k k' : Known) (m : DiskMap) (ppn protection first : ℕ) 
   pub making_leads : IsHeld size k' (map_made m k'.master.blocks ppn protection first) (with_puts puts c)
   making_leads = record {
     known = record {
-      layout = held.known.layout;
       chain = refl;
       names = map_values-insert nat_cmp_total nat_cmp-IsAntisymmetric entry_of m.directories ppn
           (bare_directory protection 0 (first ∷ [])) ∙ sym names;

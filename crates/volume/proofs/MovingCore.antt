@@ -161,7 +161,7 @@ module _ (size : ℕ) (c c' : VolumeCore) (ppn : ℕ) (name : FileName) (to_ppn 
   moved_map = record {
     volume = whole.map.volume;
     size_is = is.moved.size_is ∙ whole.map.size_is;
-    chain = subst (IsChain nat_cmp (IsMasterEntryOf 1)) (sym is.moved.master) whole.map.chain;
+    chain = subst (IsChain nat_cmp (IsMasterEntryOf 2)) (sym is.moved.master) whole.map.chain;
     inside = subst (λ (m : ChainState MasterEntry). AllByRecursion (InSpace size) m.blocks)
         (sym is.moved.master) whole.map.inside;
     aligned =

@@ -305,9 +305,8 @@ module _ (size : ℕ) (k k' : Known) (ppn : ℕ) (name : FileName) (to_ppn : ℕ
     prime_at : f.prime ≡ old.0
     prime_at = ap (λ (x : Facts). x.prime) facts
 
-    version : IsVersion 1 c (place_of ppn name) f
-    version = subst (λ (l : ℕ). IsVersion l c (place_of ppn name) f) held.known.layout
-        ((held.stands.mapped.directories ppn stored stored_at).files name f f_at)
+    version : IsVersion m.layout c (place_of ppn name) f
+    version = (held.stands.mapped.directories ppn stored stored_at).files name f f_at
 
     -- which blocks are meant
 
@@ -422,7 +421,7 @@ module _ (size : ℕ) (k k' : Known) (ppn : ℕ) (name : FileName) (to_ppn : ℕ
     new_prime = ap (with_puts puts c) prime_at ∙ beside_table c old.0 (inr moved_across_prime_inside.from)
         ∙ prime_before c ∙ ap Some anew_is
 
-    new_fits : IsPrime 1 (prime_of (place_of to_ppn to) file)
+    new_fits : IsPrime m.layout (prime_of (place_of to_ppn to) file)
     new_fits = record {
       protection = fits;
       mode = version.retrieved.fits.mode;
@@ -432,8 +431,8 @@ module _ (size : ℕ) (k k' : Known) (ppn : ℕ) (name : FileName) (to_ppn : ℕ
     }
 
     -- the other blocks of the file stay
-    new_version : IsVersion 1 (with_puts puts c) (place_of to_ppn to) (in_place_of f file)
-    new_version = version_rewritten 1 c (with_puts puts c) (place_of ppn name) (place_of to_ppn to) f file version refl
+    new_version : IsVersion m.layout (with_puts puts c) (place_of to_ppn to) (in_place_of f file)
+    new_version = version_rewritten m.layout c (with_puts puts c) (place_of ppn name) (place_of to_ppn to) f file version refl
         new_fits new_prime (λ n there.
         let parts = file_parts n in
         let one = few n in
@@ -515,8 +514,7 @@ module _ (size : ℕ) (k k' : Known) (ppn : ℕ) (name : FileName) (to_ppn : ℕ
         (map_moved_across m ppn stored chain name f to_ppn to_stored to_chain to protection)
     new_map = renamed_across size c (with_puts puts c) m ppn stored name f chain to_ppn to_stored to file to_chain
         held.stands stored_at f_at to_stored_at absent is.apart new_chain first_block new_to_chain to_first_block
-        (subst (λ (l : ℕ). IsVersion l (with_puts puts c) (place_of to_ppn to) (in_place_of f file))
-        (sym held.known.layout) new_version)
+        new_version
         (record {
           home = record { first = home_stays 1 (omega arith); second = home_stays 2 (omega arith) };
           others = λ n there none. reached_stays n there
@@ -679,7 +677,6 @@ module _ (size : ℕ) (k k' : Known) (ppn : ℕ) (name : FileName) (to_ppn : ℕ
         (map_moved_across m ppn stored chain name f to_ppn to_stored to_chain to protection) (with_puts puts c)
     moving_across_leads = record {
       known = record {
-        layout = held.known.layout;
         chain = held.known.chain ∙ ap (λ (z : ChainState MasterEntry). z.blocks) (sym is.master);
         names = names;
         each = each_known;

@@ -68,7 +68,7 @@ module _ (size : ℕ) (c c' : VolumeCore) (ppn : ℕ) (name : FileName) (to_ppn 
         moves.moved.removed.was.2
 
     leads_across : (m' : DiskMap) × IsHeld size c'.known m' (with_puts puts d)
-        × (files_of m' ≡ files_moved (files_of m) ppn name to_ppn to protection)
+        × (files_of m' ≡ files_moved (files_of m) ppn name to_ppn to protection) × (m'.layout ≡ m.layout)
     leads_across = (
       map_moved_across m ppn source.0 moves.moved.directory'.chain.blocks name file.0 to_ppn target.0
           moves.moved.target'.chain.blocks to protection,
@@ -76,6 +76,7 @@ module _ (size : ℕ) (c c' : VolumeCore) (ppn : ℕ) (name : FileName) (to_ppn 
           moves.moved m protection moves.prime_is fits source.0 source.1 file.0 file.1 target.0 target.1 d held read,
       moved_across_files m ppn source.0 moves.moved.directory'.chain.blocks name file.0 to_ppn target.0
           moves.moved.target'.chain.blocks to protection source.1 file.1 target.1 moves.moved.apart,
+      refl,
     )
 
   across_of_size : IsMove size c c' ppn name to_ppn to protection key v words puts

@@ -40,7 +40,7 @@ pub one_directory_whole : (size : ℕ) (k k' : Known) (place : ℕ) (directory' 
 one_directory_whole size k k' place directory' whole master directories now same bits unchanged = record {
   volume = whole.volume;
   size_is = same ∙ whole.size_is;
-  chain = subst (IsChain nat_cmp (IsMasterEntryOf 1)) (sym master) whole.chain;
+  chain = subst (IsChain nat_cmp (IsMasterEntryOf 2)) (sym master) whole.chain;
   inside = subst (λ (m : ChainState MasterEntry). AllByRecursion (InSpace size) m.blocks) (sym master) whole.inside;
   aligned =
       let many = ap (λ (ds : List KnownDirectory). length ds) directories
@@ -144,7 +144,6 @@ module _ (size : ℕ) (k k' : Known) (m : DiskMap) (ppn place : ℕ) (word : ℕ
         → IsHeld size k' (with_directory m m.chain ppn after) (with_puts puts c)
     directory_leads new_known entry new_on new_map new_bits = record {
       known = record {
-        layout = held.known.layout;
         chain = held.known.chain ∙ ap (λ (z : ChainState MasterEntry). z.blocks) (sym master);
         names = names entry;
         each = each_known new_known;

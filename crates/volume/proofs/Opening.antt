@@ -97,7 +97,7 @@ keeps_of s s' reads = record {
 
 -- What was read is whole: its table has the bits that the reached blocks ask for.
 pub read_whole : (size first then : ℕ) (k : Known) (t : TableState) (reached : List Bool) → first ≡ size
-    → then ≡ size → IsVolumeSize size → IsChain nat_cmp (IsMasterEntryOf 1) k.master
+    → then ≡ size → IsVolumeSize size → IsChain nat_cmp (IsMasterEntryOf 2) k.master
     → AllByRecursion (InSpace first) k.master.blocks → length k.directories ≡ length k.master.entries
     → AllByRecursion (IsWholeDirectory first) k.directories
     → k.table ≡ record t { booked = cost_of_known k.master k.directories } → t.size ≡ then

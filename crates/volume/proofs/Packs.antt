@@ -1,5 +1,5 @@
 -- The layout of a volume at rest: whatever map or files a disk is known to have, they are in its own layout.
-use Rattle.std.proofs.Common.{◌≡◌, ℕ, ⊎_elim, inl, sym, ap, subst, ◌∙◌, refl}
+use Rattle.std.proofs.Common.{◌≡◌, ℕ, ◌≤◌, ◌<◌, ⊎_elim, inl, sym, ap, subst, ◌∙◌, refl, arith}
 use Rattle.blockdisk.specs.Disk.{Contents, DiskState, LeavesOnly}
 use Rattle.changeset.specs.Crashes.{IsShut}
 use Rattle.changeset.specs.Rest.{AtRest}
@@ -8,8 +8,9 @@ use Rattle.meaning.specs.Layouts.{layout_of, pack_of, SettledStandsOn, StandsOn}
 use Rattle.meaning.specs.Log.{IsGateOpen, IsSettled}
 use Rattle.meaning.specs.Room.{Pack}
 use Rattle.meaning.specs.Stands.{DiskMap}
-use Rattle.meaning.proofs.Layouts.{layout_is, settled_layout}
+use Rattle.meaning.proofs.Layouts.{layout_is, layouts_agree, settled_layout}
 use Rattle.meaning.proofs.Settled.{settled_same}
+use Rattle.volume.specs.HomeBlocks.{KeepsHomes}
 use Rattle.volume.specs.Known.{Known, IsHeld}
 use Rattle.volume.specs.Rest.{RestsAt, StandsForOneOf}
 
@@ -47,6 +48,12 @@ rests_in s pack files size rest = subst (λ (p : Pack). AtRest s (λ c. SettledS
 pub pack_held : (s : DiskState) (k : Known) (m : DiskMap) → AtRest s (IsHeld s.size k m)
     → m.layout ≡ (pack_of s).layout
 pack_held s k m rest = sym (layout_is s.size s.contents _ (rest.all s.contents (λ n closed. refl)).stands.mapped.home)
+
+-- While the home copies stay the layout does.
+pub homes_layout : (s s' : DiskState) → s'.size ≡ s.size → KeepsHomes s.contents s'.contents
+    → (pack_of s').layout ≡ (pack_of s).layout
+homes_layout s s' size keeps = ap (λ (n : ℕ). layout_of n s'.contents) size
+    ∙ layouts_agree s.size s'.contents s.contents (keeps 1 (omega arith)) (keeps 2 (omega arith))
 
 -- With a closed gate contents stand for what they settle to.
 pub settled_here : (pack : Pack) (s : DiskState) (files : Files File) → pack.blocks ≡ s.size → IsShut s

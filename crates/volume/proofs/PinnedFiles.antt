@@ -162,6 +162,7 @@ pinned_sound s c c' failed ppn name key sound is whole same here others = record
       (file_body s.contents (as_known is.version) file.file file.version_is))
       (λ other. sound.read h ok k v (sym (others k other) ∙ at) some) (cases_eq k key);
   written = λ h ok k p at. sound.written h ok k p (ap (λ x. pending_at x.pending k) (sym same) ∙ at);
+  dated = λ h ok k p at. sound.dated h ok k p (ap (λ x. pending_at x.pending k) (sym same) ∙ at);
 }
 
 one_or_more : (n : ℕ) → 0 < n → (n ≡ 1 → ⊥) → 1 < n
@@ -193,13 +194,13 @@ unpinned_sound s c c' failed key v sound was whole pending known bits stays gone
       by_case w now (sound.read h ok key v was some) v.is_current refl)
       (λ other. sound.read h ok k w (sym (others k other) ∙ at) more) (cases_eq k key);
   written = λ h ok k p at. sound.written h ok k p (ap (λ x. pending_at x k) (sym pending) ∙ at);
+  dated = λ h ok k p at. sound.dated h ok k p (ap (λ x. pending_at x k) (sym pending) ∙ at);
 }
   where
     held_by : (m : DiskMap) (contents : Contents) → IsHeld s.size c.known m contents → IsHeld s.size c'.known m contents
     held_by m contents held = record {
       known = subst (λ (k : Known). IsKnownMap k m) (sym known)
           (record {
-            layout = held.known.layout;
             chain = held.known.chain;
             names = held.known.names;
             each = held.known.each;

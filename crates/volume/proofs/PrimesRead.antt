@@ -15,6 +15,7 @@ use Rattle.volume.specs.Pins.{IsKeyOf}
 use Rattle.volume.specs.PrimeBlocks.{file_prime, IsFilePrime}
 use Rattle.volume.specs.Rest.{IsAtRest, IsSoundCore}
 use Rattle.volume.proofs.FoundDirectories.{all_at}
+use Rattle.volume.proofs.LayoutLimits.{wide_prime}
 
 -- the first of the extensions, or 0
 first_of : (further : List Extension) → first_extension further ≡ head_or_zero (extension_numbers further)
@@ -47,7 +48,7 @@ prime_holds s c sound h ppn name key file =
     ∙ ap (λ (x : Facts). head_or_zero x.ribs) facts in
     let whole = all_at (IsWholeDirectory s.size) c.known.directories file.place file.directory sound.whole.map.each
     file.directory_at in
-    let master = all_at (IsMasterEntryOf 1) c.known.master.entries file.place (ppn, file.word)
+    let master = all_at (IsMasterEntryOf 2) c.known.master.entries file.place (ppn, file.word)
     sound.whole.map.chain.are_entries file.there.is in
     let entry = all_at IsFileEntry file.directory.chain.entries file.index (name, file.prime) whole.chain.are_entries
     file.at.is in (
@@ -59,7 +60,7 @@ prime_holds s c sound h ppn name key file =
           words_are = λ i. prime_block (said i) runs (next i);
           ppn_fits = master.ppn;
           ext_fits = entry.ext_fits;
-          fits = subst (λ (l : ℕ). IsPrime l (file_prime ppn name file.version)) held.known.layout
+          fits = wide_prime rest.map.layout (file_prime ppn name file.version)
               (subst (IsPrime rest.map.layout) said version.retrieved.fits);
           few = version.retrieved.few;
           are_runs = version.retrieved.are_runs;

@@ -62,7 +62,7 @@ module _ (size : ℕ) (k k' : Known) (m : DiskMap) (ppn : ℕ) (name : FileName)
     (old : Before) (puts : List Put) (whole : IsWholeMap size k) (is : IsPublished size k k' ppn name at v old puts)
     (stored : StoredDirectory) (stored_at : get m.directories ppn ≡ Some stored) (c : Contents)
     (held : IsHeld size k m c) (f : StoredFile) (facts : facts_of f ≡ known_facts at v.prime v.version)
-    (version : IsVersion 1 c (place_of ppn name) f) where
+    (version : IsVersion m.layout c (place_of ppn name) f) where
   -- which blocks are meant
 
   stored_is : IsKnownDirectory is.directory stored
@@ -140,8 +140,8 @@ module _ (size : ℕ) (k k' : Known) (m : DiskMap) (ppn : ℕ) (name : FileName)
       ⊎_elim (λ grown. absurd (let z = grown_unreached n grown in omega arith)) (λ no. omega arith)
       (some_or_none (times n is.grown)))
 
-  new_version : IsVersion 1 (with_puts puts c) (place_of ppn name) f
-  new_version = version_kept 1 c (with_puts puts c) (place_of ppn name) f version (λ n there.
+  new_version : IsVersion m.layout (with_puts puts c) (place_of ppn name) f
+  new_version = version_kept m.layout c (with_puts puts c) (place_of ppn name) f version (λ n there.
       let g = fresh_times n in
       others n (inr (each_times (InSpace size) (is.grown ++ blocks_reached at v.version) n is.inside
       (omega arith)).from) (new_apart n there))
@@ -189,7 +189,7 @@ module _ (size : ℕ) (k k' : Known) (m : DiskMap) (ppn : ℕ) (name : FileName)
   new_map : HasMap size (with_puts puts c) (map_published m ppn stored is.directory'.chain.blocks name f)
   new_map = published size c (with_puts puts c) m ppn stored name (get stored.files name) f is.directory'.chain.blocks
       held.stands stored_at refl new_chain first_block
-      (subst (λ (l : ℕ). IsVersion l (with_puts puts c) (place_of ppn name) f) (sym held.known.layout) new_version)
+      new_version
       (record {
         home = record {
           first = others 1 (inl (omega arith)) (out_of_chain 1 (inl (omega arith)));
@@ -246,7 +246,7 @@ module _ (size : ℕ) (k k' : Known) (m : DiskMap) (ppn : ℕ) (name : FileName)
 module _ (size : ℕ) (k k' : Known) (m : DiskMap) (ppn : ℕ) (name : FileName) (at : ℕ) (v : KnownVersion)
     (old : Before) (puts : List Put) (whole : IsWholeMap size k) (is : IsPublished size k k' ppn name at v old puts)
     (c : Contents) (held : IsHeld size k m c) (f : StoredFile) (facts : facts_of f ≡ known_facts at v.prime v.version)
-    (version : IsVersion 1 c (place_of ppn name) f) where
+    (version : IsVersion m.layout c (place_of ppn name) f) where
   pub publishing_leads : IsHeld size k'
       (map_published m ppn (stored size k k' m ppn name at v old puts is held.known) is.directory'.chain.blocks name f)
       (with_puts puts c)

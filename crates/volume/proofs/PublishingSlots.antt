@@ -227,6 +227,14 @@ module _ (size : ℕ) (c c' : VolumeCore) (key : ℕ) (p : PendingVersion) (at :
       ))
       (slot_of k (λ (same : k ≡ is.new_key). some_none (sym there ∙ ap (slot c.live) same ∙ is.vacant)))
 
+-- each that is still being written has its moment
+pub published_dated : (size : ℕ) (c c' : VolumeCore) (key : ℕ) (p : PendingVersion) (at : ℕ) (ribs : List ℕ)
+    (puts : List Put) → MakesCurrent size c c' key p at ribs puts → (layout : ℕ) → AreDated layout c
+    → AreDated layout c'
+published_dated size c c' key p at ribs puts is layout dated k q there = ⊎_elim
+    (λ (same : k ≡ key). absurd (some_none (sym there ∙ ap (pending_at c'.pending) same ∙ is.gone)))
+    (λ other. dated k q (sym (is.other_pending k other) ∙ there)) (cases_eq k key)
+
 -- the words of each are there, and nobody reads the new one yet
 pub made_current_bodies : (contents : Contents) (size : ℕ) (c c' : VolumeCore) (key : ℕ) (p : PendingVersion)
     (at : ℕ) (ribs : List ℕ) (puts : List Put) → MakesCurrent size c c' key p at ribs puts → HaveBodies contents c

@@ -32,7 +32,7 @@ use Rattle.volume.proofs.PublishingBlocks.{IsMadeCurrent, IsKept, read_kept, wri
 use Rattle.volume.proofs.PublishingBlocks.{kept_retrieved, kept_put}
 use Rattle.volume.proofs.PublishingCore.{made_current_whole}
 use Rattle.volume.proofs.PublishingLaw.{map_published, published_files, publishing_leads_in, stored, stored_at}
-use Rattle.volume.proofs.PublishingSlots.{made_current_bodies}
+use Rattle.volume.proofs.PublishingSlots.{made_current_bodies, published_dated}
 use Rattle.volume.proofs.PuttingDisk.{ignores_clear}
 use Rattle.volume.proofs.Packs.{pack_held}
 
@@ -172,7 +172,7 @@ module _ {s mid : DiskState} {c c' : VolumeCore} {key : ℕ} {p : PendingVersion
         (file_of p.prime body)))
     committed_crash s' leaves f rests only_now =
         crash_for s s' c.known c'.known at_rest.map new_map f (new_files f)
-        at_rest.rest (files_are s c.known at_rest.map f at_rest.rest rests) (names f rests)
+        at_rest.rest (files_are s c.known at_rest.map f at_rest.rest rests) (names f rests) refl
         (transaction_leaves (λ n. 0 < times n (v.at ∷ v.version.ribs)) puts s mid s' (IsHeld s.size c.known at_rest.map)
         (IsHeld s.size c'.known new_map) ignores not_gate
         (ignores_log s.size c.known at_rest.map sound.whole.map.aligned) ignores_new same.size at_rest.rest
@@ -194,7 +194,9 @@ module _ {s mid : DiskState} {c c' : VolumeCore} {key : ℕ} {p : PendingVersion
 
     pub committed_at : (s' : DiskState) → SameOutside (IsGateOrLog mid.size) (with_puts puts mid.contents) s'.contents
         → NoneOpen s' → IsShut s' → (m : DiskMap) × AtRest s' (IsHeld s.size c'.known m)
-    committed_at s' all none shut = (new_map, committed_rest s' all none shut)
+        × (m.layout ≡ (pack_of s).layout)
+    committed_at s' all none shut =
+        (new_map, committed_rest s' all none shut, pack_held s c.known at_rest.map at_rest.rest)
 
   -- The puts are committed.
 
@@ -243,6 +245,8 @@ module _ {s mid s' : DiskState} {c c' : VolumeCore} {key : ℕ} {p : PendingVers
       let m = after.was_honest h' in
       let h = same.was_honest m in
       committed_bodies sound made_current same h (modified m) s' (put h'))
+      (λ h' ok. published_dated s.size c c' key p v.at v.version.ribs puts made_current.makes_current
+      (pack_of s).layout (sound.dated (same.was_honest (after.was_honest h')) refl))
       (λ h' ok.
       let m = after.was_honest h' in
       let h = same.was_honest m in

@@ -70,7 +70,7 @@ ignores_clear size k m In aligned clear c d same h =
 same_bits : (size : ℕ) (k : Known) (t : TableState) (m : DiskMap) (c : Contents) → ((n : ℕ) → bit t n ≡ bit k.table n)
     → IsHeld size k m c → IsHeld size (record k { table = t }) m c
 same_bits size k t m c same h = record {
-  known = record { layout = h.known.layout; chain = h.known.chain; names = h.known.names; each = h.known.each };
+  known = record { chain = h.known.chain; names = h.known.names; each = h.known.each };
   stands = h.stands;
   master = h.master;
   chains = h.chains;
@@ -246,6 +246,11 @@ module _ {s s' : DiskState} {c : VolumeCore} (sound : IsSoundCore s c false) (sa
       put_bodies s.size c sound.whole key p was s s' false sound h refl (modified h').contents
       (record c { known = record c.known { table = t }; pending = pending }) w block words refl others now long
       (put h'))
+      (λ h' ok k q there. ⊎_elim
+      (λ (here : k ≡ key). let which = some_same (sym now ∙ ap (pending_at pending) (sym here) ∙ there) in
+      subst (λ (u : PendingVersion). u.prime.moment.date < date_limit (pack_of s).layout) which
+      (sound.dated (same.was_honest h') refl key p was))
+      (λ other. sound.dated (same.was_honest h') refl k q (sym (others k other) ∙ there)) (cases_eq k key))
       (λ h' ok. let h : s.honest = same.was_honest h' in
       put_at s s' c.known p.version.blocks sound.whole.map.aligned (sound.rest h refl) same.size
       (modified h') gate_set t (λ n. ap (λ (u : TableState). bit u n) is.1.table))

@@ -25,11 +25,11 @@ use Rattle.volume.specs.declared.pending.PendingVersion.{PendingVersion}
 use Rattle.volume.specs.Known.{blocks_reached, IsHeld}
 use Rattle.volume.specs.Live.{VolumeCore, slot, held_reaches, IsWholePending, IsWholeCore}
 use Rattle.volume.specs.Pins.{version_under, IsReadable}
-use Rattle.volume.specs.Rest.{HasSomeBody, IsSoundCore, RestsAt}
+use Rattle.volume.specs.Rest.{AreDated, HasSomeBody, IsSoundCore, RestsAt}
 use Rattle.volume.proofs.LiveBodies.{read_used, body_stays}
 use Rattle.volume.proofs.Pinning.{total_at, each_slot, current_stands}
 use Rattle.volume.proofs.Starting.{rest_read}
-use Rattle.volume.proofs.Packs.{rests_in}
+use Rattle.volume.proofs.Packs.{homes_layout, rests_in}
 
 -- Reading changes nothing.
 
@@ -53,6 +53,8 @@ sound_read s s' c failed size honest reads sound = record {
       (λ n there. (reads h).still.contents n);
   written = λ h ok key p at. body_stays s.contents s'.contents p.version (sound.written (honest h) ok key p at)
       (λ n there. (reads h).still.contents n);
+  dated = λ h ok. subst (λ (l : ℕ). AreDated l c)
+      (sym (homes_layout s s' size (λ n low. (reads h).still.contents n))) (sound.dated (honest h) ok);
 }
 
 -- What can be read lies in the free space.

@@ -105,7 +105,7 @@ module _ (size : ℕ) (c c' : VolumeCore) (ppn : ℕ) (name : FileName) (key : �
   removed_map = record {
     volume = whole.map.volume;
     size_is = is.removed.size_is ∙ whole.map.size_is;
-    chain = subst (IsChain nat_cmp (IsMasterEntryOf 1)) (sym is.removed.master) whole.map.chain;
+    chain = subst (IsChain nat_cmp (IsMasterEntryOf 2)) (sym is.removed.master) whole.map.chain;
     inside = subst (λ (m : ChainState MasterEntry). AllByRecursion (InSpace size) m.blocks)
         (sym is.removed.master) whole.map.inside;
     aligned =

@@ -301,7 +301,6 @@ module _ (size : ℕ) (k k' : Known) (ppn : ℕ) (name : FileName) (old : ℕ ×
         (with_puts puts c)
     removing_leads_in = record {
       known = record {
-        layout = held.known.layout;
         chain = held.known.chain ∙ ap (λ (z : ChainState MasterEntry). z.blocks) (sym is.master);
         names = names;
         each = each_known;

@@ -20,7 +20,8 @@ use Rattle.volume.specs.Live.{VolumeCore, slot, pending_at, as_known, IsWholeCor
 use Rattle.volume.specs.Removing.{files_removed, RemovesFile}
 use Rattle.volume.specs.Rest.{IsAtRest, IsSoundCore, HasSomeBody, RestsAt, StandsForOneOf, KeepsRead, KeepsEachWritten}
 use Rattle.volume.specs.declared.live.LiveVersion.{LiveVersion}
-use Rattle.volume.proofs.LiveBodies.{HaveBodies, body_stays}
+use Rattle.volume.proofs.LiveBodies.{HaveBodies, body_stays, dated_of}
+use Rattle.volume.proofs.Packs.{pack_held}
 use Rattle.volume.proofs.MakingCurrent.{part_of}
 use Rattle.volume.proofs.MakingDirectories.{files_are, crash_for, rest_for, sound_for, sound_failed}
 use Rattle.volume.proofs.MakingHeld.{ignores_log}
@@ -102,6 +103,10 @@ module _ (s s' : DiskState) (c c' : VolumeCore) (ppn : ℕ) (name : FileName) (k
     leads = removing_leads_in s.size c.known c'.known ppn name (v.at, as_known v) puts whole.map is.removed at_rest.map
         found.0 found.1 s.contents held
 
+    kept_layout : new_map.layout ≡ at_rest.map.layout
+    unfolding new_map
+    kept_layout = refl
+
     names : (f : Files File) → RestsAt s f → files_of new_map ≡ files_removed f ppn name
     unfolding new_map
     names f rests =
@@ -112,7 +117,7 @@ module _ (s s' : DiskState) (c c' : VolumeCore) (ppn : ℕ) (name : FileName) (k
         → LeavesOnly s s' (StandsForOneOf (pack_of s) f (files_removed f ppn name))
     removed_crash f rests leaves =
         crash_for s s' c.known c'.known at_rest.map new_map f (files_removed f ppn name)
-        at_rest.rest (files_are s c.known at_rest.map f at_rest.rest rests) (names f rests)
+        at_rest.rest (files_are s c.known at_rest.map f at_rest.rest rests) (names f rests) kept_layout
         (commit_leaves puts s s' (IsHeld s.size c.known at_rest.map) (IsHeld s.size c'.known new_map)
         (ignores_log s.size c.known at_rest.map whole.map.aligned)
         (ignores_log s.size c'.known new_map now_whole.map.aligned) at_rest.rest leads (leaves at_rest.rest.shut))
@@ -130,7 +135,9 @@ module _ (s s' : DiskState) (c c' : VolumeCore) (ppn : ℕ) (name : FileName) (k
 
     pub removed_at : SameOutside (IsGateOrLog s.size) (with_puts puts s.contents) s'.contents → NoneOpen s'
         → (IsShut s → IsShut s') → (m : DiskMap) × AtRest s' (IsHeld s.size c'.known m)
-    removed_at all none shut = (new_map, committed all none shut)
+        × (m.layout ≡ (pack_of s).layout)
+    removed_at all none shut =
+        (new_map, committed all none shut, kept_layout ∙ pack_held s c.known at_rest.map at_rest.rest)
 
   -- a volume that was sound is sound
   pub removed_sound : (failed : Bool) → IsSoundCore s c failed → SameDisk s s'
@@ -145,4 +152,5 @@ module _ (s s' : DiskState) (c c' : VolumeCore) (ppn : ℕ) (name : FileName) (k
         read = λ k u there some. sound.read h ok k u there some;
         written = λ k q there. sound.written h ok k q there;
       }))
+      (λ h' ok. dated_of (pack_of s).layout c c' is.pending (sound.dated (same.was_honest h') ok))
       (λ h' ok. removed_at (sound.rest (same.was_honest h') ok) (all h') (none h') (shut h'))

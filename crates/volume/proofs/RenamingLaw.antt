@@ -185,9 +185,8 @@ module _ (size : ℕ) (k k' : Known) (m : DiskMap) (ppn : ℕ) (name to : FileNa
   prime_at : f.prime ≡ old.0
   prime_at = ap (λ (x : Facts). x.prime) facts
 
-  version : IsVersion 1 c (place_of ppn name) f
-  version = subst (λ (l : ℕ). IsVersion l c (place_of ppn name) f) held.known.layout
-      ((held.stands.mapped.directories ppn stored stored_at).files name f f_at)
+  version : IsVersion m.layout c (place_of ppn name) f
+  version = (held.stands.mapped.directories ppn stored stored_at).files name f f_at
 
   -- which blocks are meant
 
@@ -283,7 +282,7 @@ module _ (size : ℕ) (k k' : Known) (m : DiskMap) (ppn : ℕ) (name to : FileNa
   new_prime = ap (with_puts puts c) prime_at ∙ prime_put size k k' ppn name to old v words puts whole is c
       ∙ ap Some anew_is
 
-  new_fits : IsPrime 1 (prime_of (place_of ppn to) file)
+  new_fits : IsPrime m.layout (prime_of (place_of ppn to) file)
   new_fits = record {
     protection = fits;
     mode = version.retrieved.fits.mode;
@@ -292,8 +291,8 @@ module _ (size : ℕ) (k k' : Known) (m : DiskMap) (ppn : ℕ) (name to : FileNa
     few = version.retrieved.fits.few;
   }
 
-  new_version : IsVersion 1 (with_puts puts c) (place_of ppn to) (in_place_of f file)
-  new_version = version_rewritten 1 c (with_puts puts c) (place_of ppn name) (place_of ppn to) f file version refl
+  new_version : IsVersion m.layout (with_puts puts c) (place_of ppn to) (in_place_of f file)
+  new_version = version_rewritten m.layout c (with_puts puts c) (place_of ppn name) (place_of ppn to) f file version refl
       new_fits new_prime (λ n there.
       others_put size k k' ppn name to old v words puts whole is c n
       (λ same. let some = prime_reached n same in let parts = file_parts n in let one = few n in
@@ -343,8 +342,7 @@ module _ (size : ℕ) (k k' : Known) (m : DiskMap) (ppn : ℕ) (name to : FileNa
   new_map : HasMap size (with_puts puts c) (map_moved m ppn stored chain name to f protection)
   new_map = renamed_within size c (with_puts puts c) m ppn stored name to f file chain
       held.stands stored_at f_at free new_chain first_block
-      (subst (λ (l : ℕ). IsVersion l (with_puts puts c) (place_of ppn to) (in_place_of f file)) (sym held.known.layout)
-      new_version)
+      new_version
       (record {
         home = record { first = stays_out 1 (inl (omega arith)); second = stays_out 2 (inl (omega arith)) };
         others = λ n there none. reached_stays n (let s = stored_times n in omega arith);

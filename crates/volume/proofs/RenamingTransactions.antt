@@ -32,7 +32,7 @@ use Rattle.volume.specs.Rest.{IsAtRest, IsSoundCore, RestsAt, StandsForOneOf, Ke
 use Rattle.volume.specs.declared.live.LiveVersion.{LiveVersion}
 use Rattle.volume.specs.declared.pending.PendingVersion.{PendingVersion}
 use Rattle.volume.proofs.HomesKept.{past_homes, moved_low}
-use Rattle.volume.proofs.LiveBodies.{HaveBodies}
+use Rattle.volume.proofs.LiveBodies.{HaveBodies, dated_of}
 use Rattle.volume.proofs.MakingDirectories.{files_are, crash_for, rest_for, sound_for, sound_failed}
 use Rattle.volume.proofs.MakingHeld.{ignores_log}
 use Rattle.volume.proofs.MakingLaw.{bit_few}
@@ -163,7 +163,7 @@ pub record IsMove (size : ℕ) (c c' : VolumeCore) (ppn : ℕ) (name : FileName)
   pub spares : (n : ℕ) → IsKept size c n → (n ≡ v.at → ⊥) → IsPutIn puts n → ⊥
   pub leads : (m : DiskMap) (d : Contents) → IsHeld size c.known m d → d v.at ≡ Some words → (m' : DiskMap)
       × IsHeld size c'.known m' (with_puts puts d)
-      × (files_of m' ≡ files_moved (files_of m) ppn name to_ppn to protection)
+      × (files_of m' ≡ files_moved (files_of m) ppn name to_ppn to protection) × (m'.layout ≡ m.layout)
 
 -- The puts are committed.
 
@@ -211,6 +211,7 @@ module _ {s mid : DiskState} {c c' : VolumeCore} {ppn : ℕ} {name : FileName} {
 
     leads : (m : DiskMap) × IsHeld s.size c'.known m (with_puts puts mid.contents)
         × (files_of m ≡ files_moved (files_of rest.map) ppn name to_ppn to protection)
+        × (m.layout ≡ rest.map.layout)
     leads = move.leads rest.map mid.contents
         ((mid_rest s mid c sound same h keeps).all mid.contents (λ n closed. refl)) (keeps.contents v.at ∙ read)
 
@@ -231,7 +232,7 @@ module _ {s mid : DiskState} {c c' : VolumeCore} {ppn : ℕ} {name : FileName} {
         → LeavesOnly s s' (StandsForOneOf (pack_of s) files (files_moved files ppn name to_ppn to protection))
     move_crash s' leaves files rests only_now =
         crash_for s s' c.known c'.known rest.map new_map files (files_moved files ppn name to_ppn to protection)
-        rest.rest (files_are s c.known rest.map files rest.rest rests) (names files rests)
+        rest.rest (files_are s c.known rest.map files rest.rest rests) (names files rests) leads.3
         (transaction_leaves Nowhere puts s mid s' (IsHeld s.size c.known rest.map)
         (IsHeld s.size c'.known new_map) (ignores_nothing (IsHeld s.size c.known rest.map)) (λ none. none)
         (ignores_log s.size c.known rest.map sound.whole.map.aligned) ignores_new same.size rest.rest
@@ -253,7 +254,9 @@ module _ {s mid : DiskState} {c c' : VolumeCore} {ppn : ℕ} {name : FileName} {
 
     move_at : (s' : DiskState) → SameOutside (IsGateOrLog mid.size) (with_puts puts mid.contents) s'.contents
         → NoneOpen s' → IsShut s' → (m : DiskMap) × AtRest s' (IsHeld s.size c'.known m)
-    move_at s' all none shut = (new_map, move_rest s' all none shut)
+        × (m.layout ≡ (pack_of s).layout)
+    move_at s' all none shut =
+        (new_map, move_rest s' all none shut, leads.3 ∙ pack_held s c.known rest.map rest.rest)
 
   -- The whole of it: a volume that was sound is sound.
 
@@ -270,6 +273,8 @@ module _ {s mid : DiskState} {c c' : VolumeCore} {ppn : ℕ} {name : FileName} {
         (λ h' ok.
         let m = after.was_honest h' in
         move_bodies (keeps m) s' (put h') (same.was_honest m))
+        (λ h' ok. dated_of (pack_of s).layout c c' move.pending
+        (sound.dated (same.was_honest (after.was_honest h')) refl))
         (λ h' ok.
         let m = after.was_honest h' in
         let h = same.was_honest m in
@@ -309,12 +314,13 @@ module _ (size : ℕ) (c c' : VolumeCore) (ppn : ℕ) (name to : FileName) (prot
         moves.moved.entry.was.2
 
     leads_within : (m' : DiskMap) × IsHeld size c'.known m' (with_puts puts d)
-        × (files_of m' ≡ files_moved (files_of m) ppn name ppn to protection)
+        × (files_of m' ≡ files_moved (files_of m) ppn name ppn to protection) × (m'.layout ≡ m.layout)
     leads_within = (
       map_moved m ppn stored.0 moves.moved.directory'.chain.blocks name to file.0 protection,
       moving_leads size c.known c'.known m ppn name to protection (v.at, as_known v) with_prime words puts whole.map
           moves.moved moves.prime_is fits stored.0 stored.1 file.0 file.1 d held read,
       moved_files m ppn stored.0 moves.moved.directory'.chain.blocks name to file.0 protection stored.1 file.1,
+      refl,
     )
 
   within_of_size : IsMove size c c' ppn name ppn to protection key v words puts

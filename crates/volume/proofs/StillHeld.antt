@@ -1,5 +1,5 @@
 -- Core and disk agree while versions are begun and dropped: the map is the one that it was.
-use Rattle.std.proofs.Common.{◌≡◌, ℕ, Bool, true, false, if◌then◌else◌, List, [], Some, None, refl, sym, ap, subst}
+use Rattle.std.proofs.Common.{◌≡◌, ℕ, ◌<◌, Bool, true, false, if◌then◌else◌, List, [], Some, None, refl, sym, ap, subst}
 use Rattle.std.proofs.Common.{◌∙◌, ⊎_elim}
 use Rattle.std.proofs.lemmas.Bool.{cases_eq}
 use Rattle.blockdisk.specs.Disk.{Contents, DiskState}
@@ -10,7 +10,9 @@ use Rattle.volume.specs.declared.pending.PendingVersion.{PendingVersion}
 use Rattle.volume.specs.declared.pending.Kind.{Kind}
 use Rattle.volume.specs.Known.{Known, KnownVersion, Before, IsHeld, IsWholeMap}
 use Rattle.volume.specs.Live.{VolumeCore, slot, pending_at, IsWholeCore}
-use Rattle.volume.specs.Rest.{IsAtRest, HasSomeBody, IsSoundCore}
+use Rattle.meaning.specs.Layouts.{pack_of}
+use Rattle.meaning.specs.Retrieval.{date_limit}
+use Rattle.volume.specs.Rest.{AreDated, IsAtRest, HasSomeBody, IsSoundCore}
 use Rattle.volume.specs.Beginning.{is_update, no_words, shared_body, begun_version, begun, IsBegun}
 
 -- other counts in the table
@@ -20,7 +22,7 @@ counting k held booked = record k { table = record k.table { held = held; booked
 counts_held : (size : ℕ) (k : Known) (held : List ℕ) (booked : ℕ) (m : DiskMap) (contents : Contents)
     → IsHeld size k m contents → IsHeld size (counting k held booked) m contents
 counts_held size k held booked m contents is = record {
-  known = record { layout = is.known.layout; chain = is.known.chain; names = is.known.names; each = is.known.each };
+  known = record { chain = is.known.chain; names = is.known.names; each = is.known.each };
   stands = is.stands;
   master = is.master;
   chains = is.chains;
@@ -55,12 +57,14 @@ pub counts_sound : (s : DiskState) (c c' : VolumeCore) (failed : Bool) (size : �
     → ((k : ℕ) (p : PendingVersion) → pending_at c'.pending k ≡ Some p → (contents : Contents)
     → ((q : PendingVersion) → pending_at c.pending k ≡ Some q → HasSomeBody contents q.version)
     → HasSomeBody contents p.version)
+    → ((layout : ℕ) → AreDated layout c → AreDated layout c')
     → IsSoundCore s c' failed
-counts_sound s c c' failed size held booked sound same whole live known written = record {
+counts_sound s c c' failed size held booked sound same whole live known written dated = record {
   whole = subst (λ (b : ℕ). IsWholeCore b c') same whole;
   rest = λ h ok. subst (IsAtRest s) (sym known) (counts_rest s c.known held booked (sound.rest h ok));
   read = λ h ok key v is. sound.read h ok key v (ap (λ l. slot l key) (sym live) ∙ is);
   written = λ h ok key p is. written key p is s.contents (λ q was. sound.written h ok key q was);
+  dated = λ h ok. dated (pack_of s).layout (sound.dated h ok);
 }
 
 -- a version of no words
@@ -83,8 +87,9 @@ pub begun_sound : (s : DiskState) (c c' : VolumeCore) (failed : Bool) (size key 
     → IsSoundCore s c failed → size ≡ c'.known.table.size → IsWholeCore size c' → (begins : IsBegun c c' key kind prime)
     → (s.honest → failed ≡ false → (v : ℕ × KnownVersion) → begins.old ≡ Some v
     → HasSomeBody s.contents v.1.version)
+    → (s.honest → failed ≡ false → (begun kind prime begins.old).prime.moment.date < date_limit (pack_of s).layout)
     → IsSoundCore s c' failed
-begun_sound s c c' failed size key kind prime sound is whole begins has = record {
+begun_sound s c c' failed size key kind prime sound is whole begins has timely = record {
   whole = subst (λ (b : ℕ). IsWholeCore b c') (is ∙ ap (λ k. k.table.size) begins.known
       ∙ sound.whole.map.size_is) whole;
   rest = λ h ok. subst (IsAtRest s) (sym begins.known) (counts_rest s c.known c'.known.table.held _ (sound.rest h ok));
@@ -96,6 +101,12 @@ begun_sound s c c' failed size key kind prime sound is whole begins has = record
       subst (λ (q : PendingVersion). HasSomeBody s.contents q.version) both
       (begun_body s.contents kind begins.old (has h ok)))
       (λ other. sound.written h ok k p (sym (begins.others k other) ∙ there)) (cases_eq k key);
+  dated = λ h ok k p there. ⊎_elim
+      (λ (same : k ≡ key).
+      let both : begun kind prime begins.old
+      ≡ p = some_same (sym begins.here ∙ sym (ap (pending_at c'.pending) same) ∙ there) in
+      subst (λ (q : PendingVersion). q.prime.moment.date < date_limit (pack_of s).layout) both (timely h ok))
+      (λ other. sound.dated h ok k p (sym (begins.others k other) ∙ there)) (cases_eq k key);
 }
 
 -- a version less
@@ -109,3 +120,6 @@ dropped_sound s c c' failed size key held booked sound is whole gone others live
     (λ k p there contents old. ⊎_elim
     (λ (same : k ≡ key). absurd (some_none (sym there ∙ ap (pending_at c'.pending) same ∙ gone)))
     (λ other. old p (sym (others k other) ∙ there)) (cases_eq k key))
+    (λ layout dated k p there. ⊎_elim
+    (λ (same : k ≡ key). absurd (some_none (sym there ∙ ap (pending_at c'.pending) same ∙ gone)))
+    (λ other. dated k p (sym (others k other) ∙ there)) (cases_eq k key))

@@ -99,14 +99,14 @@ module _ (size : ℕ) (k k' : Known) (m : DiskMap) (ppn : ℕ) (puts : List Put)
 
   new_master : IsMasterChain (with_puts puts c) k'.master.blocks (remove (entries_of m) ppn)
   new_master =
-      let dir = chain_stands {R = nat_cmp} master_words (IsMasterEntryOf 1)
+      let dir = chain_stands {R = nat_cmp} master_words (IsMasterEntryOf 2)
       (with_puts puts c) k'.master removed.chain new_on in
       record {
         nodes = dir.nodes;
         spelled = dir.spelled;
         filled = dir.filled;
         blocks_are = dir.blocks_are;
-        are_entries = all_each (IsMasterEntryOf 1) IsMasterEntry (items dir.nodes) (λ e good. good.ppn) dir.are_entries;
+        are_entries = all_each (IsMasterEntryOf 2) IsMasterEntry (items dir.nodes) (λ e good. good.ppn) dir.are_entries;
         each_once = dir.each_once;
         map_is = dir.map_is ∙ names;
       }
@@ -173,7 +173,6 @@ module _ (size : ℕ) (k k' : Known) (m : DiskMap) (ppn : ℕ) (puts : List Put)
   pub removing_leads : IsHeld size k' (without_directory m k'.master.blocks ppn) (with_puts puts c)
   removing_leads = record {
     known = record {
-      layout = held.known.layout;
       chain = refl;
       names = map_values-remove nat_cmp_total nat_cmp-IsAntisymmetric entry_of m.directories ppn ∙ sym names;
       each = each_known;

@@ -55,8 +55,8 @@ count_left (Some x) n is = is
 
 -- a chain gives back what it costs less with an entry less
 pub chain_less : (chain chain' : ChainState words.MasterEntry) (left : List ℕ)
-    → IsChain nat_cmp (IsMasterEntryOf 1) chain
-    → IsChain nat_cmp (IsMasterEntryOf 1) chain' → chain.blocks ≡ chain'.blocks ++ left
+    → IsChain nat_cmp (IsMasterEntryOf 2) chain
+    → IsChain nat_cmp (IsMasterEntryOf 2) chain' → chain.blocks ≡ chain'.blocks ++ left
     → length chain'.entries + 1 ≡ length chain.entries
     → length left ≡ directory_cost (length chain.entries) - directory_cost (length chain.entries - 1)
 chain_less chain chain' left is is' blocks fewer =
@@ -142,7 +142,7 @@ module _ (m : LiveMap) (whole : IsWholeCore m.table.size (core_of m)) (ppn place
         pub changes_many : length set + changed_blocks t3 ≤ 37
         changes_many = changed_many t3 (length set) marks_all.sound few
 
-        module _ (chain : IsChain nat_cmp (IsMasterEntryOf 1) (viewed master_view master))
+        module _ (chain : IsChain nat_cmp (IsMasterEntryOf 2) (viewed master_view master))
             (items : map master_view master.entries ≡ removed nat_cmp (map master_view m.master.entries) ppn)
             (names : from_entries {R = nat_cmp} (map master_view master.entries)
             ≡ remove (from_entries (map master_view m.master.entries)) ppn)
@@ -186,7 +186,7 @@ module _ (m : LiveMap) (whole : IsWholeCore m.table.size (core_of m)) (ppn place
                 no_entries = no_entries;
                 one_block = one_block;
                 left = option_to_list left;
-                chain = subst (λ x. IsChain nat_cmp (IsMasterEntryOf 1) (viewed master_view x)) (sym master_is) chain;
+                chain = subst (λ x. IsChain nat_cmp (IsMasterEntryOf 2) (viewed master_view x)) (sym master_is) chain;
                 blocks = blocks ∙ ap (λ (x : ChainState MasterEntry). x.blocks ++ option_to_list left) (sym master_is);
                 entries = ap (λ (x : ChainState MasterEntry). map master_view x.entries) master_is ∙ items;
                 names = ap (λ (x : ChainState MasterEntry). from_entries (map master_view x.entries)) master_is ∙ names;

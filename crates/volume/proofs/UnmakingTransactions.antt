@@ -17,7 +17,8 @@ use Rattle.volume.specs.Known.{Known, IsHeld, IsWholeMap}
 use Rattle.volume.specs.Live.{VolumeCore}
 use Rattle.volume.specs.RemovingDirectories.{directory_removed, IsDirectoryRemoved, RemovesDirectory}
 use Rattle.volume.specs.Rest.{IsAtRest, IsSoundCore, RestsAt, StandsForOneOf, KeepsRead, KeepsEachWritten}
-use Rattle.volume.proofs.LiveBodies.{bodies_stay, bodies_of, used_read, used_written}
+use Rattle.volume.proofs.LiveBodies.{bodies_stay, bodies_of, dated_of, used_read, used_written}
+use Rattle.volume.proofs.Packs.{pack_held}
 use Rattle.volume.proofs.MakingDirectories.{files_are, crash_for, rest_for, sound_for, sound_failed}
 use Rattle.volume.proofs.MakingHeld.{ignores_log}
 use Rattle.volume.proofs.UnmakingCore.{removed_aligned, removed_core, not_written}
@@ -50,7 +51,7 @@ module _ (s s' : DiskState) (k k' : Known) (ppn : ℕ) (puts : List Put) (whole 
       → LeavesOnly s s' (StandsForOneOf (pack_of s) f (directory_removed f ppn))
   removed_crash f rests leaves =
       crash_for s s' k k' at.map next f (directory_removed f ppn) at.rest
-      (files_are s k at.map f at.rest rests) (files_next f rests)
+      (files_are s k at.map f at.rest rests) (files_next f rests) refl
       (commit_leaves puts s s' (IsHeld s.size k at.map) (IsHeld s.size k' next)
       (ignores_log s.size k at.map whole.aligned) ignores at.rest leads leaves)
 
@@ -59,8 +60,8 @@ module _ (s s' : DiskState) (k k' : Known) (ppn : ℕ) (puts : List Put) (whole 
     rest : AtRest s' (IsHeld s.size k' next)
     rest = commit_rest puts s s' (IsHeld s.size k' next) ignores leads all none shut
 
-    pub removed_at : (m : DiskMap) × AtRest s' (IsHeld s.size k' m)
-    removed_at = (next, rest)
+    pub removed_at : (m : DiskMap) × AtRest s' (IsHeld s.size k' m) × (m.layout ≡ (pack_of s).layout)
+    removed_at = (next, rest, pack_held s k at.map at.rest)
 
     pub removed_done : (f : Files File) → RestsAt s f → s'.size ≡ s.size → RestsAt s' (directory_removed f ppn)
     removed_done f rests size = rest_for s s' k' next (directory_removed f ppn) size (files_next f rests) rest
@@ -93,6 +94,7 @@ module _ (s s' : DiskState) (c c' : VolumeCore) (failed : Bool) (ppn : ℕ) (put
       (bodies_stay s c failed s'.contents sound (was h') ok
       (λ n is. (modified h').contents n
       (not_written s.size c.known c'.known ppn puts sound.whole.map removes.removed n is.from is.apart))))
+      (λ h' ok. dated_of (pack_of s).layout c c' removes.pending (sound.dated (was h') ok))
       (λ h' ok.
       let at = sound.rest (was h') ok in
       removed_at s s' c.known c'.known ppn puts sound.whole.map removes.removed at (all h') (none h')

@@ -9,10 +9,10 @@ use Rattle.retrieval.specs.declared.prime.Prime.{Prime as PrimeValue}
 use Rattle.volume.specs.Facts.{facts_of, known_facts}
 use Rattle.volume.specs.FileReading.{IsFileFound}
 
-pub facts_found : (contents : Contents) (place : Place) (at : ℕ) (prime : PrimeValue) (v : VersionState)
-    → (found : IsFileFound contents place at prime v)
+pub facts_found : (layout : ℕ) (contents : Contents) (place : Place) (at : ℕ) (prime : PrimeValue) (v : VersionState)
+    → (found : IsFileFound layout contents place at prime v)
     → facts_of found.file ≡ known_facts at prime v
-facts_found contents place at prime v found = λ i. record {
+facts_found layout contents place at prime v found = λ i. record {
   protection = (found.facts_are i).protection;
   mode = (found.facts_are i).mode;
   time = (found.facts_are i).time;
@@ -24,8 +24,8 @@ facts_found contents place at prime v found = λ i. record {
 }
 
 -- It reaches the blocks that were marked.
-pub found_reaches : (contents : Contents) (place : Place) (at : ℕ) (prime : PrimeValue) (v : VersionState)
-    → (found : IsFileFound contents place at prime v)
+pub found_reaches : (layout : ℕ) (contents : Contents) (place : Place) (at : ℕ) (prime : PrimeValue) (v : VersionState)
+    → (found : IsFileFound layout contents place at prime v)
     → (n : ℕ) → reaches_in_file n found.file ≡ times n (at ∷ (v.ribs ++ v.blocks))
-found_reaches contents place at prime v found n = λ i.
+found_reaches layout contents place at prime v found n = λ i.
     times n (found.prime_is i ∷ (found.ribs_are i ++ found.blocks_are i))

@@ -130,7 +130,8 @@ impl<D: Disk> Volume<D> {
             return Err(CallError::Failed);
         }
         let i = directory_place(&self.map.master, ppn)?;
-        Ok(self.map.master.entries()[i].protection)
+        let entry = self.map.master.entries()[i];
+        Ok(entry.protection)
     }
 
     /// The facts of a file.

@@ -3,6 +3,7 @@ use Rattle.std.specs.List.{AllByRecursion}
 use Rattle.std.proofs.lemmas.Result.{err_from_is_err_and}
 use Rattle.blockdisk.specs.Laws.{same_contents}
 use Rattle.blockdisk.specs.Disk.{Contents, IsWholeBlock}
+use Rattle.meaning.specs.Layouts.{layout_number}
 use Rattle.meaning.specs.Faults.{InSpace}
 use Rattle.blockdisk.specs.Laws.{keeps_on}
 use Rattle.volume.specs.FileReading.{IsVersionRefusal, IsDataRefusal, IsFileRefusal}
@@ -54,7 +55,7 @@ pub returns-in-Err-clause-twice : goal.returns-in-Err-clause-twice
 returns-in-Err-clause-twice g c h k is =
     let s = g.D.Disk.state c.args.disk.now in
     let v = c.in_ok-stored.stored in
-    reached_twice s.size s.contents c.args.ppn c.args.name c.args.prime v.prime v.version
+    reached_twice s.size (layout_number c.args.layout) s.contents c.args.ppn c.args.name c.args.prime v.prime v.version
     (c.in_ok-stored.ensures.ok h) c.in_ok-stored.ensures.name c.in_ok-stored.ensures.ppn
     c.args.reached.now k (c.mark_version.ensures.twice k (cc))
 
@@ -88,7 +89,7 @@ returns-in_err-read_data-clause-bad_data g c h k is =
     let bad = c.read_data.ensures.damaged h k
     (passed_on c.from_residual-in_err-read_data.result c.read_data.result p.0 c.in_err-read_data.field-0.0
     (BadData k) is p.1 p.2 c.in_err-read_data.was) in
-    damaged_data s.size s.contents c.args.ppn c.args.name c.args.prime v.prime v.version
+    damaged_data s.size (layout_number c.args.layout) s.contents c.args.ppn c.args.name c.args.prime v.prime v.version
     (c.in_ok-stored.ensures.ok (c.read_data.ensures.same.was_honest h)) c.in_ok-stored.ensures.name
     c.in_ok-stored.ensures.ppn
     k (bad.0)
@@ -112,7 +113,7 @@ returns-clause-ok g c h =
     let read = g.D.Disk.state c.read_named.new.disk in
     let v = c.in_ok-stored.stored in
     let whole : AllByRecursion (IsWholeBlock read.contents) v.version.blocks = (c.in_ok-read_data.ensures.ok h) in
-    file_found s.size s.contents c.args.ppn c.args.name c.args.prime v.prime v.version
+    file_found s.size (layout_number c.args.layout) s.contents c.args.ppn c.args.name c.args.prime v.prime v.version
     (c.in_ok-stored.ensures.ok (c.in_ok-read_data.ensures.same.was_honest h)) c.in_ok-stored.ensures.name
     c.in_ok-stored.ensures.ppn
     (subst (λ (d : Contents). AllByRecursion (IsWholeBlock d) v.version.blocks)

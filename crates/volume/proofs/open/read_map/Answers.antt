@@ -8,13 +8,16 @@ use Rattle.alloctab.specs.Inside.{InTable}
 use Rattle.alloctab.specs.Lists.{digit_at}
 use Rattle.alloctab.specs.TableState.{TableState}
 use Rattle.directory.specs.Chains.{viewed}
+use Rattle.directory.specs.ChainLaws.{chain_weaker}
+use Rattle.meaning.specs.Layouts.{layout_number}
 use Rattle.volume.specs.Cores.{master_view, known_directory}
 use Rattle.volume.specs.Known.{cost_of_known}
-use Rattle.volume.specs.Homes.{home_of_master}
+use Rattle.volume.specs.Homes.{home_in}
 use Rattle.volume.specs.Found.{IsOnlySpace, IsMapFound, IsRightFor, IsWrongFor}
 use Rattle.volume.specs.FaultsFound.{NamesInSpace, SettledRefuses}
 use Rattle.volume.proofs.Handing.{handed, found_on, home_named, table_named, named_on}
 use Rattle.volume.proofs.FoundMaps.{map_found, map_held, table_fault}
+use Rattle.volume.proofs.LayoutLimits.{wide_entry}
 use Rattle.volume.proofs.Opening.{table_refused, right_bits, read_whole, read_booked}
 use Rattle.changeset.proofs.Reading.{only_reads_on}
 use Rattle.volume.proofs.open.read_map.Goals as goal
@@ -26,10 +29,12 @@ returns-in_err-master-clause-fault g c h =
     let p = err_from_is_err_and c.from_residual-in_err-master.result c.from_residual-in_err-master.ensures.1 in
     let same = same_contents s.contents now.contents
     (c.read_home.ensures.reads (c.read_tree.ensures.same.was_honest h)).still.contents in
-    let home : IsHome now.size now.contents (home_of_master c.in_ok-first.first) =
-    subst (λ (n : ℕ). IsHome n now.contents (home_of_master c.in_ok-first.first)) (sym c.read_home.ensures.same.size)
-    (subst (λ (contents : Contents). IsHome s.size contents (home_of_master c.in_ok-first.first)) (sym same)
-    (c.in_ok-first.ensures.ok (c.read_tree.ensures.same.was_honest h))) in
+    let first = c.in_ok-home.home.master in
+    let layout = layout_number c.in_ok-home.home.layout in
+    let home : IsHome now.size now.contents (home_in layout first) =
+    subst (λ (n : ℕ). IsHome n now.contents (home_in layout first)) (sym c.read_home.ensures.same.size)
+    (subst (λ (contents : Contents). IsHome s.size contents (home_in layout first)) (sym same)
+    (c.in_ok-home.ensures.ok (c.read_tree.ensures.same.was_honest h))) in
     handed (SettledRefuses s.size s.contents) c.from_residual-in_err-master.result c.read_tree.result p.0
     c.in_err-master.field-0.0 p.1 p.2 c.in_err-master.was
     (found_on (SettledRefuses now.size now.contents) (SettledRefuses s.size s.contents) c.read_tree.result
@@ -71,17 +76,18 @@ returns-in_err-table-clause-fault g c h =
     ∙ (c.read_home.ensures.reads
     (c.read_tree.ensures.same.was_honest (c.load_table.ensures.same.was_honest h))).still.contents n) in
     let sizes : then.size ≡ s.size = c.read_tree.ensures.same.size ∙ size in
-    let first = c.in_ok-first.first in
-    let home : IsHome now.size now.contents (home_of_master first) =
-    subst (λ (n : ℕ). IsHome n now.contents (home_of_master first)) (sym size)
-    (subst (λ (contents : Contents). IsHome s.size contents (home_of_master first)) (sym same)
-    (c.in_ok-first.ensures.ok (c.read_tree.ensures.same.was_honest (c.load_table.ensures.same.was_honest h)))) in
+    let first = c.in_ok-home.home.master in
+    let layout = layout_number c.in_ok-home.home.layout in
+    let home : IsHome now.size now.contents (home_in layout first) =
+    subst (λ (n : ℕ). IsHome n now.contents (home_in layout first)) (sym size)
+    (subst (λ (contents : Contents). IsHome s.size contents (home_in layout first)) (sym same)
+    (c.in_ok-home.ensures.ok (c.read_tree.ensures.same.was_honest (c.load_table.ensures.same.was_honest h)))) in
     let master = viewed master_view c.in_ok-master.master in
     let directories = map known_directory c.in_ok-master.directories.items in
     let reached = c.read_tree.new.reached in
-    let read : IsMapFound s.size s.contents first master directories (digit_at reached) =
-    subst (λ (contents : Contents). IsMapFound s.size contents first master directories (digit_at reached)) same
-    (subst (λ (n : ℕ). IsMapFound n now.contents first master directories (digit_at reached)) size
+    let read : IsMapFound s.size s.contents layout first master directories (digit_at reached) =
+    subst (λ (contents : Contents). IsMapFound s.size contents layout first master directories (digit_at reached)) same
+    (subst (λ (n : ℕ). IsMapFound n now.contents layout first master directories (digit_at reached)) size
     (c.in_ok-master.ensures.read (c.load_table.ensures.same.was_honest h) home)) in
     let only : IsOnlySpace s.size reached = subst (λ (n : ℕ). IsOnlySpace n reached) size
     c.in_ok-master.ensures.space in
@@ -90,7 +96,7 @@ returns-in_err-table-clause-fault g c h =
     c.in_err-table.field-0.0 p.1 p.2 c.in_err-table.was
     (table_refused s.size s.contents then.contents reached c.load_table.result later c.load_table.ensures.only
     (λ n is. subst (λ (k : ℕ). IsWrongFor k then.contents reached n) sizes (c.load_table.ensures.wrong h n is))
-    (λ n wrong. table_fault s.size s.contents first master directories (digit_at reached) read reached n
+    (λ n wrong. table_fault s.size s.contents layout first master directories (digit_at reached) read reached n
     (λ k. refl) only wrong))
 
 pub returns-clause-held : goal.returns-clause-held
@@ -107,17 +113,18 @@ returns-clause-held g c h =
     ∙ (c.read_home.ensures.reads
     (c.read_tree.ensures.same.was_honest (c.in_ok-table.ensures.same.was_honest h))).still.contents n) in
     let sizes : then.size ≡ s.size = c.read_tree.ensures.same.size ∙ size in
-    let first = c.in_ok-first.first in
-    let home : IsHome now.size now.contents (home_of_master first) =
-    subst (λ (n : ℕ). IsHome n now.contents (home_of_master first)) (sym size)
-    (subst (λ (contents : Contents). IsHome s.size contents (home_of_master first)) (sym same)
-    (c.in_ok-first.ensures.ok (c.read_tree.ensures.same.was_honest (c.in_ok-table.ensures.same.was_honest h)))) in
+    let first = c.in_ok-home.home.master in
+    let layout = layout_number c.in_ok-home.home.layout in
+    let home : IsHome now.size now.contents (home_in layout first) =
+    subst (λ (n : ℕ). IsHome n now.contents (home_in layout first)) (sym size)
+    (subst (λ (contents : Contents). IsHome s.size contents (home_in layout first)) (sym same)
+    (c.in_ok-home.ensures.ok (c.read_tree.ensures.same.was_honest (c.in_ok-table.ensures.same.was_honest h)))) in
     let master = viewed master_view c.in_ok-master.master in
     let directories = map known_directory c.in_ok-master.directories.items in
     let reached = c.read_tree.new.reached in
-    let read : IsMapFound s.size s.contents first master directories (digit_at reached) =
-    subst (λ (contents : Contents). IsMapFound s.size contents first master directories (digit_at reached)) same
-    (subst (λ (n : ℕ). IsMapFound n now.contents first master directories (digit_at reached)) size
+    let read : IsMapFound s.size s.contents layout first master directories (digit_at reached) =
+    subst (λ (contents : Contents). IsMapFound s.size contents layout first master directories (digit_at reached)) same
+    (subst (λ (n : ℕ). IsMapFound n now.contents layout first master directories (digit_at reached)) size
     (c.in_ok-master.ensures.read (c.in_ok-table.ensures.same.was_honest h) home)) in
     let only : IsOnlySpace s.size reached = subst (λ (n : ℕ). IsOnlySpace n reached) size
     c.in_ok-master.ensures.space in
@@ -128,9 +135,10 @@ returns-clause-held g c h =
     ≡ c.in_ok-table.table.bits = ap (λ (t : TableState). t.bits) c.book_map.ensures in
     let booked : IsRightFor s.size s.contents reached c.book_map.new.table = right_bits s.size s.contents
     reached c.in_ok-table.table c.book_map.new.table bits right in (
-      map_found s.size s.contents first master directories (digit_at reached) read,
-      map_held s.size s.contents first master directories (digit_at reached) read reached c.book_map.new.table
+      map_found s.size s.contents layout first master directories (digit_at reached) read,
+      map_held s.size s.contents layout first master directories (digit_at reached) read reached c.book_map.new.table
           (λ k. refl) only booked,
+      refl,
     )
 
 pub returns-clause-booked : goal.returns-clause-booked
@@ -184,19 +192,21 @@ returns-clause-whole g c =
       directories = map known_directory directories.items;
       table = c.book_map.new.table;
     }) c.in_ok-table.table c.read_tree.new.reached size sizes
-    c.in_ok-first.ensures.volume c.in_ok-master.ensures.chain c.in_ok-master.ensures.inside aligned
+    c.in_ok-home.ensures.volume
+    (chain_weaker (wide_entry (layout_number c.in_ok-home.home.layout)) (viewed master_view master)
+    c.in_ok-master.ensures.chain) c.in_ok-master.ensures.inside aligned
     c.in_ok-master.ensures.whole booked
     c.in_ok-table.ensures.size c.in_ok-table.ensures.unchanged c.in_ok-table.ensures.wanted
     c.in_ok-master.ensures.marked
 
 -- The block that is named.
 
-pub returns-in_err-first-clause-named : goal.returns-in_err-first-clause-named
-returns-in_err-first-clause-named g c =
+pub returns-in_err-home-clause-named : goal.returns-in_err-home-clause-named
+returns-in_err-home-clause-named g c =
     let size = (g.D.Disk.state c.args.disk.now).size in
     let p = err_from_is_err_and c.from_residual.result c.from_residual.ensures.1 in
-    handed (NamesInSpace size) c.from_residual.result c.read_home.result p.0 c.in_err-first.field-0.0 p.1
-    p.2 c.in_err-first.was (home_named size c.read_home.result c.read_home.ensures.only)
+    handed (NamesInSpace size) c.from_residual.result c.read_home.result p.0 c.in_err-home.field-0.0 p.1
+    p.2 c.in_err-home.was (home_named size c.read_home.result c.read_home.ensures.only)
 
 pub returns-in_err-master-clause-named : goal.returns-in_err-master-clause-named
 returns-in_err-master-clause-named g c =

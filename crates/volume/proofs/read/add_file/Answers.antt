@@ -1,5 +1,6 @@
 use Rattle.std.proofs.Common.{rules, ◌∷◌, ◌++◌}
 use Rattle.std.proofs.lemmas.Result.{err_from_is_err_and}
+use Rattle.meaning.specs.Layouts.{layout_number}
 use Rattle.meaning.specs.Stands.{place_of}
 use Rattle.volume.specs.FaultsFound.{NamesInSpace, IsFaultOfFile}
 use Rattle.meaning.specs.Faults.{InSpace}
@@ -12,9 +13,9 @@ returns-in_err-version-clause-fault g c h =
     let s = g.D.Disk.state c.args.disk.now in
     let p = err_from_is_err_and c.from_residual.result c.from_residual.ensures.1 in
     let place = place_of c.args.ppn c.args.entry.now.name in
-    handed (IsFaultOfFile s.size s.contents c.args.reached.now place c.args.entry.now.prime) c.from_residual.result
+    handed (IsFaultOfFile s.size (layout_number c.args.layout) s.contents c.args.reached.now place c.args.entry.now.prime) c.from_residual.result
     c.read_file.result p.0 c.in_err-version.field-0.0 p.1 p.2 c.in_err-version.was
-    (file_met_by s.size s.contents c.args.reached.now place c.args.entry.now.prime c.read_file.result
+    (file_met_by s.size (layout_number c.args.layout) s.contents c.args.reached.now place c.args.entry.now.prime c.read_file.result
     c.read_file.ensures.only (c.read_file.ensures.bad_version h) (c.read_file.ensures.twice h)
     (c.read_file.ensures.bad_data h))
 

@@ -6,12 +6,12 @@ use Rattle.volume.proofs.Handing.{by_chain}
 use Rattle.volume.proofs.read.load_files.Goals as goal
 
 pub returns-in-Err-clause-fault : goal.returns-in-Err-clause-fault
-returns-in-Err-clause-fault g c h ppn =
+returns-in-Err-clause-fault g c h layout ppn =
     let s = g.D.Disk.state c.args.disk.now in
-    by_chain (IsFaultOfDirectory s.size s.contents (digit_at c.args.reached.now) ppn c.args.first) c.in-Err.error
+    by_chain (IsFaultOfDirectory s.size layout s.contents (digit_at c.args.reached.now) ppn c.args.first) c.in-Err.error
     c.from.result c.from.ensures
     (λ n is. c.load.ensures.bad h n (c.in-Err.is ∙ ap Err is))
-    (λ n is. chain_twice s.size s.contents c.args.reached.now ppn c.args.first n
+    (λ n is. chain_twice s.size layout s.contents c.args.reached.now ppn c.args.first n
     (c.load.ensures.twice h n (c.in-Err.is ∙ ap Err is))) tt tt
 
 pub returns-in-Err-clause-named : goal.returns-in-Err-clause-named

@@ -3,6 +3,7 @@ use Rattle.std.proofs.lemmas.Result.{err_from_is_err_and}
 use Rattle.std.specs.List.{AllByRecursion}
 use Rattle.blockdisk.specs.Disk.{MayLeave}
 use Rattle.blockdisk.specs.Laws.{same_contents, same_disk_start, same_disk_on, passes_start}
+use Rattle.meaning.specs.Layouts.{layout_number}
 use Rattle.meaning.specs.Faults.{InSpace}
 use Rattle.meaning.specs.Directories.{MasterEntry}
 use Rattle.meaning.specs.Maps.{total}
@@ -37,20 +38,20 @@ returns-in_err-add_directory-clause-fault g c h =
     let same = same_contents s.contents now.contents
     (c.loop-entry.invariant.keeps (c.add_directory.ensures.same.was_honest h)).contents in
     let marks = digit_at c.loop-entry.reached in
-    handed (IsFaultOfDirectories s.size s.contents (digit_at c.args.reached.now) (map master_view c.args.entries.now))
+    handed (IsFaultOfDirectories s.size (layout_number c.args.layout) s.contents (digit_at c.args.reached.now) (map master_view c.args.entries.now))
     c.from_residual.result c.add_directory.result p.0 c.in_err-add_directory.field-0.0 p.1 p.2
     c.in_err-add_directory.was
-    (found_on (IsFaultOfDirectory now.size now.contents marks e.ppn e.first)
-    (IsFaultOfDirectories s.size s.contents (digit_at c.args.reached.now) (map master_view c.args.entries.now))
+    (found_on (IsFaultOfDirectory now.size (layout_number c.args.layout) now.contents marks e.ppn e.first)
+    (IsFaultOfDirectories s.size (layout_number c.args.layout) s.contents (digit_at c.args.reached.now) (map master_view c.args.entries.now))
     c.add_directory.result
-    (λ error met. directory_fault s.size s.contents (map master_view c.args.entries.now)
+    (λ error met. directory_fault s.size (layout_number c.args.layout) s.contents (map master_view c.args.entries.now)
     (map master_view (take i c.args.entries.now)) (map master_view (drop (i + 1) c.args.entries.now))
     (map known_directory c.loop-entry.directories.items)
     (digit_at c.args.reached.now) marks (master_view e) error
     (viewed_split master_view c.args.entries.now i e c.loop-entry-test.true c.entry-item.is) c.requires.once
     (c.loop-entry.invariant.read (c.add_directory.ensures.same.was_honest h))
-    (subst (λ contents. IsFaultOfDirectory s.size contents marks e.ppn e.first error) same
-    (subst (λ (n : ℕ). IsFaultOfDirectory n now.contents marks e.ppn e.first error) c.loop-entry.invariant.same.size
+    (subst (λ contents. IsFaultOfDirectory s.size (layout_number c.args.layout) contents marks e.ppn e.first error) same
+    (subst (λ (n : ℕ). IsFaultOfDirectory n (layout_number c.args.layout) now.contents marks e.ppn e.first error) c.loop-entry.invariant.same.size
     met)))
     (c.add_directory.ensures.fault h))
 
@@ -91,7 +92,7 @@ loop-entry-preserved g c =
           c.add_directory.new.directories.items
           (digit_at c.args.reached.now) (digit_at c.loop-entry.reached) (digit_at c.add_directory.new.reached)
           c.loop-entry.invariant.marked c.in_ok-add_directory.ensures.marked;
-      read = λ h. directories_go_on known_directory s.contents now.contents master_view c.args.entries.now
+      read = λ h. directories_go_on known_directory (layout_number c.args.layout) s.contents now.contents master_view c.args.entries.now
           c.loop-entry.entry-index c.entry-item.result c.loop-entry.directories.items
           c.add_directory.new.directories.items
           (digit_at c.args.reached.now) (digit_at c.loop-entry.reached) (digit_at c.add_directory.new.reached)
@@ -115,8 +116,8 @@ loop-entry-init g c =
       aligned = ap length c.new-directories.ensures.items;
       whole = subst (AllByRecursion (IsWholeDirectory s.size)) (sym none) tt;
       marked = λ n. let e = ap (total (reaches_in_known n)) none in omega arith;
-      read = λ h. subst (λ (ds : List KnownDirectory). AreDirectoriesRead s.contents [] ds (digit_at c.args.reached.now)
-          (digit_at c.args.reached.now)) (sym none) (no_directories s.contents (digit_at c.args.reached.now));
+      read = λ h. subst (λ (ds : List KnownDirectory). AreDirectoriesRead (layout_number c.args.layout) s.contents [] ds (digit_at c.args.reached.now)
+          (digit_at c.args.reached.now)) (sym none) (no_directories (layout_number c.args.layout) s.contents (digit_at c.args.reached.now));
     }
 
 pub returns-in_err-add_directory-clause-named : goal.returns-in_err-add_directory-clause-named

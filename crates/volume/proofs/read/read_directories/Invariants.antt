@@ -1,6 +1,7 @@
 use Rattle.std.proofs.Common.{◌≡◌, ℕ, ◌+◌, map, take, length}
 use Rattle.std.specs.List.{AllByRecursion}
 use Rattle.blockdisk.specs.Disk.{SameDisk, Keeps}
+use Rattle.meaning.specs.Layouts.{layout_number}
 use Rattle.meaning.specs.Maps.{total}
 use Rattle.alloctab.specs.Lists.{digit_at}
 use Rattle.volume.specs.Cores.{master_view, known_directory}
@@ -21,6 +22,6 @@ invariant-loop-entry g l = record {
   marked : (n : ℕ) → digit_at l.reached n
       ≡ digit_at l.fn.reached n + total (reaches_in_known n) (map known_directory l.directories.items);
   read : (g.D.Disk.state l.disk).honest
-      → AreDirectoriesRead (g.D.Disk.state l.fn.disk).contents (map master_view (take l.entry-index l.entries))
+      → AreDirectoriesRead (layout_number l.layout) (g.D.Disk.state l.fn.disk).contents (map master_view (take l.entry-index l.entries))
       (map known_directory l.directories.items) (digit_at l.fn.reached) (digit_at l.reached);
 }

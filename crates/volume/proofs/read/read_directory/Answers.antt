@@ -4,6 +4,7 @@ use Rattle.std.proofs.lemmas.Result.{err_from_is_err_and}
 use Rattle.std.proofs.lemmas.List.{length-map}
 use Rattle.blockdisk.specs.Disk.{Contents}
 use Rattle.blockdisk.specs.Laws.{same_contents}
+use Rattle.meaning.specs.Layouts.{layout_number}
 use Rattle.meaning.specs.Faults.{InSpace}
 use Rattle.meaning.specs.Directories.{FileEntry}
 use Rattle.alloctab.specs.Lists.{digit_at}
@@ -15,13 +16,14 @@ use Rattle.volume.specs.FaultsFound.{NamesInSpace, IsFaultOfFiles, IsFaultOfDire
 use Rattle.volume.proofs.Handing.{handed, found_on, named_on}
 use Rattle.volume.proofs.FoundDirectories.{directory_found, space_more}
 use Rattle.volume.proofs.FaultyDirectories.{files_fault}
+use Rattle.volume.proofs.LayoutLimits.{entry_quota}
 use Rattle.volume.proofs.read.read_directory.Goals as goal
 
 pub returns-in_err-chain-clause-fault : goal.returns-in_err-chain-clause-fault
 returns-in_err-chain-clause-fault g c h =
     let s = g.D.Disk.state c.args.disk.now in
     let p = err_from_is_err_and c.from_residual.result c.from_residual.ensures.1 in
-    handed (IsFaultOfDirectory s.size s.contents (digit_at c.args.reached.now) c.args.entry.now.ppn
+    handed (IsFaultOfDirectory s.size (layout_number c.args.layout) s.contents (digit_at c.args.reached.now) c.args.entry.now.ppn
     c.args.entry.now.first) c.from_residual.result c.load_files.result p.0 c.in_err-chain.field-0.0 p.1
     p.2 c.in_err-chain.was
     (c.load_files.ensures.fault h c.args.entry.now.ppn)
@@ -43,18 +45,18 @@ returns-in_err-versions-clause-fault g c h =
     let marks = digit_at c.load_files.new.reached in
     let ppn = c.args.entry.now.ppn in
     let chain = viewed file_view c.in_ok-chain.chain in
-    handed (IsFaultOfDirectory s.size s.contents (digit_at c.args.reached.now) ppn c.args.entry.now.first)
+    handed (IsFaultOfDirectory s.size (layout_number c.args.layout) s.contents (digit_at c.args.reached.now) ppn c.args.entry.now.first)
     c.from_residual-in_err-versions.result c.read_files.result p.0 c.in_err-versions.field-0.0 p.1 p.2
     c.in_err-versions.was
-    (found_on (IsFaultOfFiles now.size now.contents marks ppn (map file_view c.entries.result.now))
-    (IsFaultOfDirectory s.size s.contents (digit_at c.args.reached.now) ppn c.args.entry.now.first) c.read_files.result
-    (λ error met. files_fault s.size s.contents (digit_at c.args.reached.now) marks ppn c.args.entry.now.first
+    (found_on (IsFaultOfFiles now.size (layout_number c.args.layout) now.contents marks ppn (map file_view c.entries.result.now))
+    (IsFaultOfDirectory s.size (layout_number c.args.layout) s.contents (digit_at c.args.reached.now) ppn c.args.entry.now.first) c.read_files.result
+    (λ error met. files_fault s.size (layout_number c.args.layout) s.contents (digit_at c.args.reached.now) marks ppn c.args.entry.now.first
     chain error c.in_ok-chain.ensures.chain (c.in_ok-chain.ensures.walk (c.read_files.ensures.same.was_honest h))
     c.in_ok-chain.ensures.marked
-    (subst (λ (es : List FileEntry). IsFaultOfFiles s.size s.contents marks ppn es error)
+    (subst (λ (es : List FileEntry). IsFaultOfFiles s.size (layout_number c.args.layout) s.contents marks ppn es error)
     (ap (map file_view) c.entries.ensures.value)
-    (subst (λ contents. IsFaultOfFiles s.size contents marks ppn (map file_view c.entries.result.now) error) same
-    (subst (λ (n : ℕ). IsFaultOfFiles n now.contents marks ppn (map file_view c.entries.result.now) error)
+    (subst (λ contents. IsFaultOfFiles s.size (layout_number c.args.layout) contents marks ppn (map file_view c.entries.result.now) error) same
+    (subst (λ (n : ℕ). IsFaultOfFiles n (layout_number c.args.layout) now.contents marks ppn (map file_view c.entries.result.now) error)
     c.load_files.ensures.same.size met))))
     (c.read_files.ensures.fault h))
 
@@ -88,16 +90,18 @@ returns-clause-read g c h =
     let ppn = c.args.entry.now.ppn in
     let chain = viewed file_view c.in_ok-chain.chain in
     let versions = map known_version c.in_ok-versions.versions.items in
-    let read : AreFilesRead s.contents ppn chain.entries versions (digit_at c.load_files.new.reached)
+    let read : AreFilesRead (layout_number c.args.layout) s.contents ppn chain.entries versions (digit_at c.load_files.new.reached)
     (digit_at c.read_files.new.reached) =
-    subst (λ (es : List FileEntry). AreFilesRead s.contents ppn es versions (digit_at c.load_files.new.reached)
+    subst (λ (es : List FileEntry). AreFilesRead (layout_number c.args.layout) s.contents ppn es versions (digit_at c.load_files.new.reached)
     (digit_at c.read_files.new.reached)) (ap (map file_view) c.entries.ensures.value)
-    (subst (λ (contents : Contents). AreFilesRead contents ppn (map file_view c.entries.result.now) versions
+    (subst (λ (contents : Contents). AreFilesRead (layout_number c.args.layout) contents ppn (map file_view c.entries.result.now) versions
     (digit_at c.load_files.new.reached) (digit_at c.read_files.new.reached)) same
     (c.in_ok-versions.ensures.read h)) in
-    directory_found s.contents ppn c.args.entry.now.protection c.args.entry.now.first chain versions
+    let entry = c.args.entry.now in
+    directory_found (layout_number c.args.layout) s.contents ppn entry.protection entry.quota entry.first chain versions
     (digit_at c.args.reached.now) (digit_at c.load_files.new.reached) (digit_at c.read_files.new.reached)
-    c.args.entry.now.protection_fits c.in_ok-chain.ensures.chain
+    entry.protection_fits (entry_quota (layout_number c.args.layout) entry.ppn entry.protection entry.quota entry.first
+    entry.quota_fits c.requires.entry) c.in_ok-chain.ensures.chain
     (c.in_ok-chain.ensures.on (c.in_ok-versions.ensures.same.was_honest h)) c.in_ok-chain.ensures.begins
     (c.in_ok-chain.ensures.walk (c.in_ok-versions.ensures.same.was_honest h)) c.in_ok-chain.ensures.marked read
 

@@ -1,6 +1,7 @@
 use Rattle.std.proofs.Common.{◌+◌, ℕ, map, take, drop, sym, ap, subst, ◌∙◌}
 use Rattle.std.proofs.lemmas.Result.{err_from_is_err_and}
 use Rattle.blockdisk.specs.Laws.{same_contents, same_disk_on}
+use Rattle.meaning.specs.Layouts.{layout_number}
 use Rattle.meaning.specs.Stands.{place_of}
 use Rattle.meaning.specs.Faults.{InSpace}
 use Rattle.meaning.specs.Directories.{FileEntry}
@@ -34,20 +35,20 @@ returns-in_err-add_file-clause-fault g c h =
     let p = err_from_is_err_and c.from_residual.result c.from_residual.ensures.1 in
     let same = same_contents s.contents now.contents
     (c.loop-entry.invariant.keeps (c.add_file.ensures.same.was_honest h)).contents in
-    handed (IsFaultOfFiles s.size s.contents (digit_at c.args.reached.now) c.args.ppn
+    handed (IsFaultOfFiles s.size (layout_number c.args.layout) s.contents (digit_at c.args.reached.now) c.args.ppn
     (map file_view c.args.entries.now)) c.from_residual.result c.add_file.result p.0 c.in_err-add_file.field-0.0
     p.1 p.2 c.in_err-add_file.was
-    (found_on (IsFaultOfFile now.size now.contents c.loop-entry.reached (place_of c.args.ppn e.name) e.prime)
-    (IsFaultOfFiles s.size s.contents (digit_at c.args.reached.now) c.args.ppn (map file_view c.args.entries.now))
+    (found_on (IsFaultOfFile now.size (layout_number c.args.layout) now.contents c.loop-entry.reached (place_of c.args.ppn e.name) e.prime)
+    (IsFaultOfFiles s.size (layout_number c.args.layout) s.contents (digit_at c.args.reached.now) c.args.ppn (map file_view c.args.entries.now))
     c.add_file.result
-    (λ error met. file_fault s.size s.contents c.args.ppn (map file_view c.args.entries.now)
+    (λ error met. file_fault s.size (layout_number c.args.layout) s.contents c.args.ppn (map file_view c.args.entries.now)
     (map file_view (take i c.args.entries.now)) (map file_view (drop (i + 1) c.args.entries.now))
     (map known_version c.loop-entry.versions.items)
     (digit_at c.args.reached.now) (file_view e) error c.loop-entry.reached
     (viewed_split file_view c.args.entries.now i e c.loop-entry-test.true c.entry-item.is) c.requires.once
     (c.loop-entry.invariant.read (c.add_file.ensures.same.was_honest h))
-    (subst (λ contents. IsFaultOfFile s.size contents c.loop-entry.reached (place_of c.args.ppn e.name) e.prime error)
-    same (subst (λ (n : ℕ). IsFaultOfFile n now.contents c.loop-entry.reached
+    (subst (λ contents. IsFaultOfFile s.size (layout_number c.args.layout) contents c.loop-entry.reached (place_of c.args.ppn e.name) e.prime error)
+    same (subst (λ (n : ℕ). IsFaultOfFile n (layout_number c.args.layout) now.contents c.loop-entry.reached
     (place_of c.args.ppn e.name) e.prime error) c.loop-entry.invariant.same.size met)))
     (c.add_file.ensures.fault h))
 
@@ -85,7 +86,7 @@ loop-entry-preserved g c =
           (digit_at c.args.reached.now) (digit_at c.loop-entry.reached) (digit_at c.add_file.new.reached)
           c.loop-entry-test.true c.entry-item.is c.loop-entry.invariant.aligned c.loop-entry.invariant.marked
           c.in_ok-add_file.ensures.marked;
-      read = λ h. files_go_on known_version s.contents now.contents c.args.ppn file_view c.args.entries.now
+      read = λ h. files_go_on known_version (layout_number c.args.layout) s.contents now.contents c.args.ppn file_view c.args.entries.now
           c.loop-entry.entry-index c.entry-item.result c.loop-entry.versions.items c.add_file.new.versions.items
           (digit_at c.args.reached.now) (digit_at c.loop-entry.reached) (digit_at c.add_file.new.reached)
           c.loop-entry-test.true c.entry-item.is (same_contents s.contents now.contents

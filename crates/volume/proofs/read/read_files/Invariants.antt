@@ -2,6 +2,7 @@ use Rattle.std.proofs.Common.{◌≡◌, ℕ, ◌+◌, map, take, length}
 use Rattle.std.specs.List.{AllByRecursion}
 use Rattle.blockdisk.specs.Disk.{SameDisk, Keeps}
 use Rattle.alloctab.specs.Lists.{digit_at}
+use Rattle.meaning.specs.Layouts.{layout_number}
 use Rattle.volume.specs.Cores.{file_view, known_version}
 use Rattle.volume.specs.Known.{reaches_in_entries, IsWholeVersion}
 use Rattle.volume.specs.Found.{IsOnlySpace, AreFilesRead}
@@ -20,6 +21,6 @@ invariant-loop-entry g l = record {
   marked : (n : ℕ) → digit_at l.reached n ≡ digit_at l.fn.reached n
       + reaches_in_entries n (map file_view (take l.entry-index l.entries)) (map known_version l.versions.items);
   read : (g.D.Disk.state l.disk).honest
-      → AreFilesRead (g.D.Disk.state l.fn.disk).contents l.ppn (map file_view (take l.entry-index l.entries))
+      → AreFilesRead (layout_number l.layout) (g.D.Disk.state l.fn.disk).contents l.ppn (map file_view (take l.entry-index l.entries))
       (map known_version l.versions.items) (digit_at l.fn.reached) (digit_at l.reached);
 }

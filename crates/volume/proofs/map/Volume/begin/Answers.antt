@@ -1,12 +1,15 @@
-use Rattle.std.proofs.Common.{◌↔◌, ◌+◌, ◌<◌, ℕ, Ok, Err, IsErrOf, refl, ap, subst, ◌∙◌, rules}
+use Rattle.std.proofs.Common.{◌≡◌, ◌↔◌, ◌+◌, ◌<◌, ℕ, false, Ok, Err, IsErrOf, refl, sym, ap, subst, ◌∙◌, rules}
+use Rattle.meaning.specs.Layouts.{pack_of}
+use Rattle.meaning.specs.Retrieval.{date_limit}
 use Rattle.std.proofs.lemmas.Result.{err_from_is_err_and}
 use Rattle.meaning.specs.declared.code.ErrorCode.TheVariants.{NameExists, NotFound, NoRoom}
 use Rattle.alloctab.specs.TableState.{space}
 use Rattle.volume.specs.Beginning.{begin_cost, entries_with}
 use Rattle.volume.specs.declared.error.CallError.TheVariants.{Refused}
 use Rattle.volume.specs.LiveCores.{core_of}
-use Rattle.volume.proofs.BegunFiles.{body_before, begins_with, handed_on, not_refused, file_known, full_by_file}
+use Rattle.volume.proofs.BegunFiles.{body_before, begins_with, date_before, handed_on, not_refused, file_known, full_by_file}
 use Rattle.volume.proofs.StillHeld.{begun_sound}
+use Rattle.volume.proofs.SoundVolumes.{volume_stays}
 use Rattle.volume.proofs.map.Volume.begin.Goals as goal
 
 pub invariant_of-self-2 : goal.invariant_of-self-2
@@ -14,15 +17,20 @@ invariant_of-self-2 g c =
     let s = g.D.Disk.state c.self.inside.disk in
     let core = core_of c.self.inside.map in
     let begins = c.in_ok-key.ensures.begun in
-    begun_sound s core (core_of c.begin_in_core.new.core) c.self.inside.failed c.begin_in_core.new.core.table.size
-    c.in_ok-key.key c.args.kind c.args.prime c.self.invariant refl c.begin_in_core.ensures.whole begins
+    volume_stays s core (core_of c.begin_in_core.new.core) c.self.inside.failed c.self.inside.layout c.self.invariant
+    (begun_sound s core (core_of c.begin_in_core.new.core) c.self.inside.failed c.begin_in_core.new.core.table.size
+    c.in_ok-key.key c.args.kind c.args.prime c.self.invariant.core refl c.begin_in_core.ensures.whole begins
     (body_before s core (core_of c.begin_in_core.new.core) c.self.inside.failed c.in_ok-key.key c.args.kind
-    c.args.prime c.self.invariant begins)
+    c.args.prime c.self.invariant.core begins)
+    (λ h ok. date_before s core (core_of c.begin_in_core.new.core) c.self.inside.failed c.in_ok-key.key c.args.kind
+    c.args.prime c.self.invariant.core begins h ok (subst (λ m. (g.D.Disk.state m.disk).honest → m.failed ≡ false
+    → c.args.prime.moment.date < date_limit (pack_of (g.D.Disk.state m.disk)).layout) (sym c.self.view_is)
+    c.requires.timely h ok)))
 
 pub returns-clause-file : goal.returns-clause-file
 returns-clause-file g c = rw (← c.self.view_is) (λ honest alive files rest updates.
     begins_with (g.D.Disk.state c.self.inside.disk) (core_of c.self.inside.map) (core_of c.begin_in_core.new.core)
-    c.self.inside.failed c.in_ok-key.key c.args.kind c.args.prime c.self.invariant c.in_ok-key.ensures.begun honest
+    c.self.inside.failed c.in_ok-key.key c.args.kind c.args.prime c.self.invariant.core c.in_ok-key.ensures.begun honest
     alive files rest updates)
 
 pub returns-clause-room : goal.returns-clause-room
@@ -30,7 +38,7 @@ returns-clause-room g c = rw (← c.self.view_is) (λ alive d is prior named fit
     let core = core_of c.self.inside.map in
     let room = subst (λ (size : ℕ). IsErrOf c.begin_in_core.result (Refused NoRoom)
     ↔ (space size < core.known.table.booked + begin_cost c.args.kind (entries_with core d c.args.prime.ppn) prior))
-    c.self.invariant.whole.map.size_is (c.begin_in_core.ensures.room d is prior named fits) in
+    c.self.invariant.core.whole.map.size_is (c.begin_in_core.ensures.room d is prior named fits) in
     search rules)
 
 pub returns-clause-exists : goal.returns-clause-exists
@@ -57,19 +65,19 @@ pub returns-clause-full : goal.returns-clause-full
 returns-clause-full g c = rw (← c.self.view_is) (λ honest alive files rest updates directory there file has.
     let s = g.D.Disk.state c.self.inside.disk in
     let core = core_of c.self.inside.map in
-    let known = file_known s core c.self.inside.failed c.self.invariant honest alive files rest c.args.prime.ppn
+    let known = file_known s core c.self.inside.failed c.self.invariant.core honest alive files rest c.args.prime.ppn
     c.args.prime.file directory there file has in
     not_refused c.in_ok-key.key (record { key = c.in_ok-key.key }) (Refused NoRoom)
-    (full_by_file s.size core c.args.kind c.args.prime file (Ok c.in_ok-key.key) c.self.invariant.whole known updates
+    (full_by_file s.size core c.args.kind c.args.prime file (Ok c.in_ok-key.key) c.self.invariant.core.whole known updates
     c.in_ok-key.ensures.room))
 
 pub returns-in_err-key-clause-full : goal.returns-in_err-key-clause-full
 returns-in_err-key-clause-full g c = rw (← c.self.view_is) (λ honest alive files rest updates directory there file has.
     let s = g.D.Disk.state c.self.inside.disk in
     let core = core_of c.self.inside.map in
-    let known = file_known s core c.self.inside.failed c.self.invariant honest alive files rest c.args.prime.ppn
+    let known = file_known s core c.self.inside.failed c.self.invariant.core honest alive files rest c.args.prime.ppn
     c.args.prime.file directory there file has in
     let p = err_from_is_err_and c.from_residual.result c.from_residual.ensures.1 in
     handed_on c.from_residual.result c.in_err-key.field-0.0 (Refused NoRoom) (p.1 ∙ ap Err p.2)
-    (full_by_file s.size core c.args.kind c.args.prime file (Err c.in_err-key.field-0.0) c.self.invariant.whole known
+    (full_by_file s.size core c.args.kind c.args.prime file (Err c.in_err-key.field-0.0) c.self.invariant.core.whole known
     updates c.in_err-key.ensures.room))

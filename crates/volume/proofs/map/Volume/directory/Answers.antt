@@ -11,7 +11,7 @@ returns-in_err-i-clause-value g c = rw (← c.self.view_is) (λ honest alive fil
     let s = g.D.Disk.state c.self.inside.disk in
     let core = core_of c.self.inside.map in
     let k = core.known in
-    let holds = rest_holds s core c.self.inside.failed c.self.invariant honest alive files rest in
+    let holds = rest_holds s core c.self.inside.failed c.self.invariant.core honest alive files rest in
     let none = directory_none s k files holds c.args.ppn (c.in_err-i.ensures.none refl) in
     let p = err_from_is_err_and c.from_residual.result c.from_residual.ensures.1 in
     p.1 ∙ ap Err (p.2 ∙ c.in_err-i.ensures.only) ∙ sym (ap protection_answer none))
@@ -21,7 +21,7 @@ returns-clause-value g c = rw (← c.self.view_is) (λ honest alive files rest.
     let s = g.D.Disk.state c.self.inside.disk in
     let core = core_of c.self.inside.map in
     let k = core.known in
-    let holds = rest_holds s core c.self.inside.failed c.self.invariant honest alive files rest in
+    let holds = rest_holds s core c.self.inside.failed c.self.invariant.core honest alive files rest in
     let at = c.in_ok-i.ensures.found in
     let i = c.in_ok-i.i in
     let entry = get_or c.self.inside.map.master.entries i c.index-entries-i.result in

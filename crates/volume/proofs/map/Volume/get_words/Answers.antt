@@ -5,12 +5,13 @@ use Rattle.volume.specs.LiveCores.{core_of}
 use Rattle.volume.specs.Pins.{IsReadable}
 use Rattle.volume.proofs.Opening.{reads_of}
 use Rattle.volume.proofs.ReadWords.{rests_read, sound_read, readable_inside, readable_body, undamaged}
+use Rattle.volume.proofs.SoundVolumes.{volume_goes_on}
 use Rattle.volume.proofs.map.Volume.get_words.Goals as goal
 
 pub get_words-requires-clause-inside : goal.get_words-requires-clause-inside
 get_words-requires-clause-inside g c =
     let s = g.D.Disk.state c.self.inside.disk in
-    readable_inside s.size (core_of c.self.inside.map) c.self.invariant.whole c.booked-booked.ensures.sound
+    readable_inside s.size (core_of c.self.inside.map) c.self.invariant.core.whole c.booked-booked.ensures.sound
     c.args.handle c.version_under-version.result.now (subst (λ m. IsReadable m.core c.args.handle)
     (sym c.self.view_is) c.requires.live) c.version_under-version.ensures
 
@@ -32,8 +33,12 @@ pub invariant_of-self : goal.invariant_of-self
 invariant_of-self g c =
     let s = g.D.Disk.state c.self.inside.disk in
     let s' = g.D.Disk.state c.get_words.new.disk in
-    sound_read s s' (core_of c.self.inside.map) c.self.inside.failed c.get_words.ensures.same.size
-    c.get_words.ensures.same.was_honest (λ h. reads_of s s' (c.get_words.ensures.keeps h)) c.self.invariant
+    let core = core_of c.self.inside.map in
+    volume_goes_on s s' core core c.self.inside.failed c.self.inside.failed c.self.inside.layout c.self.invariant
+    (sound_read s s' core c.self.inside.failed c.get_words.ensures.same.size
+    c.get_words.ensures.same.was_honest (λ h. reads_of s s' (c.get_words.ensures.keeps h)) c.self.invariant.core)
+    c.get_words.ensures.same.size c.get_words.ensures.same.was_honest (λ ok. ok)
+    (λ h ok n low. (c.get_words.ensures.keeps h).contents n)
 
 pub returns-in-Ok-clause-rests : goal.returns-in-Ok-clause-rests
 returns-in-Ok-clause-rests g c = rw (← c.self.view_is) (λ h files rests.
@@ -59,7 +64,7 @@ returns-in-Err-BadData-clause-given_up g c = rw (← c.self.view_is) (λ is. inr
     let v = c.version_under-version.result.now in
     let bad = c.get_words.ensures.damaged h c.in-Err-BadData._block (cc) in
     undamaged s.contents v c.in-Err-BadData._block
-    (readable_body s (core_of c.self.inside.map) c.self.inside.failed c.self.invariant
+    (readable_body s (core_of c.self.inside.map) c.self.inside.failed c.self.invariant.core
     (c.get_words.ensures.same.was_honest h) c.if-self.false c.args.handle v
     (subst (λ m. IsReadable m.core c.args.handle) (sym c.self.view_is) c.requires.live) c.version_under-version.ensures)
     bad.0 bad.1))

@@ -19,7 +19,7 @@ returns-in_err-i-clause-refused g c = rw (← c.self.view_is) (λ honest alive f
     let s = g.D.Disk.state c.self.inside.disk in
     let core = core_of c.self.inside.map in
     let k = core.known in
-    let holds = rest_holds s core c.self.inside.failed c.self.invariant honest alive files rest in
+    let holds = rest_holds s core c.self.inside.failed c.self.invariant.core honest alive files rest in
     let none = directory_none s k files holds c.args.ppn (c.in_err-i.ensures.none refl) in
     let p = err_from_is_err_and c.from_residual.result c.from_residual.ensures.1 in
     (λ is. none, λ is. p.1 ∙ ap Err (p.2 ∙ c.in_err-i.ensures.only)))
@@ -30,9 +30,9 @@ directory_lines-requires-clause-keyed g c =
     let within = c.in_ok-i.ensures.found.1.within in
     let entries = length-map m.master.entries master_view in
     let directories = length-map m.directories.items (live_directory m.versions.slots) in
-    let aligned = c.self.invariant.whole.map.aligned in
+    let aligned = c.self.invariant.core.whole.map.aligned in
     keyed_at m.versions.slots (live_directory m.versions.slots) (λ d. d.keys.items) m.directories.items
-    c.in_ok-i.i c.index-directory.result.now c.index-directory.result.now c.self.invariant.whole.keyed
+    c.in_ok-i.i c.index-directory.result.now c.index-directory.result.now c.self.invariant.core.whole.keyed
     (omega arith) c.index-directory.ensures
 
 pub returns-clause-listed : goal.returns-clause-listed
@@ -40,14 +40,14 @@ returns-clause-listed g c = rw (← c.self.view_is) (λ honest alive files rest.
     let s = g.D.Disk.state c.self.inside.disk in
     let core = core_of c.self.inside.map in
     let k = core.known in
-    let holds = rest_holds s core c.self.inside.failed c.self.invariant honest alive files rest in
+    let holds = rest_holds s core c.self.inside.failed c.self.invariant.core honest alive files rest in
     let at = c.in_ok-i.ensures.found in
     let m = c.self.inside.map in
     let d = (live_directory c.self.inside.map.versions.slots) c.index-directory.result.now in
     let there = directory_there s k files holds c.args.ppn at.0 c.in_ok-i.i at.1 d
     (placed (live_directory c.self.inside.map.versions.slots) m.directories.items
     (map master_view m.master.entries) c.in_ok-i.i c.index-directory.result.now at.1.within
-    c.self.invariant.whole.map.aligned c.index-directory.ensures) in
+    c.self.invariant.core.whole.map.aligned c.index-directory.ensures) in
     if_ok_on c.directory_lines.result (λ lines zip. (
       directory_of there.stored,
       there.get_is,
@@ -59,14 +59,14 @@ returns-clause-refused g c = rw (← c.self.view_is) (λ honest alive files rest
     let s = g.D.Disk.state c.self.inside.disk in
     let core = core_of c.self.inside.map in
     let k = core.known in
-    let holds = rest_holds s core c.self.inside.failed c.self.invariant honest alive files rest in
+    let holds = rest_holds s core c.self.inside.failed c.self.invariant.core honest alive files rest in
     let at = c.in_ok-i.ensures.found in
     let m = c.self.inside.map in
     let d = (live_directory c.self.inside.map.versions.slots) c.index-directory.result.now in
     let there = directory_there s k files holds c.args.ppn at.0 c.in_ok-i.i at.1 d
     (placed (live_directory c.self.inside.map.versions.slots) m.directories.items
     (map master_view m.master.entries) c.in_ok-i.i c.index-directory.result.now at.1.within
-    c.self.invariant.whole.map.aligned c.index-directory.ensures) in (
+    c.self.invariant.core.whole.map.aligned c.index-directory.ensures) in (
       λ is. let other : Refused NoDirectory
           ≡ NoMemory = refusal (λ (e : CallError). e ≡ NoMemory) c.directory_lines.result
           (Refused NoDirectory) is c.directory_lines.ensures.only in cc,

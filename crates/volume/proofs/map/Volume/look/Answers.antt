@@ -13,7 +13,7 @@ returns-in_err-i-clause-value g c = rw (← c.self.view_is) (λ honest alive fil
     let s = g.D.Disk.state c.self.inside.disk in
     let core = core_of c.self.inside.map in
     let k = core.known in
-    let holds = rest_holds s core c.self.inside.failed c.self.invariant honest alive files rest in
+    let holds = rest_holds s core c.self.inside.failed c.self.invariant.core honest alive files rest in
     let none = directory_none s k files holds c.args.ppn (c.in_err-i.ensures.none refl) in
     let p = err_from_is_err_and c.from_residual.result c.from_residual.ensures.1 in
     subst (IsLookAnswer c.args.name.now c.from_residual.result) (sym none) (p.1
@@ -25,9 +25,9 @@ named_facts-requires-clause-keyed g c =
     let within = c.in_ok-i.ensures.found.1.within in
     let entries = length-map m.master.entries master_view in
     let directories = length-map m.directories.items (live_directory m.versions.slots) in
-    let aligned = c.self.invariant.whole.map.aligned in
+    let aligned = c.self.invariant.core.whole.map.aligned in
     keyed_at m.versions.slots (live_directory m.versions.slots) (λ d. d.keys.items) m.directories.items
-    c.in_ok-i.i c.index-directory.result.now c.index-directory.result.now c.self.invariant.whole.keyed
+    c.in_ok-i.i c.index-directory.result.now c.index-directory.result.now c.self.invariant.core.whole.keyed
     (omega arith) c.index-directory.ensures
 
 pub returns-clause-value : goal.returns-clause-value
@@ -35,13 +35,13 @@ returns-clause-value g c = rw (← c.self.view_is) (λ honest alive files rest.
     let s = g.D.Disk.state c.self.inside.disk in
     let core = core_of c.self.inside.map in
     let k = core.known in
-    let holds = rest_holds s core c.self.inside.failed c.self.invariant honest alive files rest in
+    let holds = rest_holds s core c.self.inside.failed c.self.invariant.core honest alive files rest in
     let at = c.in_ok-i.ensures.found in
     let m = c.self.inside.map in
     let d = (live_directory c.self.inside.map.versions.slots) c.index-directory.result.now in
     let placed_at = placed (live_directory c.self.inside.map.versions.slots) m.directories.items
     (map master_view m.master.entries) c.in_ok-i.i c.index-directory.result.now at.1.within
-    c.self.invariant.whole.map.aligned c.index-directory.ensures in
+    c.self.invariant.core.whole.map.aligned c.index-directory.ensures in
     let there = directory_there s k files holds c.args.ppn at.0 c.in_ok-i.i at.1 d placed_at in
     look_answered k files c.args.ppn d there c.args.name.now c.named_facts.result c.named_facts.ensures.found
     c.named_facts.ensures.none c.named_facts.ensures.only)

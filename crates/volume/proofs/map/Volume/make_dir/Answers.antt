@@ -3,12 +3,14 @@ use Rattle.changeset.specs.Crashes.{IsGateOrLog}
 use Rattle.changeset.specs.Puts.{IsPutIn}
 use Rattle.volume.specs.LiveCores.{core_of}
 use Rattle.volume.specs.Making.{IsMade}
-use Rattle.volume.proofs.LiveBodies.{bodies_stay, bodies_of, used_read, used_written}
+use Rattle.meaning.specs.Layouts.{pack_of}
+use Rattle.volume.proofs.LiveBodies.{bodies_stay, bodies_of, dated_of, used_read, used_written}
 use Rattle.volume.proofs.MakingDirectories.{sound_for, sound_failed, made_core, puts_in_range, not_written, made_crash}
 use Rattle.volume.proofs.MakingDirectories.{made_rest, made_at, made_done}
 use Rattle.volume.proofs.MakingTransactions.{near_closed}
 use Rattle.volume.proofs.MakingPlaces.{directory_stays, primes_stay}
 use Rattle.volume.proofs.HomesKept.{homes_start, homes_near, homes_stay, made_past}
+use Rattle.volume.proofs.SoundVolumes.{volume_ends, volume_goes_on}
 use Rattle.volume.proofs.map.Volume.make_dir.Goals as goal
 
 pub write_and_commit-requires-clause-in_range : goal.write_and_commit-requires-clause-in_range
@@ -18,9 +20,9 @@ write_and_commit-requires-clause-in_range g c =
     let k' = (core_of c.make_in_core.new.core).known in
     let made : IsMade s.size k k' c.args.ppn c.args.protection c.in-Ok.first c.make_in_core.new.set =
     subst (λ (b : ℕ). IsMade b k k' c.args.ppn c.args.protection c.in-Ok.first c.make_in_core.new.set)
-    c.self.invariant.whole.map.size_is c.in-Ok.ensures.made in
+    c.self.invariant.core.whole.map.size_is c.in-Ok.ensures.made in
     puts_in_range s.size k k' c.args.ppn c.args.protection c.in-Ok.first c.make_in_core.new.set
-    c.self.invariant.whole.map made
+    c.self.invariant.core.whole.map made
 
 pub invariant_of-self-in-Ok-write_and_commit : goal.invariant_of-self-in-Ok-write_and_commit
 invariant_of-self-in-Ok-write_and_commit g c =
@@ -28,27 +30,37 @@ invariant_of-self-in-Ok-write_and_commit g c =
     let s' = g.D.Disk.state c.write_and_commit.new.disk in
     let k = (core_of c.self.inside.map).known in
     let k' = (core_of c.make_in_core.new.core).known in
-    let whole = c.self.invariant.whole.map in
+    let whole = c.self.invariant.core.whole.map in
     let made : IsMade s.size k k' c.args.ppn c.args.protection c.in-Ok.first c.make_in_core.new.set =
     subst (λ (b : ℕ). IsMade b k k' c.args.ppn c.args.protection c.in-Ok.first c.make_in_core.new.set)
-    c.self.invariant.whole.map.size_is c.in-Ok.ensures.made in
-    sound_for s s' (core_of c.make_in_core.new.core) c.self.inside.failed c.write_and_commit.ensures.same.size
+    c.self.invariant.core.whole.map.size_is c.in-Ok.ensures.made in
+    let puts = c.make_in_core.new.set in
+    let past = made_past s.size k k' c.args.ppn c.args.protection c.in-Ok.first puts whole made in
+    volume_goes_on s s' (core_of c.self.inside.map) (core_of c.make_in_core.new.core) c.self.inside.failed
+    c.self.inside.failed c.self.inside.layout c.self.invariant
+    (sound_for s s' (core_of c.make_in_core.new.core) c.self.inside.failed c.write_and_commit.ensures.same.size
     (made_core s.size k k' c.args.ppn c.args.protection c.in-Ok.first c.make_in_core.new.set whole made
-    (core_of c.self.inside.map) (core_of c.make_in_core.new.core) c.self.invariant.whole refl refl
+    (core_of c.self.inside.map) (core_of c.make_in_core.new.core) c.self.invariant.core.whole refl refl
     c.make_in_core.ensures.live c.make_in_core.ensures.pending c.in-Ok.ensures.keys)
     (λ h' ok.
     let h : s.honest = c.write_and_commit.ensures.same.was_honest h' in
     bodies_of s'.contents (core_of c.self.inside.map) (core_of c.make_in_core.new.core) c.make_in_core.ensures.live
     c.make_in_core.ensures.pending
-    (bodies_stay s (core_of c.self.inside.map) c.self.inside.failed s'.contents c.self.invariant h ok
+    (bodies_stay s (core_of c.self.inside.map) c.self.inside.failed s'.contents c.self.invariant.core h ok
     (λ n is. (c.in-Ok-write_and_commit.ensures.modified h').contents n
     (not_written s.size k k' c.args.ppn c.args.protection c.in-Ok.first c.make_in_core.new.set whole made
     n is.from is.apart is.used))))
+    (λ h' ok. dated_of (pack_of s).layout (core_of c.self.inside.map) (core_of c.make_in_core.new.core)
+    c.make_in_core.ensures.pending
+    (c.self.invariant.core.dated (c.write_and_commit.ensures.same.was_honest h') ok))
     (λ h' ok.
     let h : s.honest = c.write_and_commit.ensures.same.was_honest h' in
-    let at = c.self.invariant.rest h ok in
+    let at = c.self.invariant.core.rest h ok in
     made_at s s' k k' c.args.ppn c.args.protection c.in-Ok.first c.make_in_core.new.set c.requires.protection
-    whole made at c.write_and_commit.ensures.same.size (c.in-Ok-write_and_commit.ensures.done h' k k'))
+    whole made at c.write_and_commit.ensures.same.size (c.in-Ok-write_and_commit.ensures.done h' k k')))
+    c.write_and_commit.ensures.same.size c.write_and_commit.ensures.same.was_honest (λ ok. ok)
+    (λ h ok. homes_stay (λ m. (m ≡ c.in-Ok.first) ⊎ (IsGateOrLog s.size m ⊎ IsPutIn puts m)) s s' past
+    (c.in-Ok-write_and_commit.ensures.modified h))
 
 pub returns-in-Ok-write_and_commit-clause-crash : goal.returns-in-Ok-write_and_commit-clause-crash
 returns-in-Ok-write_and_commit-clause-crash g c = rw (← c.self.view_is) (λ h f rests.
@@ -56,12 +68,12 @@ returns-in-Ok-write_and_commit-clause-crash g c = rw (← c.self.view_is) (λ h 
     let s' = g.D.Disk.state c.write_and_commit.new.disk in
     let k = (core_of c.self.inside.map).known in
     let k' = (core_of c.make_in_core.new.core).known in
-    let whole = c.self.invariant.whole.map in
+    let whole = c.self.invariant.core.whole.map in
     let made : IsMade s.size k k' c.args.ppn c.args.protection c.in-Ok.first c.make_in_core.new.set =
     subst (λ (b : ℕ). IsMade b k k' c.args.ppn c.args.protection c.in-Ok.first c.make_in_core.new.set)
-    c.self.invariant.whole.map.size_is c.in-Ok.ensures.made in
+    c.self.invariant.core.whole.map.size_is c.in-Ok.ensures.made in
     made_crash s s' k k' c.args.ppn c.args.protection c.in-Ok.first c.make_in_core.new.set c.requires.protection
-    whole made (c.self.invariant.rest (c.write_and_commit.ensures.same.was_honest h) c.if-self.false) f rests
+    whole made (c.self.invariant.core.rest (c.write_and_commit.ensures.same.was_honest h) c.if-self.false) f rests
     (c.write_and_commit.ensures.crash h k k'))
 
 pub returns-in-Ok-write_and_commit-clause-kept : goal.returns-in-Ok-write_and_commit-clause-kept
@@ -70,10 +82,10 @@ returns-in-Ok-write_and_commit-clause-kept g c = rw (← c.self.view_is) (λ h n
     let s' = g.D.Disk.state c.write_and_commit.new.disk in
     let k = (core_of c.self.inside.map).known in
     let k' = (core_of c.make_in_core.new.core).known in
-    let whole = c.self.invariant.whole.map in
+    let whole = c.self.invariant.core.whole.map in
     let made : IsMade s.size k k' c.args.ppn c.args.protection c.in-Ok.first c.make_in_core.new.set =
     subst (λ (b : ℕ). IsMade b k k' c.args.ppn c.args.protection c.in-Ok.first c.make_in_core.new.set)
-    c.self.invariant.whole.map.size_is c.in-Ok.ensures.made in
+    c.self.invariant.core.whole.map.size_is c.in-Ok.ensures.made in
     (c.in-Ok-write_and_commit.ensures.modified h).contents n
     (not_written s.size k k' c.args.ppn c.args.protection c.in-Ok.first c.make_in_core.new.set whole made
     n from none used))
@@ -84,12 +96,12 @@ returns-in-Err-write_and_commit-clause-crash g c = rw (← c.self.view_is) (λ h
     let s' = g.D.Disk.state c.write_and_commit.new.disk in
     let k = (core_of c.self.inside.map).known in
     let k' = (core_of c.make_in_core.new.core).known in
-    let whole = c.self.invariant.whole.map in
+    let whole = c.self.invariant.core.whole.map in
     let made : IsMade s.size k k' c.args.ppn c.args.protection c.in-Ok.first c.make_in_core.new.set =
     subst (λ (b : ℕ). IsMade b k k' c.args.ppn c.args.protection c.in-Ok.first c.make_in_core.new.set)
-    c.self.invariant.whole.map.size_is c.in-Ok.ensures.made in
+    c.self.invariant.core.whole.map.size_is c.in-Ok.ensures.made in
     made_crash s s' k k' c.args.ppn c.args.protection c.in-Ok.first c.make_in_core.new.set c.requires.protection
-    whole made (c.self.invariant.rest (c.write_and_commit.ensures.same.was_honest h) c.if-self.false) f rests
+    whole made (c.self.invariant.core.rest (c.write_and_commit.ensures.same.was_honest h) c.if-self.false) f rests
     (c.write_and_commit.ensures.crash h k k'))
 
 pub returns-in-Err-write_and_commit-clause-kept : goal.returns-in-Err-write_and_commit-clause-kept
@@ -98,10 +110,10 @@ returns-in-Err-write_and_commit-clause-kept g c = rw (← c.self.view_is) (λ h 
     let s' = g.D.Disk.state c.write_and_commit.new.disk in
     let k = (core_of c.self.inside.map).known in
     let k' = (core_of c.make_in_core.new.core).known in
-    let whole = c.self.invariant.whole.map in
+    let whole = c.self.invariant.core.whole.map in
     let made : IsMade s.size k k' c.args.ppn c.args.protection c.in-Ok.first c.make_in_core.new.set =
     subst (λ (b : ℕ). IsMade b k k' c.args.ppn c.args.protection c.in-Ok.first c.make_in_core.new.set)
-    c.self.invariant.whole.map.size_is c.in-Ok.ensures.made in
+    c.self.invariant.core.whole.map.size_is c.in-Ok.ensures.made in
     near_closed (λ m. (m ≡ c.in-Ok.first) ⊎ (IsGateOrLog s.size m ⊎ IsPutIn c.make_in_core.new.set m)) s s'
     (c.write_and_commit.ensures.near h) n
     (not_written s.size k k' c.args.ppn c.args.protection c.in-Ok.first c.make_in_core.new.set whole made
@@ -113,11 +125,11 @@ returns-in-Ok-write_and_commit-clause-done g c = rw (← c.self.view_is) (λ h f
     let s' = g.D.Disk.state c.write_and_commit.new.disk in
     let k = (core_of c.self.inside.map).known in
     let k' = (core_of c.make_in_core.new.core).known in
-    let whole = c.self.invariant.whole.map in
+    let whole = c.self.invariant.core.whole.map in
     let made : IsMade s.size k k' c.args.ppn c.args.protection c.in-Ok.first c.make_in_core.new.set =
     subst (λ (b : ℕ). IsMade b k k' c.args.ppn c.args.protection c.in-Ok.first c.make_in_core.new.set)
-    c.self.invariant.whole.map.size_is c.in-Ok.ensures.made in
-    let at = c.self.invariant.rest (c.in-Ok-write_and_commit.ensures.same.was_honest h) c.if-self.false in
+    c.self.invariant.core.whole.map.size_is c.in-Ok.ensures.made in
+    let at = c.self.invariant.core.rest (c.in-Ok-write_and_commit.ensures.same.was_honest h) c.if-self.false in
     made_done s s' k k' c.args.ppn c.args.protection c.in-Ok.first c.make_in_core.new.set c.requires.protection
     whole made at f rests c.write_and_commit.ensures.same.size
     (made_rest s s' k k' c.args.ppn c.args.protection c.in-Ok.first c.make_in_core.new.set c.requires.protection
@@ -129,14 +141,15 @@ invariant_of-self-in-Err-write_and_commit g c =
     let s' = g.D.Disk.state c.write_and_commit.new.disk in
     let k = (core_of c.self.inside.map).known in
     let k' = (core_of c.make_in_core.new.core).known in
-    let whole = c.self.invariant.whole.map in
+    let whole = c.self.invariant.core.whole.map in
     let made : IsMade s.size k k' c.args.ppn c.args.protection c.in-Ok.first c.make_in_core.new.set =
     subst (λ (b : ℕ). IsMade b k k' c.args.ppn c.args.protection c.in-Ok.first c.make_in_core.new.set)
-    c.self.invariant.whole.map.size_is c.in-Ok.ensures.made in
-    sound_failed s s' (core_of c.make_in_core.new.core) true c.write_and_commit.ensures.same.size
+    c.self.invariant.core.whole.map.size_is c.in-Ok.ensures.made in
+    volume_ends s' (core_of c.make_in_core.new.core) c.self.inside.layout
+    (sound_failed s s' (core_of c.make_in_core.new.core) true c.write_and_commit.ensures.same.size
     (made_core s.size k k' c.args.ppn c.args.protection c.in-Ok.first c.make_in_core.new.set whole made
-    (core_of c.self.inside.map) (core_of c.make_in_core.new.core) c.self.invariant.whole refl refl
-    c.make_in_core.ensures.live c.make_in_core.ensures.pending c.in-Ok.ensures.keys) refl
+    (core_of c.self.inside.map) (core_of c.make_in_core.new.core) c.self.invariant.core.whole refl refl
+    c.make_in_core.ensures.live c.make_in_core.ensures.pending c.in-Ok.ensures.keys) refl)
 
 pub returns-in-Ok-write_and_commit-clause-readers : goal.returns-in-Ok-write_and_commit-clause-readers
 returns-in-Ok-write_and_commit-clause-readers g c = rw (← c.self.view_is) (λ h served.
@@ -144,11 +157,11 @@ returns-in-Ok-write_and_commit-clause-readers g c = rw (← c.self.view_is) (λ 
     let s' = g.D.Disk.state c.write_and_commit.new.disk in
     let k = (core_of c.self.inside.map).known in
     let k' = (core_of c.make_in_core.new.core).known in
-    let whole = c.self.invariant.whole.map in
+    let whole = c.self.invariant.core.whole.map in
     let made : IsMade s.size k k' c.args.ppn c.args.protection c.in-Ok.first c.make_in_core.new.set =
     subst (λ (b : ℕ). IsMade b k k' c.args.ppn c.args.protection c.in-Ok.first c.make_in_core.new.set)
-    c.self.invariant.whole.map.size_is c.in-Ok.ensures.made in
-    used_read s.size (core_of c.self.inside.map) c.self.invariant.whole s.contents s'.contents
+    c.self.invariant.core.whole.map.size_is c.in-Ok.ensures.made in
+    used_read s.size (core_of c.self.inside.map) c.self.invariant.core.whole s.contents s'.contents
     (λ n is. (c.in-Ok-write_and_commit.ensures.modified h).contents n
     (not_written s.size k k' c.args.ppn c.args.protection c.in-Ok.first c.make_in_core.new.set whole made
     n is.from is.apart is.used)))
@@ -159,11 +172,11 @@ returns-in-Ok-write_and_commit-clause-writers g c = rw (← c.self.view_is) (λ 
     let s' = g.D.Disk.state c.write_and_commit.new.disk in
     let k = (core_of c.self.inside.map).known in
     let k' = (core_of c.make_in_core.new.core).known in
-    let whole = c.self.invariant.whole.map in
+    let whole = c.self.invariant.core.whole.map in
     let made : IsMade s.size k k' c.args.ppn c.args.protection c.in-Ok.first c.make_in_core.new.set =
     subst (λ (b : ℕ). IsMade b k k' c.args.ppn c.args.protection c.in-Ok.first c.make_in_core.new.set)
-    c.self.invariant.whole.map.size_is c.in-Ok.ensures.made in
-    used_written s.size (core_of c.self.inside.map) c.self.invariant.whole s.contents s'.contents
+    c.self.invariant.core.whole.map.size_is c.in-Ok.ensures.made in
+    used_written s.size (core_of c.self.inside.map) c.self.invariant.core.whole s.contents s'.contents
     (λ n is. (c.in-Ok-write_and_commit.ensures.modified h).contents n
     (not_written s.size k k' c.args.ppn c.args.protection c.in-Ok.first c.make_in_core.new.set whole made
     n is.from is.apart is.used)))
@@ -213,8 +226,8 @@ returns-in-Ok-write_and_commit-clause-homes g c = rw (← c.self.view_is) (λ h.
     let puts = c.make_in_core.new.set in
     let made : IsMade s.size k k' c.args.ppn c.args.protection c.in-Ok.first puts =
     subst (λ (b : ℕ). IsMade b k k' c.args.ppn c.args.protection c.in-Ok.first puts)
-    c.self.invariant.whole.map.size_is c.in-Ok.ensures.made in
-    let past = made_past s.size k k' c.args.ppn c.args.protection c.in-Ok.first puts c.self.invariant.whole.map made in
+    c.self.invariant.core.whole.map.size_is c.in-Ok.ensures.made in
+    let past = made_past s.size k k' c.args.ppn c.args.protection c.in-Ok.first puts c.self.invariant.core.whole.map made in
     homes_near (λ m. (m ≡ c.in-Ok.first) ⊎ (IsGateOrLog s.size m ⊎ IsPutIn puts m)) s s' past
     (c.write_and_commit.ensures.near h))
 
@@ -227,8 +240,8 @@ returns-in-Err-write_and_commit-clause-homes g c = rw (← c.self.view_is) (λ h
     let puts = c.make_in_core.new.set in
     let made : IsMade s.size k k' c.args.ppn c.args.protection c.in-Ok.first puts =
     subst (λ (b : ℕ). IsMade b k k' c.args.ppn c.args.protection c.in-Ok.first puts)
-    c.self.invariant.whole.map.size_is c.in-Ok.ensures.made in
-    let past = made_past s.size k k' c.args.ppn c.args.protection c.in-Ok.first puts c.self.invariant.whole.map made in
+    c.self.invariant.core.whole.map.size_is c.in-Ok.ensures.made in
+    let past = made_past s.size k k' c.args.ppn c.args.protection c.in-Ok.first puts c.self.invariant.core.whole.map made in
     homes_near (λ m. (m ≡ c.in-Ok.first) ⊎ (IsGateOrLog s.size m ⊎ IsPutIn puts m)) s s' past
     (c.write_and_commit.ensures.near h))
 
@@ -241,8 +254,8 @@ returns-in-Ok-write_and_commit-clause-home_blocks g c = rw (← c.self.view_is) 
     let puts = c.make_in_core.new.set in
     let made : IsMade s.size k k' c.args.ppn c.args.protection c.in-Ok.first puts =
     subst (λ (b : ℕ). IsMade b k k' c.args.ppn c.args.protection c.in-Ok.first puts)
-    c.self.invariant.whole.map.size_is c.in-Ok.ensures.made in
-    let past = made_past s.size k k' c.args.ppn c.args.protection c.in-Ok.first puts c.self.invariant.whole.map made in
+    c.self.invariant.core.whole.map.size_is c.in-Ok.ensures.made in
+    let past = made_past s.size k k' c.args.ppn c.args.protection c.in-Ok.first puts c.self.invariant.core.whole.map made in
     homes_stay (λ m. (m ≡ c.in-Ok.first) ⊎ (IsGateOrLog s.size m ⊎ IsPutIn puts m)) s s' past
     (c.in-Ok-write_and_commit.ensures.modified h))
 

@@ -6,13 +6,14 @@ use Rattle.volume.specs.declared.live.LiveVersion.{LiveVersion}
 use Rattle.volume.proofs.Answering.{rest_holds}
 use Rattle.volume.proofs.PinnedFiles.{key_file, pin_answered, pin_refused, pinned_sound}
 use Rattle.volume.proofs.PrimeBlocks.{prime_of_place, prime_of_no_file}
+use Rattle.volume.proofs.SoundVolumes.{volume_stays}
 use Rattle.volume.proofs.map.Volume.pin.Goals as goal
 
 pub returns-in_err-key-clause-value : goal.returns-in_err-key-clause-value
 returns-in_err-key-clause-value g c = rw (← c.self.view_is) (λ honest alive files rest.
     let s = g.D.Disk.state c.self.inside.disk in
     let core = core_of c.self.inside.map in
-    let holds = rest_holds s core c.self.inside.failed c.self.invariant honest alive files rest in
+    let holds = rest_holds s core c.self.inside.failed c.self.invariant.core honest alive files rest in
     let p = err_from_is_err_and c.from_residual.result c.from_residual.ensures.1 in
     pin_refused s core files holds c.args.ppn c.args.name.now core.live c.in_err-key.field-0.0 c.from_residual.result
     (p.1 ∙ ap Err p.2) c.in_err-key.ensures.none)
@@ -33,17 +34,19 @@ pub invariant_of-self : goal.invariant_of-self
 invariant_of-self g c =
     let s = g.D.Disk.state c.self.inside.disk in
     let is = c.in_ok-key.ensures.found in
-    pinned_sound s (core_of c.self.inside.map) (core_of c.pin_version.new.map) c.self.inside.failed c.args.ppn
-    c.args.name.now c.in_ok-key.key c.self.invariant is
-    (c.pin_version.ensures.whole s.size c.self.invariant.whole) c.pin_version.ensures.core
-    (c.pin_version.ensures.pinned is.version is.here) c.pin_version.ensures.others
+    volume_stays s (core_of c.self.inside.map) (core_of c.pin_version.new.map) c.self.inside.failed
+    c.self.inside.layout c.self.invariant
+    (pinned_sound s (core_of c.self.inside.map) (core_of c.pin_version.new.map) c.self.inside.failed c.args.ppn
+    c.args.name.now c.in_ok-key.key c.self.invariant.core is
+    (c.pin_version.ensures.whole s.size c.self.invariant.core.whole) c.pin_version.ensures.core
+    (c.pin_version.ensures.pinned is.version is.here) c.pin_version.ensures.others)
 
 pub returns-clause-value : goal.returns-clause-value
 returns-clause-value g c = rw (← c.self.view_is) (λ honest alive files rest.
     let s = g.D.Disk.state c.self.inside.disk in
     let core = core_of c.self.inside.map in
     let is = c.in_ok-key.ensures.found in
-    let holds = rest_holds s core c.self.inside.failed c.self.invariant honest alive files rest in
+    let holds = rest_holds s core c.self.inside.failed c.self.invariant.core honest alive files rest in
     pin_answered s files c.args.ppn c.args.name.now is.version (core_of c.pin_version.new.map).live
     (record { key = c.in_ok-key.key }) (is.version.readers + 1)
     (key_file s core files holds c.args.ppn c.args.name.now c.in_ok-key.key is)

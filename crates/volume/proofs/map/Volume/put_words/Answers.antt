@@ -1,5 +1,7 @@
 use Rattle.std.proofs.Common.{IsSome, subst, sym}
 use Rattle.volume.specs.Live.{pending_at}
+use Rattle.volume.specs.LiveCores.{core_of}
+use Rattle.volume.proofs.SoundVolumes.{still_serves, volume_goes_on}
 use Rattle.volume.proofs.map.Volume.put_words.Goals as goal
 
 pub put_in_core-requires-clause-live : goal.put_in_core-requires-clause-live
@@ -7,7 +9,15 @@ put_in_core-requires-clause-live g c = subst (λ m. IsSome (pending_at m.core.pe
     (sym c.self.view_is) c.requires.live
 
 pub invariant_of-self : goal.invariant_of-self
-invariant_of-self g c = c.put_in_core.ensures.sound
+invariant_of-self g c =
+    let s = g.D.Disk.state c.self.inside.disk in
+    let s' = g.D.Disk.state c.put_in_core.new.disk in
+    let ensures = c.put_in_core.ensures in
+    volume_goes_on s s' (core_of c.self.inside.map) (core_of c.put_in_core.new.map) c.self.inside.failed
+    c.put_in_core.new.failed c.self.inside.layout c.self.invariant ensures.sound ensures.same.size
+    ensures.same.was_honest
+    (still_serves c.put_in_core.result c.self.inside.failed c.put_in_core.new.failed ensures.device ensures.gone
+    ensures.still) (λ h ok. ensures.home_blocks h)
 
 pub returns-clause-quiet : goal.returns-clause-quiet
 returns-clause-quiet g c = rw (← c.self.view_is) c.put_in_core.ensures.quiet

@@ -11,6 +11,7 @@ use Rattle.volume.proofs.MovingAnswers.{moved_no_room, memory_plain}
 use Rattle.volume.proofs.Publications.{unchanged_leaves}
 use Rattle.volume.proofs.RenamingAnswers.{not_refused}
 use Rattle.volume.proofs.HomesKept.{homes_start}
+use Rattle.volume.proofs.SoundVolumes.{no_device, volume_goes_on}
 use Rattle.volume.proofs.map.Volume.rename_across.Goals as goal
 
 pub returns-then-self-clause-held : goal.returns-then-self-clause-held
@@ -23,21 +24,21 @@ pub returns-in-Err-clause-no_directory : goal.returns-in-Err-clause-no_directory
 returns-in-Err-clause-no_directory g c = rw (← c.self.view_is) (λ alive.
     let s = g.D.Disk.state c.self.inside.disk in
     let core = core_of c.self.inside.map in
-    no_file_homeless s.size core c.self.invariant.whole c.args.ppn c.args.name.now c.args.to_ppn c.args.to.now
+    no_file_homeless s.size core c.self.invariant.core.whole c.args.ppn c.args.name.now c.args.to_ppn c.args.to.now
     c.in-Err.error c.in-Err.ensures.none)
 
 pub returns-in-Err-clause-exists : goal.returns-in-Err-clause-exists
 returns-in-Err-clause-exists g c = rw (← c.self.view_is) (λ alive.
     let s = g.D.Disk.state c.self.inside.disk in
     let core = core_of c.self.inside.map in
-    no_file_exists s.size core c.self.invariant.whole c.args.ppn c.args.name.now c.args.to_ppn c.args.to.now
+    no_file_exists s.size core c.self.invariant.core.whole c.args.ppn c.args.name.now c.args.to_ppn c.args.to.now
     c.in-Err.error c.in-Err.ensures.none)
 
 pub returns-in-Err-clause-no_room : goal.returns-in-Err-clause-no_room
 returns-in-Err-clause-no_room g c = rw (← c.self.view_is) (λ alive.
     let s = g.D.Disk.state c.self.inside.disk in
     let core = core_of c.self.inside.map in
-    no_file_no_room s.size core c.self.invariant.whole c.args.ppn c.args.name.now c.args.to_ppn c.args.to.now
+    no_file_no_room s.size core c.self.invariant.core.whole c.args.ppn c.args.name.now c.args.to_ppn c.args.to.now
     c.in-Err.error c.in-Err.ensures.none)
 
 pub returns-in-Err-find_target-clause-crash : goal.returns-in-Err-find_target-clause-crash
@@ -52,7 +53,7 @@ pub returns-in-Err-find_target-clause-no_directory : goal.returns-in-Err-find_ta
 returns-in-Err-find_target-clause-no_directory g c = rw (← c.self.view_is) (λ alive.
     let s = g.D.Disk.state c.self.inside.disk in
     let core = core_of c.self.inside.map in
-    target_homeless s.size core c.self.invariant.whole c.args.ppn c.args.name.now c.args.to_ppn c.args.to.now
+    target_homeless s.size core c.self.invariant.core.whole c.args.ppn c.args.name.now c.args.to_ppn c.args.to.now
     c.in-Ok.key c.in-Ok.ensures.found c.in-Err-find_target.error c.in-Err-find_target.ensures.only
     c.in-Err-find_target.ensures.no_directory)
 
@@ -60,14 +61,14 @@ pub returns-in-Err-find_target-clause-not_found : goal.returns-in-Err-find_targe
 returns-in-Err-find_target-clause-not_found g c = rw (← c.self.view_is) (λ alive.
     let s = g.D.Disk.state c.self.inside.disk in
     let core = core_of c.self.inside.map in
-    target_lacking s.size core c.self.invariant.whole c.args.ppn c.args.name.now c.args.to_ppn c.args.to.now
+    target_lacking s.size core c.self.invariant.core.whole c.args.ppn c.args.name.now c.args.to_ppn c.args.to.now
     c.in-Ok.key c.in-Ok.ensures.found c.in-Err-find_target.error c.in-Err-find_target.ensures.only)
 
 pub returns-in-Err-find_target-clause-exists : goal.returns-in-Err-find_target-clause-exists
 returns-in-Err-find_target-clause-exists g c = rw (← c.self.view_is) (λ alive.
     let s = g.D.Disk.state c.self.inside.disk in
     let core = core_of c.self.inside.map in
-    target_exists s.size core c.self.invariant.whole c.args.ppn c.args.name.now c.args.to_ppn c.args.to.now
+    target_exists s.size core c.self.invariant.core.whole c.args.ppn c.args.name.now c.args.to_ppn c.args.to.now
     c.in-Ok.key c.in-Ok.ensures.found c.in-Err-find_target.error c.in-Err-find_target.ensures.only
     c.in-Err-find_target.ensures.exists)
 
@@ -75,7 +76,7 @@ pub returns-in-Err-find_target-clause-no_room : goal.returns-in-Err-find_target-
 returns-in-Err-find_target-clause-no_room g c = rw (← c.self.view_is) (λ alive.
     let s = g.D.Disk.state c.self.inside.disk in
     let core = core_of c.self.inside.map in
-    target_no_room s.size core c.self.invariant.whole c.args.ppn c.args.name.now c.args.to_ppn c.args.to.now
+    target_no_room s.size core c.self.invariant.core.whole c.args.ppn c.args.name.now c.args.to_ppn c.args.to.now
     c.in-Ok.key c.in-Ok.ensures.found c.in-Err-find_target.error c.in-Err-find_target.ensures.only
     c.in-Err-find_target.ensures.no_room)
 
@@ -91,14 +92,14 @@ pub returns-in_default-clause-not_found : goal.returns-in_default-clause-not_fou
 returns-in_default-clause-not_found g c = rw (← c.self.view_is) (λ alive.
     let s = g.D.Disk.state c.self.inside.disk in
     let core = core_of c.self.inside.map in
-    moved_lacking s.size core c.self.invariant.whole c.args.ppn c.args.name.now c.args.to_ppn c.args.to.now
+    moved_lacking s.size core c.self.invariant.core.whole c.args.ppn c.args.name.now c.args.to_ppn c.args.to.now
     c.in-Ok.key c.in-Ok.ensures.found _ memory_plain c.in-Ok-find_target.place)
 
 pub returns-in_default-clause-exists : goal.returns-in_default-clause-exists
 returns-in_default-clause-exists g c = rw (← c.self.view_is) (λ alive.
     let s = g.D.Disk.state c.self.inside.disk in
     let core = core_of c.self.inside.map in
-    moved_exists s.size core c.self.invariant.whole c.args.ppn c.args.name.now c.args.to_ppn c.args.to.now
+    moved_exists s.size core c.self.invariant.core.whole c.args.ppn c.args.name.now c.args.to_ppn c.args.to.now
     c.in-Ok.key c.in-Ok.ensures.found _ memory_plain c.in-Ok-find_target.place
     c.in-Ok-find_target.ensures.exists)
 
@@ -106,7 +107,7 @@ pub returns-in_default-clause-no_room : goal.returns-in_default-clause-no_room
 returns-in_default-clause-no_room g c = rw (← c.self.view_is) (λ alive.
     let s = g.D.Disk.state c.self.inside.disk in
     let core = core_of c.self.inside.map in
-    moved_no_room s.size core c.self.invariant.whole c.args.ppn c.args.name.now c.args.to_ppn c.args.to.now
+    moved_no_room s.size core c.self.invariant.core.whole c.args.ppn c.args.name.now c.args.to_ppn c.args.to.now
     c.in-Ok.key c.in-Ok.ensures.found _ memory_plain c.in-Ok-find_target.place
     c.in-Ok-find_target.ensures.no_room)
 
@@ -121,7 +122,7 @@ move_across-requires-clause-may_arrive g c =
       room = target.room;
       fits = λ d place v stands is.
           let same = one_place (core_of m).known.master.entries c.in-Ok-find_target.place place c.args.to_ppn found.0 v
-          c.self.invariant.whole.map.chain.each_once found.1.is stands.is in
+          c.self.invariant.core.whole.map.chain.each_once found.1.is stands.is in
           let at = ap (slice_get m.directories.items) same ∙ is in
           (c.in-Ok-find_entry_supplies.ensures.fits d at, c.in-Ok-find_entry_supplies.ensures.roomy d at);
     }
@@ -172,7 +173,7 @@ pub returns-clause-not_found : goal.returns-clause-not_found
 returns-clause-not_found g c = rw (← c.self.view_is) (λ alive.
     let s = g.D.Disk.state c.self.inside.disk in
     let core = core_of c.self.inside.map in
-    moved_lacking s.size core c.self.invariant.whole c.args.ppn c.args.name.now c.args.to_ppn c.args.to.now
+    moved_lacking s.size core c.self.invariant.core.whole c.args.ppn c.args.name.now c.args.to_ppn c.args.to.now
     c.in-Ok.key c.in-Ok.ensures.found c.move_across.result
     (not_refused c.move_across.result c.move_across.ensures.only) c.in-Ok-find_target.place)
 
@@ -180,7 +181,7 @@ pub returns-clause-exists : goal.returns-clause-exists
 returns-clause-exists g c = rw (← c.self.view_is) (λ alive.
     let s = g.D.Disk.state c.self.inside.disk in
     let core = core_of c.self.inside.map in
-    moved_exists s.size core c.self.invariant.whole c.args.ppn c.args.name.now c.args.to_ppn c.args.to.now
+    moved_exists s.size core c.self.invariant.core.whole c.args.ppn c.args.name.now c.args.to_ppn c.args.to.now
     c.in-Ok.key c.in-Ok.ensures.found c.move_across.result
     (not_refused c.move_across.result c.move_across.ensures.only) c.in-Ok-find_target.place
     c.in-Ok-find_target.ensures.exists)
@@ -189,7 +190,7 @@ pub returns-clause-no_room : goal.returns-clause-no_room
 returns-clause-no_room g c = rw (← c.self.view_is) (λ alive.
     let s = g.D.Disk.state c.self.inside.disk in
     let core = core_of c.self.inside.map in
-    moved_no_room s.size core c.self.invariant.whole c.args.ppn c.args.name.now c.args.to_ppn c.args.to.now
+    moved_no_room s.size core c.self.invariant.core.whole c.args.ppn c.args.name.now c.args.to_ppn c.args.to.now
     c.in-Ok.key c.in-Ok.ensures.found c.move_across.result
     (not_refused c.move_across.result c.move_across.ensures.only) c.in-Ok-find_target.place
     c.in-Ok-find_target.ensures.no_room)
@@ -217,3 +218,13 @@ returns-clause-homes g c = rw (← c.self.view_is) c.move_across.ensures.homes
 
 pub returns-clause-home_blocks : goal.returns-clause-home_blocks
 returns-clause-home_blocks g c = rw (← c.self.view_is) c.move_across.ensures.home_blocks
+
+-- The layout stays.
+
+pub invariant_of-self : goal.invariant_of-self
+invariant_of-self g c =
+    let ensures = c.move_across.ensures in
+    volume_goes_on (g.D.Disk.state c.self.inside.disk) (g.D.Disk.state c.move_across.new.disk) (core_of c.self.inside.map)
+    (core_of c.move_across.new.map) c.self.inside.failed c.move_across.new.failed c.self.inside.layout c.self.invariant
+    ensures.sound ensures.same.size ensures.same.was_honest (λ ok. c.if-self.false)
+    (λ h ok. ensures.home_blocks h (no_device c.move_across.result c.move_across.new.failed ensures.ended ok))

@@ -8,6 +8,7 @@ use Rattle.volume.proofs.RenamedPlaces.{moved_before, moved_here, moved_gone, mo
 use Rattle.volume.proofs.RenamingAnswers.{refused_not_found, refused_exists, refused_no_directory, refused_codes}
 use Rattle.volume.proofs.RenamingAnswers.{refused_plain, key_there, not_refused}
 use Rattle.volume.proofs.HomesKept.{homes_start}
+use Rattle.volume.proofs.SoundVolumes.{no_device, volume_goes_on}
 use Rattle.volume.proofs.map.Volume.rename_within.Goals as goal
 
 pub returns-then-self-clause-held : goal.returns-then-self-clause-held
@@ -27,28 +28,28 @@ pub returns-in-Err-clause-not_found : goal.returns-in-Err-clause-not_found
 returns-in-Err-clause-not_found g c = rw (← c.self.view_is) (λ alive.
     let s = g.D.Disk.state c.self.inside.disk in
     let core = core_of c.self.inside.map in
-    refused_not_found s.size core c.self.invariant.whole c.args.ppn c.args.name.now c.args.to.now c.in-Err.error
+    refused_not_found s.size core c.self.invariant.core.whole c.args.ppn c.args.name.now c.args.to.now c.in-Err.error
     c.in-Err.ensures.refused)
 
 pub returns-in-Err-clause-exists : goal.returns-in-Err-clause-exists
 returns-in-Err-clause-exists g c = rw (← c.self.view_is) (λ alive.
     let s = g.D.Disk.state c.self.inside.disk in
     let core = core_of c.self.inside.map in
-    refused_exists s.size core c.self.invariant.whole c.args.ppn c.args.name.now c.args.to.now c.in-Err.error
+    refused_exists s.size core c.self.invariant.core.whole c.args.ppn c.args.name.now c.args.to.now c.in-Err.error
     c.in-Err.ensures.refused)
 
 pub returns-in-Err-clause-no_directory : goal.returns-in-Err-clause-no_directory
 returns-in-Err-clause-no_directory g c = rw (← c.self.view_is) (λ alive.
     let s = g.D.Disk.state c.self.inside.disk in
     let core = core_of c.self.inside.map in
-    refused_no_directory s.size core c.self.invariant.whole c.args.ppn c.args.name.now c.args.to.now c.in-Err.error
+    refused_no_directory s.size core c.self.invariant.core.whole c.args.ppn c.args.name.now c.args.to.now c.in-Err.error
     c.in-Err.ensures.refused)
 
 pub returns-in-Err-clause-codes : goal.returns-in-Err-clause-codes
 returns-in-Err-clause-codes g c code is =
     let s = g.D.Disk.state c.self.inside.disk in
     let core = core_of c.self.inside.map in
-    refused_codes s.size core c.self.invariant.whole c.args.ppn c.args.name.now c.args.to.now c.in-Err.error
+    refused_codes s.size core c.self.invariant.core.whole c.args.ppn c.args.name.now c.args.to.now c.in-Err.error
     c.in-Err.ensures.refused
     code is
 
@@ -56,21 +57,21 @@ pub returns-in-Err-clause-memory : goal.returns-in-Err-clause-memory
 returns-in-Err-clause-memory g c is =
     let s = g.D.Disk.state c.self.inside.disk in
     let core = core_of c.self.inside.map in
-    absurd ((refused_plain s.size core c.self.invariant.whole c.args.ppn c.args.name.now c.args.to.now c.in-Err.error
+    absurd ((refused_plain s.size core c.self.invariant.core.whole c.args.ppn c.args.name.now c.args.to.now c.in-Err.error
     c.in-Err.ensures.refused).0 is)
 
 pub returns-in-Err-clause-device : goal.returns-in-Err-clause-device
 returns-in-Err-clause-device g c = rw (← c.self.view_is) (λ is.
     let s = g.D.Disk.state c.self.inside.disk in
     let core = core_of c.self.inside.map in
-    absurd ((refused_plain s.size core c.self.invariant.whole c.args.ppn c.args.name.now c.args.to.now c.in-Err.error
+    absurd ((refused_plain s.size core c.self.invariant.core.whole c.args.ppn c.args.name.now c.args.to.now c.in-Err.error
     c.in-Err.ensures.refused).1 is))
 
 pub returns-in-Err-clause-ended : goal.returns-in-Err-clause-ended
 returns-in-Err-clause-ended g c = rw (← c.self.view_is) (λ is.
     let s = g.D.Disk.state c.self.inside.disk in
     let core = core_of c.self.inside.map in
-    absurd ((refused_plain s.size core c.self.invariant.whole c.args.ppn c.args.name.now c.args.to.now c.in-Err.error
+    absurd ((refused_plain s.size core c.self.invariant.core.whole c.args.ppn c.args.name.now c.args.to.now c.in-Err.error
     c.in-Err.ensures.refused).2 is))
 
 pub returns-clause-crash : goal.returns-clause-crash
@@ -121,7 +122,7 @@ returns-clause-not_found g c = rw (← c.self.view_is) (λ alive.
     let s = g.D.Disk.state c.self.inside.disk in
     let core = core_of c.self.inside.map in (
       λ is. absurd (not_refused c.move_within.result c.move_within.ensures.only NotFound is),
-      λ lacks. absurd (key_there s.size core c.self.invariant.whole c.args.ppn c.args.name.now c.in-Ok.key
+      λ lacks. absurd (key_there s.size core c.self.invariant.core.whole c.args.ppn c.args.name.now c.in-Ok.key
           c.in-Ok.ensures.found lacks),
     ))
 
@@ -140,3 +141,13 @@ returns-clause-homes g c = rw (← c.self.view_is) c.move_within.ensures.homes
 
 pub returns-clause-home_blocks : goal.returns-clause-home_blocks
 returns-clause-home_blocks g c = rw (← c.self.view_is) c.move_within.ensures.home_blocks
+
+-- The layout stays.
+
+pub invariant_of-self : goal.invariant_of-self
+invariant_of-self g c =
+    let ensures = c.move_within.ensures in
+    volume_goes_on (g.D.Disk.state c.self.inside.disk) (g.D.Disk.state c.move_within.new.disk) (core_of c.self.inside.map)
+    (core_of c.move_within.new.map) c.self.inside.failed c.move_within.new.failed c.self.inside.layout c.self.invariant
+    ensures.sound ensures.same.size ensures.same.was_honest (λ ok. c.if-self.false)
+    (λ h ok. ensures.home_blocks h (no_device c.move_within.result c.move_within.new.failed ensures.ended ok))

@@ -8,15 +8,15 @@ use Rattle.volume.proofs.Answering.{rest_holds, booked_is}
 use Rattle.volume.proofs.map.Volume.room.Goals as goal
 
 pub difference-requires : goal.difference-requires
-difference-requires g c = subst (λ (n : ℕ). n < 2 ^ 63) (sym c.booked.ensures.value) c.self.invariant.whole.fits
+difference-requires g c = subst (λ (n : ℕ). n < 2 ^ 63) (sym c.booked.ensures.value) c.self.invariant.core.whole.fits
 
 pub returns : goal.returns
 returns g c = rw (← c.self.view_is) (λ honest alive files rest.
     let s = g.D.Disk.state c.self.inside.disk in
     let k = core_of c.self.inside.map in
     let booked : c.booked.result ≡ cost_of_files files + cost_beyond k = c.booked.ensures.value
-    ∙ booked_is s k files c.self.invariant.whole
-    (rest_holds s k c.self.inside.failed c.self.invariant honest alive files rest) in
+    ∙ booked_is s k files c.self.invariant.core.whole
+    (rest_holds s k c.self.inside.failed c.self.invariant.core honest alive files rest) in
     let space : c.blocks-size.result - c.space_start.result
     ≡ s.size - space_start s.size = ap (λ n. c.blocks-size.result - n) c.space_start.ensures
     ∙ ap (λ n. n - space_start n) c.blocks-size.ensures in

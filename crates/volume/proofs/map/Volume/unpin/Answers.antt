@@ -4,6 +4,7 @@ use Rattle.volume.specs.Live.{slot}
 use Rattle.volume.specs.LiveCores.{core_of}
 use Rattle.volume.specs.declared.live.LiveVersion.{LiveVersion}
 use Rattle.volume.proofs.PinnedFiles.{unpinned_sound}
+use Rattle.volume.proofs.SoundVolumes.{volume_stays}
 use Rattle.volume.proofs.map.Volume.unpin.Goals as goal
 
 pub invariant_of-self : goal.invariant_of-self
@@ -11,11 +12,13 @@ invariant_of-self g c =
     let s = g.D.Disk.state c.self.inside.disk in
     let live = subst (λ m. (v : LiveVersion) × (slot m.core.live c.args.pin.key ≡ Some v)
     × (0 < v.readers)) (sym c.self.view_is) c.requires.live in
-    unpinned_sound s (core_of c.self.inside.map) (core_of c.unpin_version.new.map) c.self.inside.failed
-    c.args.pin.key live.0 c.self.invariant live.1 (c.unpin_version.ensures.whole s.size c.self.invariant.whole)
+    volume_stays s (core_of c.self.inside.map) (core_of c.unpin_version.new.map) c.self.inside.failed
+    c.self.inside.layout c.self.invariant
+    (unpinned_sound s (core_of c.self.inside.map) (core_of c.unpin_version.new.map) c.self.inside.failed
+    c.args.pin.key live.0 c.self.invariant.core live.1 (c.unpin_version.ensures.whole s.size c.self.invariant.core.whole)
     c.unpin_version.ensures.pending c.unpin_version.ensures.known (λ n. ap (λ t. bit t n) c.unpin_version.ensures.table)
     (λ which. (c.unpin_version.ensures.stays live.0 live.1 which).0)
-    (λ ended last. (c.unpin_version.ensures.gone live.0 live.1 ended last).0) live.2 c.unpin_version.ensures.others
+    (λ ended last. (c.unpin_version.ensures.gone live.0 live.1 ended last).0) live.2 c.unpin_version.ensures.others)
 
 pub returns-clause-stays : goal.returns-clause-stays
 returns-clause-stays g c = rw (← c.self.view_is) c.unpin_version.ensures.stays
