@@ -59,8 +59,9 @@ says_same layout words p q n runs next mode a is =
     }
 
 -- So it is the prime block of a version if writing it anew for the prime changes nothing,
-pub is_prime : (layout : ℕ) (words anew : List ℕ) (p q : PrimeValue) (n : ℕ) (runs : List Run) (next : ℕ) (v : VersionState)
-    → IsMode (mode_number q.mode) → SpellsPrime layout words (with_length p n) runs next → IsRewritten words anew q
+pub is_prime : (layout : ℕ) (words anew : List ℕ) (p q : PrimeValue) (n : ℕ) (runs : List Run) (next : ℕ)
+    (v : VersionState) → IsMode (mode_number q.mode) → SpellsPrime layout words (with_length p n) runs next
+    → IsRewritten words anew q
     → anew ≡ words → n ≡ v.words → next ≡ head_or_zero v.ribs → IsPrimeOf layout words q v
 is_prime layout words anew p q n runs next v mode a rewritten same long first =
     let b = says_same layout words p q n runs next mode a

@@ -174,7 +174,8 @@ module _ (size : ℕ) (c : Contents) (layout at : ℕ) (prime : PrimeValue) (v :
     (r : IsReadTo size c layout at prime v n) where
   pub read_more : (words : List ℕ) (next : ℕ) (new : VersionState) → 0 < n → c n ≡ Some words
       → Extends size words n next v new → IsReadTo size c layout at prime new next
-  read_more words next new some is x = subst (λ (w : VersionState). IsReadTo size c layout at prime w next) (sym x.version_is)
+  read_more words next new some is x = subst (λ (w : VersionState). IsReadTo size c layout at prime w next)
+      (sym x.version_is)
       (record {
         runs = r.runs;
         first = r.first;
@@ -224,7 +225,8 @@ module _ (size : ℕ) (c : Contents) (layout at : ℕ) (prime : PrimeValue) (v :
       (walked_on words runs next some is s) more less
 
   -- or has more blocks than the length asks for
-  pub bad_overfilled : (words : List ℕ) → 0 < n → c n ≡ Some words → Overfills words v → IsBadVersion size c layout at at
+  pub bad_overfilled : (words : List ℕ) → 0 < n → c n ≡ Some words → Overfills words v
+      → IsBadVersion size c layout at at
   bad_overfilled words some is o =
       IsBadVersion.too_many (with_length prime v.words) r.runs r.first o.next (r.extensions ++ (n, o.runs) ∷ []) r.read
       (walked_on words o.runs o.next some is o.spells)
@@ -273,7 +275,8 @@ module _ (size : ℕ) (c : Contents) (layout at : ℕ) (prime : PrimeValue) (v :
 
 -- The prime block is damaged.
 pub damaged_prime : (size : ℕ) (c : Contents) (layout at : ℕ) → c at ≡ None → IsBadVersion size c layout at at
-damaged_prime size c layout at none = IsBadVersion.malformed_prime (λ p runs next read few. some_none (sym read.words ∙ none))
+damaged_prime size c layout at none =
+    IsBadVersion.malformed_prime (λ p runs next read few. some_none (sym read.words ∙ none))
 
 -- Or it isn't as it should be.
 pub bad_prime : (size : ℕ) (c : Contents) (layout at : ℕ) (words : List ℕ) → c at ≡ Some words
@@ -288,9 +291,11 @@ bad_prime size c layout at words is (IsBadPrime.malformed wrong) = IsBadVersion.
       few = few;
       are_runs = read.are_runs;
     }))
-bad_prime size c layout at words is (IsBadPrime.run_outside p runs next s outside) = IsBadVersion.prime_run_outside p runs next
+bad_prime size c layout at words is (IsBadPrime.run_outside p runs next s outside) =
+    IsBadVersion.prime_run_outside p runs next
     (read_of c layout at words p runs next is s) outside
-bad_prime size c layout at words is (IsBadPrime.next_outside p runs next s some outside) = IsBadVersion.prime_next_outside
+bad_prime size c layout at words is (IsBadPrime.next_outside p runs next s some outside) =
+    IsBadVersion.prime_next_outside
     p runs next (read_of c layout at words p runs next is s) some outside
 bad_prime size c layout at words is (IsBadPrime.short p runs next s some less) = IsBadVersion.prime_short p runs next
     (read_of c layout at words p runs next is s) some less
@@ -317,8 +322,8 @@ pub falls : (a a' b b' : ℕ) → a' ≡ a → b < b' → b' ≤ a' → a' - b' 
 falls a a' b b' same less few = omega arith
 
 -- on a disk of this size
-pub bad_of : (size size' : ℕ) (c : Contents) (layout at k n : ℕ) → size ≡ size' → k ≡ n → IsBadVersion size c layout at n
-    → IsBadVersion size' c layout at k
+pub bad_of : (size size' : ℕ) (c : Contents) (layout at k n : ℕ) → size ≡ size' → k ≡ n
+    → IsBadVersion size c layout at n → IsBadVersion size' c layout at k
 bad_of size size' c layout at k n same is bad = subst (λ (s : ℕ). IsBadVersion s c layout at k) same
     (subst (λ (m : ℕ). IsBadVersion size c layout at m) (sym is) bad)
 

@@ -49,5 +49,6 @@ read_as size c layout at prime v p ribs blocks read is ext =
     let exts = prime_ext_same layout (with_length prime v.words) p read.retrieved.runs is.runs
     (first_extension read.retrieved.further) (first_extension is.further) read.retrieved.fits is.fits read.ext_fits
     ext words in
-    let same = retrieved_same layout c (with_length prime v.words) p at v.ribs ribs v.blocks blocks read.retrieved is exts in
+    let same = retrieved_same layout c (with_length prime v.words) p at v.ribs ribs v.blocks blocks read.retrieved is
+    exts in
     record { prime_is = same.0; ribs_are = same.1; blocks_are = same.2 }

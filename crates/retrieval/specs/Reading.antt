@@ -16,12 +16,15 @@ use Rattle.retrieval.specs.declared.prime.Prime.{Prime as PrimeValue}
 
 -- The words of a prime block, with what is wrong with them in this layout.
 pub data IsBadPrime (size layout : ℕ) (words : List ℕ) : Type 0 where
-  malformed : ((p : Prime) (runs : List Run) (next : ℕ) → SpellsPrime layout words p runs next → ⊥) → IsBadPrime size layout words
-  run_outside : (p : Prime) (runs : List Run) (next : ℕ) → SpellsPrime layout words p runs next → (RunsInSpace size runs → ⊥)
+  malformed : ((p : Prime) (runs : List Run) (next : ℕ) → SpellsPrime layout words p runs next → ⊥)
+      → IsBadPrime size layout words
+  run_outside : (p : Prime) (runs : List Run) (next : ℕ) → SpellsPrime layout words p runs next
+      → (RunsInSpace size runs → ⊥)
       → IsBadPrime size layout words
   next_outside : (p : Prime) (runs : List Run) (next : ℕ) → SpellsPrime layout words p runs next → 0 < next
       → (InSpace size next → ⊥) → IsBadPrime size layout words
-  short : (p : Prime) (runs : List Run) (next : ℕ) → SpellsPrime layout words p runs next → 0 < next → (length runs ≡ 112 → ⊥)
+  short : (p : Prime) (runs : List Run) (next : ℕ) → SpellsPrime layout words p runs next → 0 < next
+      → (length runs ≡ 112 → ⊥)
       → IsBadPrime size layout words
   too_many : (p : Prime) (runs : List Run) (next : ℕ) → SpellsPrime layout words p runs next
       → blocks_of p.words < length (flat_map run_blocks runs) → IsBadPrime size layout words

@@ -1,7 +1,7 @@
 ghost use Rattle.std.specs.Prelude.{◌≡◌, ◌+◌, ◌*◌, ◌/◌, ◌%◌, ◌<◌, ◌≤◌, ◌^◌, ℕ, IfSome, IfNone};
 ghost use Rattle.words36.specs.Words.{IsPpn};
 ghost use Rattle.meaning.specs.Layouts.{layout_number};
-ghost use Rattle.meaning.specs.Retrieval.{Prime as PrimeRecord, IsMode, IsPrime, attributes, extension_word, date_limit};
+ghost use Rattle.meaning.specs.Retrieval.{Prime as PrimeRecord, attributes, extension_word, date_limit};
 ghost use Rattle.retrieval.specs.Modes.{mode_number};
 ghost use Rattle.retrieval.specs.Primes.{with_length};
 ghost use Rattle.retrieval.specs.Heads.{IsAttributes, IsPrimeHead, IsExtensionHead};

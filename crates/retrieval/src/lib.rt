@@ -17,7 +17,8 @@
 //!    are the same in all layouts that have the date. A `Mode` is one of the six data modes of files.
 //! 6. `write_version` writes no block but the prime block and the ribs that it took from the table, all
 //!    different, in the free space and free before; at Ok the version stands there in each layout that has its date,
-//!    and it is read back if its data blocks lie in the free space. The prime block and the ribs have the longest runs of these.
+//!    and it is read back if its data blocks lie in the free space. The prime block and the ribs have the longest runs
+//!    of these.
 //!    (`written`, `read_back`, `prime_is`, `ribs_are`, `taken`, `own`, `apart`, `modified`)
 //! 7. `get_words` answers the words of a body that stand there from a block on, as many as are asked for
 //!    and are there, or names a data block that is damaged; such a block is never answered as words.

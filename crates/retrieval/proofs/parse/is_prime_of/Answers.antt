@@ -28,7 +28,8 @@ returns c =
     let first : head.next ≡ head_or_zero version.ribs = search rules in
     let says = slice_eq-Decides {E = λ a b. a == b} (λ a b. Decides-eqb a b) anew words c.eq.result c.eq.ensures in (
       λ yes.
-          is_prime layout words anew head.prime prime head.length (runs_of (take head.count (drop 16 words))) head.next version
-          (is_mode prime.mode) c.in-Some.ensures.some c.prime_block_for.ensures (says.0 yes) long first,
+          is_prime layout words anew head.prime prime head.length (runs_of (take head.count (drop 16 words)))
+          head.next version (is_mode prime.mode) c.in-Some.ensures.some c.prime_block_for.ensures (says.0 yes) long
+          first,
       λ is. says.1 (prime_anew layout words anew prime version is c.prime_block_for.ensures),
     )

@@ -107,7 +107,8 @@ returns-in-Ok-clause-read_back g c h layout date inside =
     AllByRecursion (InSpace old.size) w.blocks) (sym c.take_retrieval_blocks-at.ensures.kept) inside in
     subst (λ (s : ℕ). IsStandingVersion s new.contents layout at p ribs v.blocks)
     (sym c.write_retrieval_blocks.ensures.same.size)
-    (whole_version old.size new.contents layout p at ribs v.blocks (c.in-Ok.ensures.written h layout date) (λ n there. (own n there).1) its
+    (whole_version old.size new.contents layout p at ribs v.blocks (c.in-Ok.ensures.written h layout date)
+    (λ n there. (own n there).1) its
     (subst IsPpn c.word.ensures.value c.word.ensures.ppn)
     (subst (λ (n : ℕ). n < 2 ^ 18) c.bits.ensures.value c.bits.ensures.fits))
 
