@@ -1,17 +1,15 @@
 -- Pointers that are put into a block one after the other.
-use Rattle.std.proofs.Common.{◌≡◌, ◌⊎◌, ⊎_elim, ℕ, min, add-zero, zero, suc, ◌+◌, ◌-◌, ◌^◌, ◌<◌, ◌≤◌, List, [], ◌∷◌}
+use Rattle.std.proofs.Common.{◌≡◌, ◌⊎◌, ⊎_elim, ℕ, min, zero, suc, ◌+◌, ◌-◌, ◌^◌, ◌<◌, ◌≤◌, List, [], ◌∷◌}
 use Rattle.std.proofs.Common.{◌++◌, map, length, get_or, take, drop, replicate, slice_set, refl, sym, ◌∙◌, ap, subst}
 use Rattle.std.proofs.Common.{arith}
 use Rattle.std.proofs.Common.{append_assoc, length-append}
 use Rattle.std.specs.List.{AllByRecursion}
 use Rattle.std.proofs.lemmas.List.{map_more, take_all, take-append-drop, map-append, length-map, length-take-le}
 use Rattle.std.proofs.Math.Seq.{set-append_seam}
-use Rattle.words36.specs.Words.{join}
 use Rattle.meaning.specs.Retrieval.{Prime, Run, IsRun, run_blocks, pointer, prime_word, extension_word, attributes}
 use Rattle.meaning.specs.Retrieval.{prime_block}
 use Rattle.meaning.proofs.SlotLaws.{all_right}
 use Rattle.retrieval.specs.Heads.{prime_front}
-use Rattle.retrieval.proofs.Spellings.{ext_word}
 use Rattle.retrieval.specs.Runs.{pair_of, pairs_of, blocks_of_runs}
 use Rattle.retrieval.specs.declared.run.Run.{Run as RunValue}
 use Rattle.retrieval.proofs.RunLists.{length-count_up}
@@ -96,14 +94,12 @@ pub put_none : (words : List ℕ) → drop 16 words ≡ replicate 112 0 → word
 put_none words clear = sym (take-append-drop 16 words) ∙ ap (λ (l : List ℕ). take 16 words ++ l) clear
 
 -- The first words, each as it is written.
-pub front_written : (p : Prime) (count next count' next' words a b d e f : ℕ) → p.date < 4096 → a ≡ prime_word → b ≡ 0
-    → d ≡ join p.place.name.ext b → e ≡ attributes p → f ≡ p.place.ppn → words ≡ p.words → count' ≡ count → next' ≡ next
+pub front_written : (p : Prime) (count next count' next' words a d e f : ℕ) → a ≡ prime_word → d ≡ extension_word p
+    → e ≡ attributes p → f ≡ p.place.ppn → words ≡ p.words → count' ≡ count → next' ≡ next
     → a ∷ p.place.name.name ∷ d ∷ e ∷ f ∷ words ∷ count' ∷ next' ∷ replicate 120 0 ≡ prime_front p count next
     ++ replicate 112 0
-front_written p count next count' next' words a b d e f fits mark none ext attr ppn length_is counted named =
-    let ext_is : d ≡ extension_word p = ext ∙ ap (λ (n : ℕ). join p.place.name.ext n) none ∙ add-zero _
-    ∙ ext_word p fits in
-    λ i. mark i ∷ p.place.name.name ∷ ext_is i ∷ attr i ∷ ppn i ∷ length_is i ∷ counted i ∷ named i ∷ replicate 120 0
+front_written p count next count' next' words a d e f mark ext attr ppn length_is counted named =
+    λ i. mark i ∷ p.place.name.name ∷ ext i ∷ attr i ∷ ppn i ∷ length_is i ∷ counted i ∷ named i ∷ replicate 120 0
 
 first_of_all : (all : List Run) (count : ℕ) → count ≡ min (length all) 112
     → (take count all ≡ take 112 all) × (length (take 112 all) ≡ count)
@@ -138,13 +134,10 @@ block_written p all part new count next is part_is new_is =
     ++ (map pointer (take 112 all) ++ replicate (112 - length (take 112 all)) 0)) (sym both.1)
 
 -- What a prime block says is written anew, its length and what follows stay.
-pub front_rewritten : (p q : Prime) (runs : List Run) (next b d e f : ℕ) (old : List ℕ) → q.date < 4096 → b ≡ 0
-    → d ≡ join q.place.name.ext b → e ≡ attributes q → f ≡ q.place.ppn → q.words ≡ p.words → old
-    ≡ prime_block p runs next
+pub front_rewritten : (p q : Prime) (runs : List Run) (next d e f : ℕ) (old : List ℕ) → d ≡ extension_word q
+    → e ≡ attributes q → f ≡ q.place.ppn → q.words ≡ p.words → old ≡ prime_block p runs next
     → slice_set (slice_set (slice_set (slice_set old 1 q.place.name.name) 2 d) 3 e) 4 f ≡ prime_block q runs next
-front_rewritten p q runs next b d e f old fits none ext attr ppn length_is is =
-    let ext_is : d ≡ extension_word q = ext ∙ ap (λ (n : ℕ). join q.place.name.ext n) none ∙ add-zero _
-    ∙ ext_word q fits in
+front_rewritten p q runs next d e f old ext attr ppn length_is is =
     ap (λ (l : List ℕ). slice_set (slice_set (slice_set (slice_set l 1 q.place.name.name) 2 d) 3 e) 4 f) is
-    ∙ (λ i. prime_word ∷ q.place.name.name ∷ ext_is i ∷ attr i ∷ ppn i ∷ sym length_is i ∷ length runs ∷ next
+    ∙ (λ i. prime_word ∷ q.place.name.name ∷ ext i ∷ attr i ∷ ppn i ∷ sym length_is i ∷ length runs ∷ next
     ∷ 0 ∷ 0 ∷ 0 ∷ 0 ∷ 0 ∷ 0 ∷ 0 ∷ 0 ∷ (map pointer runs ++ replicate (112 - length runs) 0))

@@ -135,9 +135,9 @@ none_zero size (suc n ∷ ns) all = zero_behind n ns ∙ none_zero size ns all.1
 
 -- What was read so far.
 
-read_of : (c : Contents) (at : ℕ) (words : List ℕ) (p : Prime) (runs : List Run) (next : ℕ) → c at ≡ Some words
-    → SpellsPrime words p runs next → IsPrimeRead c 1 at p runs next
-read_of c at words p runs next is s = record {
+read_of : (c : Contents) (layout at : ℕ) (words : List ℕ) (p : Prime) (runs : List Run) (next : ℕ) → c at ≡ Some words
+    → SpellsPrime layout words p runs next → IsPrimeRead c layout at p runs next
+read_of c layout at words p runs next is s = record {
   words = is ∙ ap Some s.words_are;
   ppn_fits = s.ppn_fits;
   ext_fits = s.ext_fits;
@@ -145,13 +145,13 @@ read_of c at words p runs next is s = record {
   are_runs = s.are_runs;
 }
 
-pub read_started : (size : ℕ) (c : Contents) (at : ℕ) (words : List ℕ) (prime : PrimeValue) (v : VersionState)
-    (next : ℕ) → c at ≡ Some words → IsStarted size words prime v next → IsReadTo size c at prime v next
-read_started size c at words prime v next is s = record {
+pub read_started : (size : ℕ) (c : Contents) (layout at : ℕ) (words : List ℕ) (prime : PrimeValue) (v : VersionState)
+    (next : ℕ) → c at ≡ Some words → IsStarted size layout words prime v next → IsReadTo size c layout at prime v next
+read_started size c layout at words prime v next is s = record {
   runs = s.runs;
   first = next;
   extensions = [];
-  read = read_of c at words (with_length prime v.words) s.runs next is s.spells;
+  read = read_of c layout at words (with_length prime v.words) s.runs next is s.spells;
   few = s.spells.few;
   inside = s.inside;
   full = s.full;
@@ -170,11 +170,12 @@ blocks_more runs es n more =
     ∙ ap (flat_map run_blocks) (sym (append_assoc runs (all_runs es) more))
     ∙ flat-append run_blocks (runs ++ all_runs es) more
 
-module _ (size : ℕ) (c : Contents) (at : ℕ) (prime : PrimeValue) (v : VersionState) (n : ℕ)
-    (r : IsReadTo size c at prime v n) where
+module _ (size : ℕ) (c : Contents) (layout at : ℕ) (prime : PrimeValue) (v : VersionState) (n : ℕ)
+    (r : IsReadTo size c layout at prime v n) where
   pub read_more : (words : List ℕ) (next : ℕ) (new : VersionState) → 0 < n → c n ≡ Some words
-      → Extends size words n next v new → IsReadTo size c at prime new next
-  read_more words next new some is x = subst (λ (w : VersionState). IsReadTo size c at prime w next) (sym x.version_is)
+      → Extends size words n next v new → IsReadTo size c layout at prime new next
+  read_more words next new some is x = subst (λ (w : VersionState). IsReadTo size c layout at prime w next)
+      (sym x.version_is)
       (record {
         runs = r.runs;
         first = r.first;
@@ -201,13 +202,13 @@ module _ (size : ℕ) (c : Contents) (at : ℕ) (prime : PrimeValue) (v : Versio
       ∙ ap Some s.words_are)
 
   -- an extension that is damaged
-  pub damaged_extension : 0 < n → c n ≡ None → IsBadVersion size c 1 at n
+  pub damaged_extension : 0 < n → c n ≡ None → IsBadVersion size c layout at n
   damaged_extension some none = IsBadVersion.malformed_extension (with_length prime v.words) r.runs r.first
       r.extensions n r.read walked (r.next_inside some) (λ others after is some' few are. some_none (sym is ∙ none))
 
   -- or isn't as it should be
   pub bad_extension : (words : List ℕ) → 0 < n → c n ≡ Some words → IsBadExtension size words
-      → IsBadVersion size c 1 at n
+      → IsBadVersion size c layout at n
   bad_extension words some is (IsBadExtension.malformed wrong) =
       IsBadVersion.malformed_extension (with_length prime v.words) r.runs r.first r.extensions n r.read walked
       (r.next_inside some)
@@ -224,7 +225,8 @@ module _ (size : ℕ) (c : Contents) (at : ℕ) (prime : PrimeValue) (v : Versio
       (walked_on words runs next some is s) more less
 
   -- or has more blocks than the length asks for
-  pub bad_overfilled : (words : List ℕ) → 0 < n → c n ≡ Some words → Overfills words v → IsBadVersion size c 1 at at
+  pub bad_overfilled : (words : List ℕ) → 0 < n → c n ≡ Some words → Overfills words v
+      → IsBadVersion size c layout at at
   bad_overfilled words some is o =
       IsBadVersion.too_many (with_length prime v.words) r.runs r.first o.next (r.extensions ++ (n, o.runs) ∷ []) r.read
       (walked_on words o.runs o.next some is o.spells)
@@ -234,10 +236,10 @@ module _ (size : ℕ) (c : Contents) (at : ℕ) (prime : PrimeValue) (v : Versio
       let more = o.more in
       omega arith)
 
-module _ (size : ℕ) (c : Contents) (at : ℕ) (prime : PrimeValue) (v : VersionState)
-    (r : IsReadTo size c at prime v 0) where
+module _ (size : ℕ) (c : Contents) (layout at : ℕ) (prime : PrimeValue) (v : VersionState)
+    (r : IsReadTo size c layout at prime v 0) where
   -- read to the end
-  pub read_whole : length v.blocks ≡ blocks_of v.words → IsVersionAt size c at prime v
+  pub read_whole : length v.blocks ≡ blocks_of v.words → IsVersionAt size c layout at prime v
   read_whole enough = record {
     retrieved = record {
       runs = r.runs;
@@ -267,18 +269,19 @@ module _ (size : ℕ) (c : Contents) (at : ℕ) (prime : PrimeValue) (v : Versio
       ribs = subst (AllByRecursion (InSpace size)) (sym r.ribs_are) (ribs_in size c r.first r.extensions r.walk)
 
   -- with too few blocks
-  pub bad_count : (length v.blocks ≡ blocks_of v.words → ⊥) → IsBadVersion size c 1 at at
+  pub bad_count : (length v.blocks ≡ blocks_of v.words → ⊥) → IsBadVersion size c layout at at
   bad_count wrong = IsBadVersion.miscounted (with_length prime v.words) r.runs r.first r.extensions r.read
       (leads size c r.first r.extensions 0 r.walk) (λ same. wrong (ap length r.blocks_are ∙ same))
 
 -- The prime block is damaged.
-pub damaged_prime : (size : ℕ) (c : Contents) (at : ℕ) → c at ≡ None → IsBadVersion size c 1 at at
-damaged_prime size c at none = IsBadVersion.malformed_prime (λ p runs next read few. some_none (sym read.words ∙ none))
+pub damaged_prime : (size : ℕ) (c : Contents) (layout at : ℕ) → c at ≡ None → IsBadVersion size c layout at at
+damaged_prime size c layout at none =
+    IsBadVersion.malformed_prime (λ p runs next read few. some_none (sym read.words ∙ none))
 
 -- Or it isn't as it should be.
-pub bad_prime : (size : ℕ) (c : Contents) (at : ℕ) (words : List ℕ) → c at ≡ Some words → IsBadPrime size words
-    → IsBadVersion size c 1 at at
-bad_prime size c at words is (IsBadPrime.malformed wrong) = IsBadVersion.malformed_prime
+pub bad_prime : (size : ℕ) (c : Contents) (layout at : ℕ) (words : List ℕ) → c at ≡ Some words
+    → IsBadPrime size layout words → IsBadVersion size c layout at at
+bad_prime size c layout at words is (IsBadPrime.malformed wrong) = IsBadVersion.malformed_prime
     (λ p runs next read few. wrong p runs next
     (record {
       words_are = some_same (sym is ∙ read.words);
@@ -288,14 +291,16 @@ bad_prime size c at words is (IsBadPrime.malformed wrong) = IsBadVersion.malform
       few = few;
       are_runs = read.are_runs;
     }))
-bad_prime size c at words is (IsBadPrime.run_outside p runs next s outside) = IsBadVersion.prime_run_outside p runs next
-    (read_of c at words p runs next is s) outside
-bad_prime size c at words is (IsBadPrime.next_outside p runs next s some outside) = IsBadVersion.prime_next_outside
-    p runs next (read_of c at words p runs next is s) some outside
-bad_prime size c at words is (IsBadPrime.short p runs next s some less) = IsBadVersion.prime_short p runs next
-    (read_of c at words p runs next is s) some less
-bad_prime size c at words is (IsBadPrime.too_many p runs next s more) = IsBadVersion.too_many p runs next next []
-    (read_of c at words p runs next is s) refl
+bad_prime size c layout at words is (IsBadPrime.run_outside p runs next s outside) =
+    IsBadVersion.prime_run_outside p runs next
+    (read_of c layout at words p runs next is s) outside
+bad_prime size c layout at words is (IsBadPrime.next_outside p runs next s some outside) =
+    IsBadVersion.prime_next_outside
+    p runs next (read_of c layout at words p runs next is s) some outside
+bad_prime size c layout at words is (IsBadPrime.short p runs next s some less) = IsBadVersion.prime_short p runs next
+    (read_of c layout at words p runs next is s) some less
+bad_prime size c layout at words is (IsBadPrime.too_many p runs next s more) = IsBadVersion.too_many p runs next next []
+    (read_of c layout at words p runs next is s) refl
     (let e = ap (λ (l : List Run). length (flat_map run_blocks l)) (append-nil runs) in omega arith)
 
 -- An extension adds a block at least.
@@ -317,10 +322,10 @@ pub falls : (a a' b b' : ℕ) → a' ≡ a → b < b' → b' ≤ a' → a' - b' 
 falls a a' b b' same less few = omega arith
 
 -- on a disk of this size
-pub bad_of : (size size' : ℕ) (c : Contents) (at k n : ℕ) → size ≡ size' → k ≡ n → IsBadVersion size c 1 at n
-    → IsBadVersion size' c 1 at k
-bad_of size size' c at k n same is bad = subst (λ (s : ℕ). IsBadVersion s c 1 at k) same
-    (subst (λ (m : ℕ). IsBadVersion size c 1 at m) (sym is) bad)
+pub bad_of : (size size' : ℕ) (c : Contents) (layout at k n : ℕ) → size ≡ size' → k ≡ n
+    → IsBadVersion size c layout at n → IsBadVersion size' c layout at k
+bad_of size size' c layout at k n same is bad = subst (λ (s : ℕ). IsBadVersion s c layout at k) same
+    (subst (λ (m : ℕ). IsBadVersion size c layout at m) (sym is) bad)
 
 pub extended_blocks : (size : ℕ) (words : List ℕ) (n next : ℕ) (old new : VersionState)
     → Extends size words n next old new → AllByRecursion (InSpace size) old.blocks
@@ -337,7 +342,7 @@ extended_ribs size words n next old new x here all =
     (all_append (InSpace size) old.ribs (n ∷ []) all (here, tt))
 
 -- what is wrong with none of the blocks of a version that stands as it should
-pub none_wrong : (size : ℕ) (c : Contents) (at : ℕ) (p : Prime) (ribs blocks : List ℕ)
-    → IsStandingVersion size c at p ribs blocks → (k : ℕ) → IsBadVersion size c 1 at k → ⊥
-none_wrong size c at p ribs blocks w k bad = no_bad_version 1 size c p at ribs blocks w.retrieved w.inside
+pub none_wrong : (size : ℕ) (c : Contents) (layout at : ℕ) (p : Prime) (ribs blocks : List ℕ)
+    → IsStandingVersion size c layout at p ribs blocks → (k : ℕ) → IsBadVersion size c layout at k → ⊥
+none_wrong size c layout at p ribs blocks w k bad = no_bad_version layout size c p at ribs blocks w.retrieved w.inside
     w.ppn_fits w.ext_fits k bad

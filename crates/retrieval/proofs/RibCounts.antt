@@ -25,9 +25,9 @@ pub record AreFilled (ribs blocks next : ℕ) : Type 0 where
   pub some : 112 + 126 * ribs ≤ blocks + 125
   pub full : 0 < next → 112 + 126 * ribs ≤ blocks
 
-pub started_filled : (size : ℕ) (words : List ℕ) (prime : Prime) (v : VersionState) (next : ℕ)
-    → IsStarted size words prime v next → AreFilled (length v.ribs) (length v.blocks) next
-started_filled size words prime v next started =
+pub started_filled : (size layout : ℕ) (words : List ℕ) (prime : Prime) (v : VersionState) (next : ℕ)
+    → IsStarted size layout words prime v next → AreFilled (length v.ribs) (length v.blocks) next
+started_filled size layout words prime v next started =
     let none = ap (λ (l : List ℕ). length l) started.ribs_are in
     let blocks = ap (λ (l : List ℕ). length l) started.blocks_are in
     let few = runs-le started.runs started.spells.are_runs in

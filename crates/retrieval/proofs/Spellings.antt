@@ -1,6 +1,6 @@
 -- What the first words and the pointers of a block say together.
-use Rattle.std.proofs.Common.{◌≡◌, ℕ, ◌+◌, ◌-◌, ◌*◌, ◌/◌, ◌%◌, ◌^◌, ◌<◌, ◌≤◌, Option, None, List, [], ◌∷◌, ◌++◌, map}
-use Rattle.std.proofs.Common.{length, get_or, take, drop, replicate, refl, sym, ◌∙◌, ap, subst, arith, add-zero}
+use Rattle.std.proofs.Common.{◌≡◌, ℕ, ◌+◌, ◌-◌, ◌/◌, ◌%◌, ◌^◌, ◌<◌, ◌≤◌, Option, None, List, [], ◌∷◌, ◌++◌, map}
+use Rattle.std.proofs.Common.{length, get_or, take, drop, replicate, refl, sym, ◌∙◌, ap, subst, arith}
 use Rattle.std.proofs.Common.{length-append, length-drop}
 use Rattle.std.specs.Prelude.{IfNone}
 use Rattle.std.specs.List.{AllByRecursion}
@@ -73,21 +73,10 @@ front_of_extension : (words : List ℕ) → 2 ≤ length words → words ≡ get
 front_of_extension (a ∷ b ∷ rest) long = refl
 front_of_extension _ long = absurd (omega arith)
 
-no_date : (date : ℕ) → date < 4096 → (date / 2 ^ 12 * 2 ^ 15 ≡ 0) × (date % 2 ^ 12 ≡ date)
-no_date date fits = (let e : date / 2 ^ 12 ≡ 0 = omega arith in ap (λ (n : ℕ). n * 2 ^ 15) e, omega arith)
-
-pub ext_word : (p : Prime) → p.date < 4096 → p.place.name.ext * 2 ^ 18 ≡ extension_word p
-ext_word p fits = let e = (no_date p.date fits).0 in sym (ap (λ (n : ℕ). p.place.name.ext * 2 ^ 18 + n) e ∙ add-zero _)
-
-attributes_word : (p : Prime) → p.date < 4096 → p.protection * 2 ^ 27 + p.mode * 2 ^ 23 + p.time * 2 ^ 12 + p.date
-    ≡ attributes p
-attributes_word p fits = ap (λ (n : ℕ). p.protection * 2 ^ 27 + p.mode * 2 ^ 23 + p.time * 2 ^ 12 + n)
-    (sym (no_date p.date fits).1)
-
-pub prime_spelled : (words : List ℕ) (p : Prime) (count next : ℕ) → length words ≡ 128 → IsPrimeHead words p count next
-    → ArePointers (drop 16 words) count
-    → SpellsPrime words p (runs_of (take count (drop 16 words))) next
-prime_spelled words p count next long h are =
+pub prime_spelled : (layout : ℕ) (words : List ℕ) (p : Prime) (count next : ℕ) → length words ≡ 128
+    → IsPrimeHead layout words p count next → ArePointers (drop 16 words) count
+    → SpellsPrime layout words p (runs_of (take count (drop 16 words))) next
+prime_spelled layout words p count next long h are =
     let behind : length (drop 16 words) ≡ 112 = length-drop 16 words ∙ omega arith in
     let room : count ≤ length (drop 16 words) = let r = h.room in omega arith in
     let runs = runs_of (take count (drop 16 words)) in
@@ -95,9 +84,8 @@ prime_spelled words p count next long h are =
     let tail : drop 16 words ≡ map pointer runs ++ replicate (112 - length runs) 0 =
     tail_spelled (drop 16 words) count room are
     ∙ ap (λ (n : ℕ). map pointer runs ++ replicate (n - length runs) 0) behind in
-    let ext : get_or words 2 0 ≡ extension_word p = h.ext ∙ ext_word p h.attributes_are.date_fits in
-    let attr : get_or words 3 0 ≡ attributes p = h.attributes_are.spelled
-    ∙ attributes_word p h.attributes_are.date_fits in
+    let ext : get_or words 2 0 ≡ extension_word p = h.ext in
+    let attr : get_or words 3 0 ≡ attributes p = h.attributes_are.spelled in
     let few : get_or words 6 0 ≡ length runs = h.count_is ∙ sym counted in
     record {
       words_are = front_of_prime words (omega arith)
@@ -109,27 +97,32 @@ prime_spelled words p count next long h are =
         protection = h.attributes_are.protection_fits;
         mode = h.attributes_are.mode_is;
         time = h.attributes_are.time_fits;
-        date = h.attributes_are.date_fits;
+        date = h.date;
         few = h.few;
       };
       few = let r = h.room in omega arith;
       are_runs = are.runs;
     }
 
-pub prime_parts : (words : List ℕ) (p : Prime) (runs : List Run) (next : ℕ) → SpellsPrime words p runs next
-    → IsPrimeHead words p (length runs) next × ArePointers (drop 16 words) (length runs)
-prime_parts words p runs next s = (
+low_small : (date : ℕ) → date % 2 ^ 12 < 4096
+low_small date = omega arith
+
+pub prime_parts : (layout : ℕ) (words : List ℕ) (p : Prime) (runs : List Run) (next : ℕ)
+    → SpellsPrime layout words p runs next
+    → IsPrimeHead layout words p (length runs) next × ArePointers (drop 16 words) (length runs)
+prime_parts layout words p runs next s = (
   record {
     marked = ap (λ (l : List ℕ). get_or l 0 0) s.words_are;
     name = ap (λ (l : List ℕ). get_or l 1 0) s.words_are;
-    ext = ap (λ (l : List ℕ). get_or l 2 0) s.words_are ∙ sym (ext_word p s.fits.date);
+    ext = ap (λ (l : List ℕ). get_or l 2 0) s.words_are;
     attributes_are = record {
-      spelled = ap (λ (l : List ℕ). get_or l 3 0) s.words_are ∙ sym (attributes_word p s.fits.date);
+      spelled = ap (λ (l : List ℕ). get_or l 3 0) s.words_are;
       protection_fits = s.fits.protection;
       mode_is = s.fits.mode;
       time_fits = s.fits.time;
-      date_fits = s.fits.date;
+      low_fits = low_small p.date;
     };
+    date = s.fits.date;
     ppn = ap (λ (l : List ℕ). get_or l 4 0) s.words_are;
     length_is = ap (λ (l : List ℕ). get_or l 5 0) s.words_are;
     count_is = ap (λ (l : List ℕ). get_or l 6 0) s.words_are;
@@ -178,9 +171,9 @@ extension_parts words runs next s = (
 )
 
 -- the number of pointers is said once
-pub prime_count : (words : List ℕ) (p q : Prime) (count count' next next' : ℕ) → IsPrimeHead words p count next
-    → IsPrimeHead words q count' next' → count' ≡ count
-prime_count words p q count count' next next' h k = sym k.count_is ∙ h.count_is
+pub prime_count : (layout : ℕ) (words : List ℕ) (p q : Prime) (count count' next next' : ℕ)
+    → IsPrimeHead layout words p count next → IsPrimeHead layout words q count' next' → count' ≡ count
+prime_count layout words p q count count' next next' h k = sym k.count_is ∙ h.count_is
 
 pub extension_count : (words : List ℕ) (count count' next next' : ℕ) → IsExtensionHead words count next
     → IsExtensionHead words count' next' → count' ≡ count

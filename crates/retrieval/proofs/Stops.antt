@@ -6,9 +6,10 @@ use Rattle.meaning.specs.Faults.{InSpace}
 use Rattle.retrieval.specs.Spelling.{SpellsPrime, SpellsExtension}
 use Rattle.retrieval.specs.Reading.{IsBadPrime, IsBadExtension}
 
-pub prime_stuck : (size : ℕ) (words : List ℕ) (p : Prime) (runs : List Run) (next : ℕ) → SpellsPrime words p runs next
-    → 0 < next → (length runs ≡ 112 → InSpace size next → ⊥) → IsBadPrime size words
-prime_stuck size words p runs next s some stuck =
+pub prime_stuck : (size layout : ℕ) (words : List ℕ) (p : Prime) (runs : List Run) (next : ℕ)
+    → SpellsPrime layout words p runs next → 0 < next → (length runs ≡ 112 → InSpace size next → ⊥)
+    → IsBadPrime size layout words
+prime_stuck size layout words p runs next s some stuck =
     ⊎_elim (λ (full : length runs ≡ 112). IsBadPrime.next_outside p runs next s some (stuck full))
     (λ (less : length runs ≡ 112 → ⊥). IsBadPrime.short p runs next s some less) (cases_eq (length runs) 112)
 

@@ -27,11 +27,11 @@ one_of : (a b : ℕ) → 0 < a + b → (0 < a) ⊎ (0 < b)
 one_of zero b some = inr (omega arith)
 one_of (suc a) b some = inl (omega arith)
 
-pub whole_version : (size : ℕ) (c : Contents) (p : Prime) (at : ℕ) (ribs blocks : List ℕ)
-    → IsRetrieved 1 c p at ribs blocks → ((n : ℕ) → 0 < times n (at ∷ ribs) → InSpace size n)
+pub whole_version : (size : ℕ) (c : Contents) (layout : ℕ) (p : Prime) (at : ℕ) (ribs blocks : List ℕ)
+    → IsRetrieved layout c p at ribs blocks → ((n : ℕ) → 0 < times n (at ∷ ribs) → InSpace size n)
     → AllByRecursion (InSpace size) blocks
-    → IsPpn p.place.ppn → p.place.name.ext < 2 ^ 18 → IsStandingVersion size c at p ribs blocks
-whole_version size c p at ribs blocks is own inside ppn ext = record {
+    → IsPpn p.place.ppn → p.place.name.ext < 2 ^ 18 → IsStandingVersion size c layout at p ribs blocks
+whole_version size c layout p at ribs blocks is own inside ppn ext = record {
   retrieved = is;
   inside = λ n there. ⊎_elim (own n) (each_of (InSpace size) blocks inside n)
       (one_of (times n (at ∷ ribs)) (times n blocks) (let e = times-append n (at ∷ ribs) blocks in omega arith));
@@ -40,14 +40,15 @@ whole_version size c p at ribs blocks is own inside ppn ext = record {
 }
 
 -- Whatever stands at the prime block is what was read there.
-pub read_as : (size : ℕ) (c : Contents) (at : ℕ) (prime : PrimeValue) (v : VersionState) (p : Prime)
-    (ribs blocks : List ℕ) → IsVersionAt size c at prime v → IsRetrieved 1 c p at ribs blocks
+pub read_as : (size : ℕ) (c : Contents) (layout at : ℕ) (prime : PrimeValue) (v : VersionState) (p : Prime)
+    (ribs blocks : List ℕ) → IsVersionAt size c layout at prime v → IsRetrieved layout c p at ribs blocks
     → p.place.name.ext < 2 ^ 18 → IsReadAs p ribs blocks prime v
-read_as size c at prime v p ribs blocks read is ext =
+read_as size c layout at prime v p ribs blocks read is ext =
     let words : prime_block (with_length prime v.words) read.retrieved.runs (first_extension read.retrieved.further)
     ≡ prime_block p is.runs (first_extension is.further) = some_same (sym read.retrieved.prime_is ∙ is.prime_is) in
-    let exts = prime_ext_same 1 (with_length prime v.words) p read.retrieved.runs is.runs
+    let exts = prime_ext_same layout (with_length prime v.words) p read.retrieved.runs is.runs
     (first_extension read.retrieved.further) (first_extension is.further) read.retrieved.fits is.fits read.ext_fits
     ext words in
-    let same = retrieved_same 1 c (with_length prime v.words) p at v.ribs ribs v.blocks blocks read.retrieved is exts in
+    let same = retrieved_same layout c (with_length prime v.words) p at v.ribs ribs v.blocks blocks read.retrieved is
+    exts in
     record { prime_is = same.0; ribs_are = same.1; blocks_are = same.2 }

@@ -162,12 +162,13 @@ module _ (c d : Contents) (p : Prime) (at : ℕ) (ribs blocks : List ℕ) (runs 
   extended_on (Ok done) are part_is apart same = extended are part_is apart.0 same
   extended_on (Err fault) are part_is apart same = tt
 
-  pub retrieved : AreExtensions c (extensions_of ribs part) → part ≡ drop 112 runs → times at ribs ≡ 0
+  pub retrieved : (layout : ℕ) → AreExtensions c (extensions_of ribs part) → part ≡ drop 112 runs → times at ribs ≡ 0
       → ((n : ℕ) → (n ≡ at → ⊥) → d n ≡ c n)
-      → d at ≡ Some (prime_block p (take 112 runs) (head_or_zero ribs)) → IsPrime 1 p → times 0 ribs ≡ 0
+      → d at ≡ Some (prime_block p (take 112 runs) (head_or_zero ribs)) → IsPrime layout p → times 0 ribs ≡ 0
       → AllByRecursion IsRun runs → flat_map run_blocks runs ≡ blocks
-      → length ribs ≡ rib_count (length runs) → length blocks ≡ blocks_of p.words → IsRetrieved 1 d p at ribs blocks
-  retrieved are part_is apart same here fits nonzero fit whole counted enough = record {
+      → length ribs ≡ rib_count (length runs) → length blocks ≡ blocks_of p.words
+      → IsRetrieved layout d p at ribs blocks
+  retrieved layout are part_is apart same here fits nonzero fit whole counted enough = record {
     runs = take 112 runs;
     further = extensions_of ribs (drop 112 runs);
     fits = fits;
@@ -186,16 +187,16 @@ module _ (c d : Contents) (p : Prime) (at : ℕ) (ribs blocks : List ℕ) (runs 
     enough = enough;
   }
 
-  pub retrieved_on : {E : Type 0} (answer : Result (Unit {0}) E) (words : List ℕ)
+  pub retrieved_on : {E : Type 0} (layout : ℕ) (answer : Result (Unit {0}) E) (words : List ℕ)
       → AreExtensions c (extensions_of ribs part) → part ≡ drop 112 runs → AreApart (at ∷ ribs)
       → ((n : ℕ) → (n ≡ at → ⊥) → d n ≡ c n)
       → words ≡ prime_block p (take 112 runs) (head_or_zero ribs) → OnOk answer (d at ≡ Some words)
-      → IsPrime 1 p → times 0 ribs ≡ 0 → AllByRecursion IsRun runs → flat_map run_blocks runs ≡ blocks
+      → IsPrime layout p → times 0 ribs ≡ 0 → AllByRecursion IsRun runs → flat_map run_blocks runs ≡ blocks
       → length ribs ≡ rib_count (length runs) → length blocks ≡ blocks_of p.words
-      → OnOk answer (IsRetrieved 1 d p at ribs blocks)
-  retrieved_on (Ok done) words are part_is apart same words_are put fits nonzero fit whole counted enough =
-      retrieved are part_is apart.0 same (put ∙ ap Some words_are) fits nonzero fit whole counted enough
-  retrieved_on (Err fault) words are part_is apart same words_are put fits nonzero fit whole counted enough = tt
+      → OnOk answer (IsRetrieved layout d p at ribs blocks)
+  retrieved_on layout (Ok done) words are part_is apart same words_are put fits nonzero fit whole counted enough =
+      retrieved layout are part_is apart.0 same (put ∙ ap Some words_are) fits nonzero fit whole counted enough
+  retrieved_on layout (Err fault) words are part_is apart same words_are put fits nonzero fit whole counted enough = tt
 
 pub is_mode : (mode : Mode) → IsMode (mode_number mode)
 is_mode Ascii = inl refl

@@ -1,22 +1,23 @@
 -- The first words of retrieval blocks, those before the pointers.
-use Rattle.std.specs.Prelude.{◌≡◌, ℕ, ◌+◌, ◌*◌, ◌^◌, ◌<◌, ◌≤◌, List, [], ◌∷◌, take, drop, replicate, slice_index}
+use Rattle.std.specs.Prelude.{◌≡◌, ℕ, ◌+◌, ◌*◌, ◌%◌, ◌^◌, ◌<◌, ◌≤◌, List, [], ◌∷◌, take, drop, replicate, slice_index}
 use Rattle.words36.specs.Words.{IsPpn, join}
-use Rattle.meaning.specs.Retrieval.{Prime, IsMode, prime_word, extension_word, attributes, extension_half}
+use Rattle.meaning.specs.Retrieval.{Prime, IsMode, prime_word, extension_word, attributes, extension_half, date_limit}
 
--- the word has these attributes, each in its range
-pub record IsAttributes (word protection mode time date : ℕ) : Type 0 where
-  pub spelled : word ≡ protection * 2 ^ 27 + mode * 2 ^ 23 + time * 2 ^ 12 + date
+-- The word has these attributes, each in its range, and the low twelve bits of a date.
+pub record IsAttributes (word protection mode time low : ℕ) : Type 0 where
+  pub spelled : word ≡ protection * 2 ^ 27 + mode * 2 ^ 23 + time * 2 ^ 12 + low
   pub protection_fits : protection < 512
   pub mode_is : IsMode mode
   pub time_fits : time ≤ 1439
-  pub date_fits : date < 4096
+  pub low_fits : low < 4096
 
--- Words begin as those of a prime block of layout 1 with so many pointers.
-pub record IsPrimeHead (words : List ℕ) (p : Prime) (count next : ℕ) : Type 0 where
+-- Words begin as those of a prime block of this layout with so many pointers.
+pub record IsPrimeHead (layout : ℕ) (words : List ℕ) (p : Prime) (count next : ℕ) : Type 0 where
   pub marked : slice_index words 0 ≡ prime_word
   pub name : slice_index words 1 ≡ p.place.name.name
-  pub ext : slice_index words 2 ≡ p.place.name.ext * 2 ^ 18
-  pub attributes_are : IsAttributes (slice_index words 3) p.protection p.mode p.time p.date
+  pub ext : slice_index words 2 ≡ extension_word p
+  pub attributes_are : IsAttributes (slice_index words 3) p.protection p.mode p.time (p.date % 2 ^ 12)
+  pub date : p.date < date_limit layout
   pub ppn : slice_index words 4 ≡ p.place.ppn
   pub length_is : slice_index words 5 ≡ p.words
   pub count_is : slice_index words 6 ≡ count

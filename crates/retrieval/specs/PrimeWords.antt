@@ -7,8 +7,8 @@ use Rattle.retrieval.specs.Spelling.{SpellsPrime}
 use Rattle.retrieval.specs.Versions.{VersionState}
 use Rattle.retrieval.specs.declared.prime.Prime.{Prime as PrimeValue}
 
--- These are the words of a prime block that says this of its file, with the length and the first extension of the
--- version.
-pub record IsPrimeOf (words : List ℕ) (prime : PrimeValue) (v : VersionState) : Type 0 where
+-- These are the words of a prime block of this layout that says this of its file, with the length and the first
+-- extension of the version.
+pub record IsPrimeOf (layout : ℕ) (words : List ℕ) (prime : PrimeValue) (v : VersionState) : Type 0 where
   pub runs : List Run
-  pub spells : SpellsPrime words (with_length prime v.words) runs (head_or_zero v.ribs)
+  pub spells : SpellsPrime layout words (with_length prime v.words) runs (head_or_zero v.ribs)

@@ -14,17 +14,20 @@ use Rattle.retrieval.specs.Spelling.{SpellsPrime, SpellsExtension}
 use Rattle.retrieval.specs.Versions.{VersionState}
 use Rattle.retrieval.specs.declared.prime.Prime.{Prime as PrimeValue}
 
--- The words of a prime block, with what is wrong with them.
-pub data IsBadPrime (size : ℕ) (words : List ℕ) : Type 0 where
-  malformed : ((p : Prime) (runs : List Run) (next : ℕ) → SpellsPrime words p runs next → ⊥) → IsBadPrime size words
-  run_outside : (p : Prime) (runs : List Run) (next : ℕ) → SpellsPrime words p runs next → (RunsInSpace size runs → ⊥)
-      → IsBadPrime size words
-  next_outside : (p : Prime) (runs : List Run) (next : ℕ) → SpellsPrime words p runs next → 0 < next
-      → (InSpace size next → ⊥) → IsBadPrime size words
-  short : (p : Prime) (runs : List Run) (next : ℕ) → SpellsPrime words p runs next → 0 < next → (length runs ≡ 112 → ⊥)
-      → IsBadPrime size words
-  too_many : (p : Prime) (runs : List Run) (next : ℕ) → SpellsPrime words p runs next
-      → blocks_of p.words < length (flat_map run_blocks runs) → IsBadPrime size words
+-- The words of a prime block, with what is wrong with them in this layout.
+pub data IsBadPrime (size layout : ℕ) (words : List ℕ) : Type 0 where
+  malformed : ((p : Prime) (runs : List Run) (next : ℕ) → SpellsPrime layout words p runs next → ⊥)
+      → IsBadPrime size layout words
+  run_outside : (p : Prime) (runs : List Run) (next : ℕ) → SpellsPrime layout words p runs next
+      → (RunsInSpace size runs → ⊥)
+      → IsBadPrime size layout words
+  next_outside : (p : Prime) (runs : List Run) (next : ℕ) → SpellsPrime layout words p runs next → 0 < next
+      → (InSpace size next → ⊥) → IsBadPrime size layout words
+  short : (p : Prime) (runs : List Run) (next : ℕ) → SpellsPrime layout words p runs next → 0 < next
+      → (length runs ≡ 112 → ⊥)
+      → IsBadPrime size layout words
+  too_many : (p : Prime) (runs : List Run) (next : ℕ) → SpellsPrime layout words p runs next
+      → blocks_of p.words < length (flat_map run_blocks runs) → IsBadPrime size layout words
 
 -- The same of an extension.
 pub data IsBadExtension (size : ℕ) (words : List ℕ) : Type 0 where
@@ -43,10 +46,11 @@ pub record Overfills (words : List ℕ) (v : VersionState) : Type 0 where
   pub spells : SpellsExtension words runs next
   pub more : blocks_of v.words < length v.blocks + length (flat_map run_blocks runs)
 
--- The words of a prime block say this, and have these blocks and this extension, or 0.
-pub record IsStarted (size : ℕ) (words : List ℕ) (prime : PrimeValue) (v : VersionState) (next : ℕ) : Type 0 where
+-- The words of a prime block of this layout say this, and have these blocks and this extension, or 0.
+pub record IsStarted (size layout : ℕ) (words : List ℕ) (prime : PrimeValue) (v : VersionState)
+    (next : ℕ) : Type 0 where
   pub runs : List Run
-  pub spells : SpellsPrime words (with_length prime v.words) runs next
+  pub spells : SpellsPrime layout words (with_length prime v.words) runs next
   pub inside : RunsInSpace size runs
   pub full : 0 < next → length runs ≡ 112
   pub next_inside : 0 < next → InSpace size next
@@ -75,12 +79,12 @@ Follows size contents first (extension ∷ extensions) last =
     × Follows size contents next extensions last
 
 -- So far a version was read; the extension `next` follows, or none.
-pub record IsReadTo (size : ℕ) (contents : Contents) (at : ℕ) (prime : PrimeValue) (v : VersionState)
+pub record IsReadTo (size : ℕ) (contents : Contents) (layout at : ℕ) (prime : PrimeValue) (v : VersionState)
     (next : ℕ) : Type 0 where
   pub runs : List Run
   pub first : ℕ
   pub extensions : List Extension
-  pub read : IsPrimeRead contents 1 at (with_length prime v.words) runs first
+  pub read : IsPrimeRead contents layout at (with_length prime v.words) runs first
   pub few : length runs ≤ 112
   pub inside : RunsInSpace size runs
   pub full : 0 < first → length runs ≡ 112
@@ -90,8 +94,9 @@ pub record IsReadTo (size : ℕ) (contents : Contents) (at : ℕ) (prime : Prime
   pub ribs_are : v.ribs ≡ extension_numbers extensions
 
 -- The version stands at its prime block, and what it names lies in the free space.
-pub record IsVersionAt (size : ℕ) (contents : Contents) (at : ℕ) (prime : PrimeValue) (v : VersionState) : Type 0 where
-  pub retrieved : IsRetrieved 1 contents (with_length prime v.words) at v.ribs v.blocks
+pub record IsVersionAt (size : ℕ) (contents : Contents) (layout at : ℕ) (prime : PrimeValue)
+    (v : VersionState) : Type 0 where
+  pub retrieved : IsRetrieved layout contents (with_length prime v.words) at v.ribs v.blocks
   pub ribs_inside : AllByRecursion (InSpace size) v.ribs
   pub blocks_inside : AllByRecursion (InSpace size) v.blocks
   pub ppn_fits : IsPpn prime.ppn
@@ -104,8 +109,9 @@ pub record IsReadAs (p : Prime) (ribs blocks : List ℕ) (prime : PrimeValue) (v
   pub blocks_are : v.blocks ≡ blocks
 
 -- A version stands at this prime block as it should: its blocks lie in the free space, and its place fits.
-pub record IsStandingVersion (size : ℕ) (contents : Contents) (at : ℕ) (p : Prime) (ribs blocks : List ℕ) : Type 0 where
-  pub retrieved : IsRetrieved 1 contents p at ribs blocks
+pub record IsStandingVersion (size : ℕ) (contents : Contents) (layout at : ℕ) (p : Prime)
+    (ribs blocks : List ℕ) : Type 0 where
+  pub retrieved : IsRetrieved layout contents p at ribs blocks
   pub inside : (n : ℕ) → 0 < times n (at ∷ (ribs ++ blocks)) → InSpace size n
   pub ppn_fits : IsPpn p.place.ppn
   pub ext_fits : p.place.name.ext < 2 ^ 18

@@ -4,12 +4,12 @@ use Rattle.std.specs.List.{AllByRecursion}
 use Rattle.words36.specs.Words.{IsPpn}
 use Rattle.meaning.specs.Retrieval.{Prime, Run, IsRun, IsPrime, prime_block, extension_block}
 
--- The words are those of a prime block of layout 1.
-pub record SpellsPrime (words : List ℕ) (p : Prime) (runs : List Run) (next : ℕ) : Type 0 where
+-- The words are those of a prime block of this layout.
+pub record SpellsPrime (layout : ℕ) (words : List ℕ) (p : Prime) (runs : List Run) (next : ℕ) : Type 0 where
   pub words_are : words ≡ prime_block p runs next
   pub ppn_fits : IsPpn p.place.ppn
   pub ext_fits : p.place.name.ext < 2 ^ 18
-  pub fits : IsPrime 1 p
+  pub fits : IsPrime layout p
   pub few : length runs ≤ 112
   pub are_runs : AllByRecursion IsRun runs
 

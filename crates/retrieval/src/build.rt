@@ -6,7 +6,7 @@ ghost use Rattle.retrieval.specs.Heads.{prime_front};
 ghost use Rattle.retrieval.specs.Runs.{pair_of, pairs_of, longest_runs};
 ghost use Rattle.retrieval.specs.Primes.{with_length, IsRewritten};
 
-use crate::head::{PRIME_WORD, attributes_word};
+use crate::head::{PRIME_WORD, attributes_word, extension_word};
 use crate::run::Run;
 use crate::{Prime, Version};
 use meaning::layout::{PRIME_HEAD, PRIME_POINTERS};
@@ -45,7 +45,7 @@ fn without_pointers(prime: &Prime, version: &Version, count: usize) -> Block
     let mut words = [Word::ZERO; BLOCK_WORDS];
     words[0] = Word::from_bits(PRIME_WORD);
     words[1] = prime.file.name;
-    words[2] = Word::from_halves(prime.file.ext, Half::from_bits(0));
+    words[2] = extension_word(prime);
     words[3] = attributes_word(prime);
     words[4] = prime.ppn.word();
     words[5] = Word::from_bits(u64::from(version.length()));
@@ -77,7 +77,7 @@ pub fn prime_block_for(words: &Block, prime: &Prime) -> Block
 {
     let mut anew = *words;
     anew[1] = prime.file.name;
-    anew[2] = Word::from_halves(prime.file.ext, Half::from_bits(0));
+    anew[2] = extension_word(prime);
     anew[3] = attributes_word(prime);
     anew[4] = prime.ppn.word();
     anew

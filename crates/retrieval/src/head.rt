@@ -1,13 +1,16 @@
-ghost use Rattle.std.specs.Prelude.{◌≡◌, ◌+◌, ◌*◌, ◌<◌, ◌≤◌, ◌^◌, ℕ, IfSome, IfNone};
+ghost use Rattle.std.specs.Prelude.{◌≡◌, ◌+◌, ◌*◌, ◌/◌, ◌%◌, ◌<◌, ◌≤◌, ◌^◌, ℕ, IfSome, IfNone};
 ghost use Rattle.words36.specs.Words.{IsPpn};
-ghost use Rattle.meaning.specs.Retrieval.{Prime as PrimeRecord, IsMode, IsPrime, attributes};
+ghost use Rattle.meaning.specs.Layouts.{layout_number};
+ghost use Rattle.meaning.specs.Retrieval.{Prime as PrimeRecord, attributes, extension_word, date_limit};
 ghost use Rattle.retrieval.specs.Modes.{mode_number};
 ghost use Rattle.retrieval.specs.Primes.{with_length};
 ghost use Rattle.retrieval.specs.Heads.{IsAttributes, IsPrimeHead, IsExtensionHead};
 
 use crate::{Mode, Prime};
-use meaning::layout::{EXTENSION_POINTERS, MOST_WORDS, PRIME_HEAD, PRIME_POINTERS, are_zeros};
-use words36::{Block, FileName, Moment, Ppn, Word};
+use meaning::layout::{
+    EXTENSION_POINTERS, Layout, MOST_WORDS, PRIME_HEAD, PRIME_POINTERS, are_zeros,
+};
+use words36::{Block, FileName, Half, Moment, Ppn, Word};
 
 /// RIB in SIXBIT, the first word of a prime block.
 pub const PRIME_WORD: u64 = 0o625142000000;
@@ -15,22 +18,24 @@ pub const PRIME_WORD: u64 = 0o625142000000;
 /// XRB in SIXBIT, the left half of an extension's first word.
 pub const EXTENSION_HALF: u32 = 0o706242;
 
-/// The attributes of a file, as one word has them.
+/// The attributes of a file, as one word has them: of the date the low twelve bits.
 #[derive(Clone, Copy)]
 struct Attributes {
     protection: u16,
     mode: Mode,
-    moment: Moment,
+    minute: u32,
+    low: u32,
     ghost protection_fits: { protection < 512 },
-    ghost date_fits: { moment.date < 4096 },
+    ghost minute_fits: { minute ≤ 1439 },
+    ghost low_fits: { low < 4096 },
 }
 
 /// What the attributes in a prime block are: protection in bits 0 to 8, mode in 9 to 12, time in 13 to
-/// 23, date in 24 to 35.
+/// 23, the low twelve bits of the date in 24 to 35.
 fn attributes_of(word: Word) -> Option<Attributes>
     ensures some { IfSome result
-        (λ a. IsAttributes word a.protection (mode_number a.mode) a.moment.minute a.moment.date) }
-    ensures none { IfNone result ((protection mode time date : ℕ) → IsAttributes word protection mode time date → ⊥) }
+        (λ a. IsAttributes word a.protection (mode_number a.mode) a.minute a.low) }
+    ensures none { IfNone result ((protection mode time low : ℕ) → IsAttributes word protection mode time low → ⊥) }
 {
     let bits = word.bits();
     let mode = Mode::from_number(bits >> 23 & 0o17)?;
@@ -41,11 +46,31 @@ fn attributes_of(word: Word) -> Option<Attributes>
     Some(Attributes {
         protection: (bits >> 27) as u16,
         mode,
-        moment: Moment {
-            date: (bits & 0o7777) as u32,
-            minute,
-        },
+        minute,
+        low: (bits & 0o7777) as u32,
     })
+}
+
+/// The date whose three high bits are bits 18 to 20 of a prime block's word 2, of which this is the right half, and
+/// whose low twelve bits stand with the attributes. `None` if the half has another bit, or the layout no such date.
+fn date_in(half: Half, low: u32, layout: Layout) -> Option<u32>
+    requires { low < 4096 }
+    ensures high { IfSome result (λ date. half ≡ date / 2 ^ 12 * 2 ^ 15) }
+    ensures low { IfSome result (λ date. low ≡ date % 2 ^ 12) }
+    ensures fits { IfSome result (λ date. date < date_limit (layout_number layout)) }
+    ensures in_range { IfSome result (λ date. date ≤ 32767) }
+    ensures none { IfNone result ((date : ℕ) → half ≡ date / 2 ^ 12 * 2 ^ 15 → low ≡ date % 2 ^ 12
+        → date < date_limit (layout_number layout) → ⊥) }
+{
+    let bits = half.bits();
+    if bits & 0o77777 != 0 {
+        return None;
+    }
+    let date = (bits >> 15) * 4096 + low;
+    if date > layout.last_date() {
+        return None;
+    }
+    Some(date)
 }
 
 /// The first words of a prime block, those before its pointers.
@@ -63,19 +88,22 @@ pub struct PrimeHead {
     pub ghost count_fits: { count ≤ 112 },
 }
 
-/// The first words of a prime block, where they are right.
-pub fn prime_head(block: &Block) -> Option<PrimeHead>
-    ensures some { IfSome result (λ h. IsPrimeHead block.now (with_length h.prime h.length) h.count h.next) }
-    ensures none { IfNone result ((p : PrimeRecord) (count next : ℕ) → IsPrimeHead block.now p count next → ⊥) }
+/// Gives the first words of a prime block, if they are right in this layout: layout 1 has no date above 4095.
+pub fn prime_head(block: &Block, layout: Layout) -> Option<PrimeHead>
+    ensures some { IfSome result (λ h. IsPrimeHead (layout_number layout) block.now (with_length h.prime h.length)
+        h.count h.next) }
+    ensures none { IfNone result ((p : PrimeRecord) (count next : ℕ)
+        → IsPrimeHead (layout_number layout) block.now p count next → ⊥) }
 {
     let words = &block[..];
     let marked = block[0].bits() == PRIME_WORD;
-    let plain = block[2].right().bits() == 0 && are_zeros(&words[8..PRIME_HEAD]);
+    let plain = are_zeros(&words[8..PRIME_HEAD]);
     let (length, count) = (block[5].bits(), block[6].bits());
     if !marked || !plain || length > u64::from(MOST_WORDS) || count > PRIME_POINTERS as u64 {
         return None;
     }
     let attributes = attributes_of(block[3])?;
+    let date = date_in(block[2].right(), attributes.low, layout)?;
     Some(PrimeHead {
         prime: Prime {
             file: FileName {
@@ -85,7 +113,10 @@ pub fn prime_head(block: &Block) -> Option<PrimeHead>
             ppn: Ppn::from_word(block[4])?,
             protection: attributes.protection,
             mode: attributes.mode,
-            moment: attributes.moment,
+            moment: Moment {
+                date,
+                minute: attributes.minute,
+            },
         },
         length: length as u32,
         count: count as usize,
@@ -120,13 +151,23 @@ pub fn extension_head(block: &Block) -> Option<ExtensionHead>
     })
 }
 
-/// The attributes of a file as a prime block has them: protection in bits 0 to 8, mode in 9 to 12, time
-/// in 13 to 23, date in 24 to 35.
+/// Gives the extension of a file as a prime block has it, with the three high bits of its date in bits 18 to 20, which
+/// are zero for the dates of layout 1.
+pub fn extension_word(prime: &Prime) -> Word
+    ensures { (words : ℕ) → result ≡ extension_word (with_length prime.now words) }
+{
+    let high = prime.moment.date / 4096;
+    Word::from_halves(prime.file.ext, Half::from_bits(high << 15))
+}
+
+/// Gives the attributes of a file as a prime block has them: protection in bits 0 to 8, mode in 9 to 12, time in 13 to
+/// 23, the low twelve bits of the date in 24 to 35.
 pub fn attributes_word(prime: &Prime) -> Word
     ensures { (words : ℕ) → result ≡ attributes (with_length prime.now words) }
 {
     let protection = u64::from(prime.protection) << 27;
     let mode = prime.mode.number() << 23;
     let minute = u64::from(prime.moment.minute) << 12;
-    Word::from_bits(protection + mode + minute + u64::from(prime.moment.date))
+    let low = u64::from(prime.moment.date % 4096);
+    Word::from_bits(protection + mode + minute + low)
 }

@@ -1,10 +1,10 @@
 //! Versions of files on the disk: what their prime blocks say, and where their data lie. What the layer
 //! keeps:
 //!
-//! 1. On an honest disk `read_version` answers a version that stands there, all of whose data blocks and
-//!    extensions lie in the free space; or it names a retrieval block that is not as it should be, and
-//!    that never where a version stands there as it should. What it answers is what the contents have
-//!    there. (`ok`, `bad`, `whole`, `reads`)
+//! 1. On an honest disk `read_version` answers a version that stands there in the layout it is read in, all of whose
+//!    data blocks and extensions lie in the free space; or it names a retrieval block that is not as it should be,
+//!    and that never if a version stands there as it should. What it answers is what the contents have there. In
+//!    layout 1 a prime block with a date above 4095 is not as it should be. (`ok`, `bad`, `whole`, `reads`)
 //! 2. On every disk, honest or not, it returns, and the blocks that it answers lie in the free space, as
 //!    many as the length asks for; a block that it names is the prime block or lies there too.
 //!    (`blocks_inside`, `ribs_inside`, `counted`, `few`, `named`)
@@ -13,11 +13,12 @@
 //! 4. `prime_block` spells the prime block of a version, a pointer to each of the longest runs of its data blocks.
 //!    `prime_block_for` writes one that was read for another name, and leaves its pointers as they are. `is_prime_of`
 //!    says whether a block is the prime block of a version in core, its pointers aside.
-//! 5. A `Prime` has a protection below 1000 (octal) and a date that fits the twelve bits of layout 1; a
-//!    `Mode` is one of the six data modes of files.
+//! 5. A `Prime` has a protection below 1000 (octal) and a date of fifteen bits, of which layout 1 has twelve; its words
+//!    are the same in all layouts that have the date. A `Mode` is one of the six data modes of files.
 //! 6. `write_version` writes no block but the prime block and the ribs that it took from the table, all
-//!    different, in the free space and free before; at Ok the version stands there, and it is read back
-//!    where its data blocks lie in the free space. The prime block and the ribs have the longest runs of these.
+//!    different, in the free space and free before; at Ok the version stands there in each layout that has its date,
+//!    and it is read back if its data blocks lie in the free space. The prime block and the ribs have the longest runs
+//!    of these.
 //!    (`written`, `read_back`, `prime_is`, `ribs_are`, `taken`, `own`, `apart`, `modified`)
 //! 7. `get_words` answers the words of a body that stand there from a block on, as many as are asked for
 //!    and are there, or names a data block that is damaged; such a block is never answered as words.

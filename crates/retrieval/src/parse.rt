@@ -1,4 +1,5 @@
 ghost use Rattle.std.specs.Prelude.{◌≡◌, ◌↔◌, ℕ, List, IsTrue, IfSome, IfNone, take, drop};
+ghost use Rattle.meaning.specs.Layouts.{layout_number};
 ghost use Rattle.meaning.specs.Retrieval.{Prime as PrimeRecord, Run};
 ghost use Rattle.retrieval.specs.Primes.{with_length};
 ghost use Rattle.retrieval.specs.Pointers.{runs_of};
@@ -9,18 +10,19 @@ use crate::build::{first_of, prime_block_for};
 use crate::head::{ExtensionHead, PrimeHead, extension_head, prime_head};
 use crate::pointers::are_pointers;
 use crate::{Prime, Version};
-use meaning::layout::{EXTENSION_HEAD, PRIME_HEAD};
+use meaning::layout::{EXTENSION_HEAD, Layout, PRIME_HEAD};
 use words36::Block;
 
-/// What a prime block says before its pointers, or `None` where its words aren't those of a prime block.
-pub fn parse_prime(block: &Block) -> Option<PrimeHead>
-    ensures some { IfSome result (λ h. SpellsPrime block.now (with_length h.prime h.length)
+/// Gives what a prime block says before its pointers, or `None` if its words aren't those of a prime block of this
+/// layout.
+pub fn parse_prime(block: &Block, layout: Layout) -> Option<PrimeHead>
+    ensures some { IfSome result (λ h. SpellsPrime (layout_number layout) block.now (with_length h.prime h.length)
         (runs_of (take h.count (drop 16 block.now))) h.next) }
-    ensures none { IfNone result ((p : PrimeRecord) (runs : List Run) (next : ℕ) → SpellsPrime block.now p runs next
-        → ⊥) }
+    ensures none { IfNone result ((p : PrimeRecord) (runs : List Run) (next : ℕ)
+        → SpellsPrime (layout_number layout) block.now p runs next → ⊥) }
 {
     let words = &block[..];
-    let head = prime_head(block)?;
+    let head = prime_head(block, layout)?;
     if !are_pointers(&words[PRIME_HEAD..], head.count) {
         return None;
     }
@@ -40,12 +42,13 @@ pub fn parse_extension(block: &Block) -> Option<ExtensionHead>
     Some(head)
 }
 
-/// Whether a block is the prime block of a version: its words are those of a prime block, they say of the file what
-/// this prime does, and they have the length and the first extension of the version. Its pointers aren't compared.
-pub fn is_prime_of(block: &Block, prime: &Prime, version: &Version) -> bool
-    ensures { IsTrue result ↔ IsPrimeOf block.now prime.now version.now }
+/// Says whether a block is the prime block of a version in a layout: its words are those of a prime block of this
+/// layout, they say of the file what this prime does, and they have the length and the first extension of the version.
+/// Its pointers aren't compared.
+pub fn is_prime_of(block: &Block, layout: Layout, prime: &Prime, version: &Version) -> bool
+    ensures { IsTrue result ↔ IsPrimeOf (layout_number layout) block.now prime.now version.now }
 {
-    let Some(head) = parse_prime(block) else {
+    let Some(head) = parse_prime(block, layout) else {
         return false;
     };
     if head.length != version.length() {

@@ -14,14 +14,13 @@ pub struct Prime {
     pub protection: u16,
     /// The mode it was written in.
     pub mode: Mode,
-    /// When it was written: a date below 4096, as layout 1 has twelve bits for it.
+    /// When it was written: a date of fifteen bits, 0 to 32767. Layout 1 has the dates below 4096 alone.
     pub moment: Moment,
     pub ghost protection_fits: { protection < 512 },
-    pub ghost date_fits: { moment.date < 4096 },
 }
 
 impl Prime {
-    /// What a prime block says, or `None` for a protection above 777 (octal) or a date above 4095.
+    /// Gives what a prime block says, or `None` for a protection above 777 (octal).
     pub fn new(
         file: FileName,
         ppn: Ppn,
@@ -34,9 +33,9 @@ impl Prime {
         ensures protection { IfSome result (λ prime. prime.protection ≡ protection) }
         ensures mode { IfSome result (λ prime. prime.mode ≡ mode) }
         ensures moment { IfSome result (λ prime. prime.moment ≡ moment) }
-        ensures fits { IsSome result ↔ ((protection < 512) × (moment.date < 4096)) }
+        ensures fits { IsSome result ↔ (protection < 512) }
     {
-        if protection > 0o777 || moment.date > 0o7777 {
+        if protection > 0o777 {
             return None;
         }
         Some(Prime {

@@ -3,6 +3,7 @@ ghost use Rattle.std.specs.Prelude.{OnOk, IsErrOf, length};
 ghost use Rattle.std.specs.List.{AllByRecursion};
 ghost use Rattle.blockdisk.specs.Disk.{Keeps, SameDisk, one_more};
 ghost use Rattle.meaning.specs.Costs.{blocks_of};
+ghost use Rattle.meaning.specs.Layouts.{layout_number};
 ghost use Rattle.meaning.specs.Regions.{IsVolumeSize};
 ghost use Rattle.meaning.specs.Retrieval.{Prime as PrimeRecord, IsRetrieved, most_blocks};
 ghost use Rattle.meaning.specs.Faults.{InSpace, IsBadVersion};
@@ -15,7 +16,9 @@ use crate::parse::{parse_extension, parse_prime};
 use crate::runs::{RunError, push_runs};
 use crate::{Prime, RetrievalError, Version};
 use blockdisk::{Disk, Fault};
-use meaning::layout::{EXTENSION_HEAD, EXTENSION_POINTERS, PRIME_HEAD, PRIME_POINTERS, follow};
+use meaning::layout::{
+    EXTENSION_HEAD, EXTENSION_POINTERS, Layout, PRIME_HEAD, PRIME_POINTERS, follow,
+};
 use std::alloc::Global;
 use words36::{BLOCK_WORDS, Block};
 
@@ -54,14 +57,17 @@ fn start_version(
     block: &Block,
     at: u32,
     size: u32,
+    layout: Layout,
 ) -> Result<(Prime, Version, u32), RetrievalError>
     requires { IsVolumeSize size }
-    ensures ok { IfOk result (λ started. IsStarted size block.now started.0 started.1 started.2) }
-    ensures bad { (k : ℕ) → IsErrOf result (BadRetrieval k) → (k ≡ at) × IsBadPrime size block.now }
+    ensures ok { IfOk result (λ started. IsStarted size (layout_number layout) block.now started.0 started.1
+        started.2) }
+    ensures bad { (k : ℕ) → IsErrOf result (BadRetrieval k) → (k ≡ at)
+        × IsBadPrime size (layout_number layout) block.now }
     ensures device { IsErrOf result Device → ⊥ }
 {
     let words = &block[..];
-    let Some(head) = parse_prime(block) else {
+    let Some(head) = parse_prime(block, layout) else {
         return Err(RetrievalError::BadRetrieval(at));
     };
     let full = head.count == PRIME_POINTERS;
@@ -114,34 +120,37 @@ fn extend_version(
     Ok(next)
 }
 
-/// Reads a version: its prime block and the extensions of that. The data blocks aren't read.
+/// Reads a version of an image of a layout: its prime block and the extensions of that. The data blocks aren't read.
 ///
 /// # Errors
 ///
-/// `BadRetrieval` with the prime block or an extension that is damaged or not as it should be: a number
-/// outside the free space is never read, and the block that names it is refused; `Device` where the device
-/// failed; `NoMemory` where the lists of blocks find no room.
+/// `BadRetrieval` with the prime block or an extension that is damaged or not as it should be in this layout: a
+/// number outside the free space is never read, and the block that names it is refused; a prime block with a date
+/// that the layout has no room for is refused before its extensions are read. `Device` if the device failed;
+/// `NoMemory` if the lists of blocks find no room.
 pub fn read_version<D: Disk>(
     alloc: Global,
     disk: &mut D,
     at: u32,
+    layout: Layout,
 ) -> Result<(Prime, Version), RetrievalError>
     // What the caller sees to.
     requires volume { IsVolumeSize (D.state disk.old).size }
     requires inside { at < (D.state disk.old).size }
     // What was read, or what stands at a prime block that is refused.
     ensures ok { (D.state disk.new).honest
-        → IfOk result (λ read. IsVersionAt (D.state disk.old).size (D.state disk.old).contents at read.0 read.1) }
+        → IfOk result (λ read. IsVersionAt (D.state disk.old).size (D.state disk.old).contents (layout_number layout) at
+        read.0 read.1) }
     ensures bad { (D.state disk.new).honest → (k : ℕ) → IsErrOf result (BadRetrieval k)
-        → IsBadVersion (D.state disk.old).size (D.state disk.old).contents 1 at k }
+        → IsBadVersion (D.state disk.old).size (D.state disk.old).contents (layout_number layout) at k }
 
     // Whatever the disk answers, a block that is named is the prime block or lies in the free space.
     ensures named { (k : ℕ) → IsErrOf result (BadRetrieval k) → (k ≡ at) ⊎ InSpace (D.state disk.old).size k }
     ensures whole { (D.state disk.new).honest → (p : PrimeRecord) (ribs blocks : List ℕ)
-        → IsStandingVersion (D.state disk.old).size (D.state disk.old).contents at p ribs blocks → (k : ℕ)
-        → IsErrOf result (BadRetrieval k) → ⊥ }
+        → IsStandingVersion (D.state disk.old).size (D.state disk.old).contents (layout_number layout) at p ribs blocks
+        → (k : ℕ) → IsErrOf result (BadRetrieval k) → ⊥ }
     ensures reads { (D.state disk.new).honest → (p : PrimeRecord) (ribs blocks : List ℕ)
-        → IsRetrieved 1 (D.state disk.old).contents p at ribs blocks → p.place.name.ext < 2 ^ 18
+        → IsRetrieved (layout_number layout) (D.state disk.old).contents p at ribs blocks → p.place.name.ext < 2 ^ 18
         → IfOk result (λ read. IsReadAs p ribs blocks read.0 read.1) }
     // It is as a version has to be.
     ensures blocks_inside { IfOk result (λ read. AllByRecursion (InSpace (D.state disk.old).size) read.1.blocks) }
@@ -157,7 +166,7 @@ pub fn read_version<D: Disk>(
 {
     let size = disk.blocks();
     let block = read_block(disk, at)?;
-    let (prime, mut version, mut next) = start_version(alloc, &block, at, size)?;
+    let (prime, mut version, mut next) = start_version(alloc, &block, at, size, layout)?;
     while next != 0 {
         let block = read_block(disk, next)?;
         next = extend_version(&block, next, at, size, &mut version)?;

@@ -8,7 +8,7 @@ ghost use Rattle.meaning.specs.Costs.{blocks_of};
 ghost use Rattle.meaning.specs.Faults.{InSpace};
 ghost use Rattle.meaning.specs.Maps.{times};
 ghost use Rattle.meaning.specs.Regions.{IsVolumeSize};
-ghost use Rattle.meaning.specs.Retrieval.{IsRun, prime_block, extension_block, AreExtensions, IsRetrieved};
+ghost use Rattle.meaning.specs.Retrieval.{IsRun, prime_block, extension_block, AreExtensions, IsRetrieved, date_limit};
 ghost use Rattle.alloctab.specs.TableState.{IsTable, IsFree, holds, space, used_in_space, with_held};
 ghost use Rattle.retrieval.specs.Runs.{pairs_of, longest_runs, ribs_of};
 ghost use Rattle.retrieval.specs.Primes.{with_length};
@@ -135,9 +135,9 @@ pub fn write_retrieval_blocks<D: Disk>(
     requires words { version.now.words ≤ 2097152 }
     requires enough { length version.now.blocks ≡ blocks_of version.now.words }
     requires fit { AllByRecursion (λ n. n < 2 ^ 18) version.now.blocks }
-    // The blocks that are written, and no others.
-    ensures written { (D.state disk.new).honest
-        → OnOk result (IsRetrieved 1 (D.state disk.new).contents (with_length prime.now version.now.words)
+    // What stands there then, in each layout that has the date.
+    ensures written { (D.state disk.new).honest → (layout : ℕ) → prime.now.moment.date < date_limit layout
+        → OnOk result (IsRetrieved layout (D.state disk.new).contents (with_length prime.now version.now.words)
         at version.now.ribs version.now.blocks) }
     // The prime block has the first of the longest runs of the data blocks, the ribs have the others.
     ensures prime_is { (D.state disk.new).honest → OnOk result ((D.state disk.new).contents at
@@ -183,12 +183,14 @@ pub fn write_version<D: Disk>(
     requires booked { used_in_space table.old + (1 + ribs_of version.old.blocks) ≤ table.old.booked }
     requires room { table.old.booked ≤ space table.old.size }
 
-    // What was written stands there, and is read back: `whole` and `reads` of `read_version`.
-    ensures written { (D.state disk.new).honest
-        → IfOk result (λ n. IsRetrieved 1 (D.state disk.new).contents (with_length prime.now version.new.words)
+    // What was written stands there in each layout that has the date, and is read back: `whole` and `reads` of
+    // `read_version`.
+    ensures written { (D.state disk.new).honest → (layout : ℕ) → prime.now.moment.date < date_limit layout
+        → IfOk result (λ n. IsRetrieved layout (D.state disk.new).contents (with_length prime.now version.new.words)
         n version.new.ribs version.new.blocks) }
-    ensures read_back { (D.state disk.new).honest → AllByRecursion (InSpace (D.state disk.old).size) version.old.blocks
-        → IfOk result (λ n. IsStandingVersion (D.state disk.new).size (D.state disk.new).contents n
+    ensures read_back { (D.state disk.new).honest → (layout : ℕ) → prime.now.moment.date < date_limit layout
+        → AllByRecursion (InSpace (D.state disk.old).size) version.old.blocks
+        → IfOk result (λ n. IsStandingVersion (D.state disk.new).size (D.state disk.new).contents layout n
         (with_length prime.now version.new.words) version.new.ribs version.new.blocks) }
     // The prime block has the first of the longest runs of the data blocks, the ribs have the others.
     ensures prime_is { (D.state disk.new).honest → IfOk result (λ n. (D.state disk.new).contents n

@@ -2,6 +2,7 @@ ghost use Rattle.blockdisk.specs.Memory.{memory_state};
 
 use crate::run_tests::expect_blocks;
 use blockdisk::{Disk, Fault, MemDisk, NoMemory};
+use meaning::layout::Layout;
 use retrieval::{BodyError, Mode, Prime, RetrievalError, Version, prime_block, read_version};
 use std::alloc::Global;
 use std::process::Abort;
@@ -59,16 +60,27 @@ fn load(rt: &impl Abort, disk: &mut MemDisk, n: u32, block: &Block) {
     disk.load(n, block);
 }
 
-/// The version whose prime block is in this block of a disk.
+/// The version whose prime block is in this block of a disk of a layout.
+fn read_in<D: Disk>(
+    rt: &impl Abort,
+    alloc: Global,
+    disk: &mut D,
+    at: u32,
+    layout: Layout,
+) -> Result<(Prime, Version), RetrievalError> {
+    let size = disk.blocks();
+    assert!(rt; 64 <= size && size <= 131072 && at < size);
+    read_version(alloc, disk, at, layout)
+}
+
+/// The same of layout 1.
 fn read<D: Disk>(
     rt: &impl Abort,
     alloc: Global,
     disk: &mut D,
     at: u32,
 ) -> Result<(Prime, Version), RetrievalError> {
-    let size = disk.blocks();
-    assert!(rt; 64 <= size && size <= 131072 && at < size);
-    read_version(alloc, disk, at)
+    read_in(rt, alloc, disk, at, Layout::One)
 }
 
 /// A disk with this prime block in 20, and this extension in 21.
@@ -232,10 +244,10 @@ fn two_extensions(rt: HostRuntime) -> Result<(), Fail> {
     Ok(())
 }
 
-/// The prime block of a file, built again from what was read of it.
+/// The prime block of a file, built again from what was read of it in layout 2.
 fn rebuilt<D: Disk>(rt: &impl Abort, alloc: Global, disk: &mut D) -> Option<Block> {
     assert!(rt; disk.blocks() == SIZE);
-    let Ok((attributes, version)) = read_version(alloc, disk, 20) else {
+    let Ok((attributes, version)) = read_version(alloc, disk, 20, Layout::Two) else {
         return None;
     };
     Some(prime_block(&attributes, &version))
@@ -267,6 +279,88 @@ fn prime_blocks_are_built_again(rt: HostRuntime) -> Result<(), Fail> {
     expect_built(&rt, rt.alloc(), &alone, &none, &pieces)?; // neighbours are joined
     let large = rib(113 * 128, 21, &[(1, 100); 112]);
     expect_built(&rt, rt.alloc(), &large, &xrb(0, &[(1, 99)]), &large)?;
+    let late = dated(0o700000);
+    expect_built(&rt, rt.alloc(), &late, &none, &late)?;
+    Ok(())
+}
+
+/// The prime block of FOO.TXT with two words, with this as the right half of its word 2.
+fn dated(half: u64) -> Block {
+    let mut block = rib(2, 0, &[(1, 30)]);
+    block[2] = word(FOO[2] | half);
+    block
+}
+
+/// The date of the version whose prime block is in 20, read in a layout.
+fn date_in(
+    rt: &impl Abort,
+    alloc: Global,
+    disk: &mut MemDisk,
+    layout: Layout,
+) -> Result<u32, RetrievalError> {
+    let (prime, _version) = read_in(rt, alloc, disk, 20, layout)?;
+    Ok(prime.moment.date)
+}
+
+/// A disk with this prime block in 20, and nothing in 21, gives this date in a layout, or is refused.
+fn expect_date(
+    rt: &impl Abort,
+    alloc: Global,
+    prime: &Block,
+    layout: Layout,
+    wanted: Result<u32, RetrievalError>,
+) -> Result<(), NoMemory> {
+    let none = [Word::ZERO; BLOCK_WORDS];
+    let mut disk = disk_with(rt, alloc, prime, &none)?;
+    let date = date_in(rt, alloc, &mut disk, layout);
+    drop(disk);
+    assert_eq!(rt; date, wanted);
+    Ok(())
+}
+
+/// Bits 18, 19 and 20 of word 2, each alone and all together, stand for days beside the 4095 of the low bits: in
+/// layout 2 alone.
+#[test]
+fn high_bits_of_a_date(rt: HostRuntime) -> Result<(), Fail> {
+    let bad = Err(RetrievalError::BadRetrieval(20));
+    expect_date(&rt, rt.alloc(), &dated(0), Layout::One, Ok(4095))?;
+    expect_date(&rt, rt.alloc(), &dated(0), Layout::Two, Ok(4095))?;
+    for (half, more) in [
+        (0o400000, 16384),
+        (0o200000, 8192),
+        (0o100000, 4096),
+        (0o700000, 28672),
+    ] {
+        expect_date(&rt, rt.alloc(), &dated(half), Layout::One, bad)?;
+        expect_date(&rt, rt.alloc(), &dated(half), Layout::Two, Ok(4095 + more))?;
+    }
+    Ok(())
+}
+
+/// Bits 21 to 35 of word 2, each alone, are refused in both layouts.
+#[test]
+fn other_bits_beside_an_extension(rt: HostRuntime) -> Result<(), Fail> {
+    let bad = Err(RetrievalError::BadRetrieval(20));
+    for half in [
+        0o40000, 0o20000, 0o10000, 0o4000, 0o2000, 0o1000, 0o400, 0o200, 0o100, 0o40, 0o20, 0o10,
+        4, 2, 1,
+    ] {
+        expect_date(&rt, rt.alloc(), &dated(half), Layout::One, bad)?;
+        expect_date(&rt, rt.alloc(), &dated(half), Layout::Two, bad)?;
+    }
+    Ok(())
+}
+
+/// A prime block with a high bit in its date names an extension that is none: layout 1 refuses the prime block, and
+/// layout 2 the extension.
+#[test]
+fn a_date_is_refused_before_extensions(rt: HostRuntime) -> Result<(), Fail> {
+    let mut prime = rib(113 * 128, 21, &[(1, 100); 112]);
+    prime[2] = word(FOO[2] | 0o100000);
+    for (layout, n) in [(Layout::One, 20), (Layout::Two, 21)] {
+        let bad = Err(RetrievalError::BadRetrieval(n));
+        expect_date(&rt, rt.alloc(), &prime, layout, bad)?;
+    }
     Ok(())
 }
 
@@ -431,7 +525,9 @@ fn is_prime(protection: u16, date: u32) -> bool {
 fn primes_fit(rt: HostRuntime) {
     assert!(rt; is_prime(0o777, 4095));
     assert!(rt; !is_prime(0o1000, 4095));
-    assert!(rt; !is_prime(0o777, 4096));
+    assert!(rt; is_prime(0o777, 4096));
+    assert!(rt; is_prime(0o777, 32767));
+    assert!(rt; !is_prime(0o1000, 32767));
 }
 
 #[test]

@@ -3,7 +3,9 @@ ghost use Rattle.std.specs.List.{AllByRecursion};
 ghost use Rattle.alloctab.specs.TableState.{holds, space, used_in_space, uses};
 ghost use Rattle.meaning.specs.Costs.{blocks_of};
 ghost use Rattle.meaning.specs.Faults.{InSpace};
+ghost use Rattle.meaning.specs.Layouts.{layout_number};
 ghost use Rattle.meaning.specs.Regions.{IsVolumeSize};
+ghost use Rattle.meaning.specs.Retrieval.{date_limit};
 ghost use Rattle.retrieval.specs.Primes.{with_length};
 ghost use Rattle.retrieval.specs.Reading.{IsReadAs};
 ghost use Rattle.retrieval.specs.Runs.{ribs_of};
@@ -13,9 +15,10 @@ ghost use Rattle.retrieval.specs.declared.error.RetrievalError.TheVariants.{BadR
 use crate::run_tests::expect_same_blocks;
 use alloctab::{Reached, Table, TableError};
 use blockdisk::{Disk, MemDisk, NoMemory};
+use meaning::layout::Layout;
 use retrieval::{
-    Mode, Prime, RetrievalError, Version, read_version, rib_count, take_retrieval_blocks,
-    write_retrieval_blocks, write_version,
+    Mode, Prime, RetrievalError, Version, is_prime_of, prime_block, prime_block_for, read_version,
+    rib_count, take_retrieval_blocks, write_retrieval_blocks, write_version,
 };
 use std::alloc::Global;
 use std::process::Abort;
@@ -30,15 +33,20 @@ pub(crate) fn word(number: u64) -> Word {
     Word::new(number).unwrap_or(Word::ZERO)
 }
 
-/// FOO.TXT of [10,20].
-fn foo(rt: &impl Abort) -> Prime {
+/// FOO.TXT of [10,20] of a date.
+fn foo_of(rt: &impl Abort, date: u32) -> Prime {
     let file = FileName {
         name: word(0o465757000000),
         ext: Half::new(0o647064).expect(rt, "an extension"),
     };
     let ppn = Ppn::from_word(word(0o000010000020)).expect(rt, "a PPN");
-    let moment = Moment::new(4095, 17).expect(rt, "a moment");
+    let moment = Moment::new(date, 17).expect(rt, "a moment");
     Prime::new(file, ppn, 0o057, Mode::Dump, moment).expect(rt, "a prime block")
+}
+
+/// FOO.TXT of [10,20] of the last date of layout 1.
+fn foo(rt: &impl Abort) -> Prime {
+    foo_of(rt, 4095)
 }
 
 /// A disk on which the fixed regions alone are in use, and that has room for so many writes.
@@ -93,13 +101,14 @@ fn version_of(alloc: Global, count: u32) -> Result<Version, NoMemory>
     Ok(version)
 }
 
-/// A version that was written is read back, by the two contracts alone.
+/// A version that was written is read back in each layout that has its date, by the two contracts alone.
 fn write_and_read<D: Disk>(
     alloc: Global,
     disk: &mut D,
     table: &mut Table,
     prime: &Prime,
     version: &mut Version,
+    layout: Layout,
 ) -> Result<(Prime, Version), RetrievalError>
     requires volume { IsVolumeSize (D.state disk.old).size }
     requires size { table.old.size ≡ (D.state disk.old).size }
@@ -110,13 +119,14 @@ fn write_and_read<D: Disk>(
     requires fixed { IsFixed table.old }
     requires booked { used_in_space table.old + (1 + ribs_of version.old.blocks) ≤ table.old.booked }
     requires room { table.old.booked ≤ space table.old.size }
-    ensures read { (D.state disk.new).honest
+    ensures read { (D.state disk.new).honest → prime.now.moment.date < date_limit (layout_number layout)
         → IfOk result (λ read. IsReadAs (with_length prime.now version.old.words) version.new.ribs version.old.blocks
         read.0 read.1) }
-    ensures good { (D.state disk.new).honest → (k : ℕ) → IsErrOf result (BadRetrieval k) → ⊥ }
+    ensures good { (D.state disk.new).honest → prime.now.moment.date < date_limit (layout_number layout)
+        → (k : ℕ) → IsErrOf result (BadRetrieval k) → ⊥ }
 {
     let at = write_version(alloc, disk, table, prime, version)?;
-    read_version(alloc, disk, at)
+    read_version(alloc, disk, at, layout)
 }
 
 /// The longest runs of a version ask for no more ribs than a pointer for each block would.
@@ -173,13 +183,15 @@ fn write_listed<D: Disk>(
     write_version(alloc, disk, table, &prime, version)
 }
 
-/// Writes FOO.TXT with a version that is listed, and reads it back.
+/// Writes FOO.TXT of a date with a version that is listed, and reads it back in a layout.
 fn write_listed_and_read<D: Disk>(
     rt: &impl Abort,
     alloc: Global,
     disk: &mut D,
     table: &mut Table,
     version: &mut Version,
+    date: u32,
+    layout: Layout,
 ) -> Result<(Prime, Version), RetrievalError>
     requires size { table.old.size ≡ 1024 }
     requires fixed { IsFixed table.old }
@@ -190,9 +202,9 @@ fn write_listed_and_read<D: Disk>(
     requires fit { AllByRecursion (λ n. n < 2 ^ 18) version.old.blocks }
     requires inside { AllByRecursion (InSpace 1024) version.old.blocks }
 {
-    let prime = foo(rt);
+    let prime = foo_of(rt, date);
     assert!(rt; disk.blocks() == SIZE);
-    write_and_read(alloc, disk, table, &prime, version)
+    write_and_read(alloc, disk, table, &prime, version, layout)
 }
 
 /// What was read is FOO.TXT with a version of so many blocks and ribs that was written.
@@ -221,7 +233,8 @@ fn expect_read_back(
     ribs: u32,
 ) -> Result<(), Fail> {
     let (mut table, mut version) = listed(rt, alloc, disk, count)?;
-    let answer = write_listed_and_read(rt, alloc, disk, &mut table, &mut version);
+    let layout = Layout::One;
+    let answer = write_listed_and_read(rt, alloc, disk, &mut table, &mut version, 4095, layout);
     drop(table);
     let (prime, read) = answer?;
     expect_written(rt, &prime, &read, &version, count, ribs);
@@ -251,6 +264,93 @@ fn has_words(rt: &impl Abort, disk: &mut MemDisk, n: u32, words: &[(usize, u64)]
         }
     }
     true
+}
+
+/// The date of FOO.TXT, written with a version of one block, and read back in a layout.
+fn date_back(
+    rt: &impl Abort,
+    alloc: Global,
+    disk: &mut MemDisk,
+    date: u32,
+    layout: Layout,
+) -> Result<Result<u32, RetrievalError>, Fail> {
+    let (mut table, mut version) = listed(rt, alloc, disk, 1)?;
+    let answer = write_listed_and_read(rt, alloc, disk, &mut table, &mut version, date, layout);
+    drop(version);
+    drop(table);
+    Ok(answer.map(|(prime, _read)| prime.moment.date))
+}
+
+/// FOO.TXT of a date has these words 2 and 3 in its prime block, which is 15, and is read back, or refused, in a layout.
+fn expect_date(
+    rt: &impl Abort,
+    alloc: Global,
+    date: u32,
+    words: [u64; 2],
+    layout: Layout,
+    wanted: Result<u32, RetrievalError>,
+) -> Result<(), Fail> {
+    let mut disk = disk_of(rt, alloc, 8)?;
+    let answer = date_back(rt, alloc, &mut disk, date, layout);
+    let has = has_words(rt, &mut disk, 15, &[(2, words[0]), (3, words[1])]);
+    drop(disk);
+    assert_eq!(rt; answer?, wanted);
+    assert!(rt; has);
+    Ok(())
+}
+
+/// Words 2 and 3 of the prime blocks of FOO.TXT of some dates: mode 17, protection 057, 17 minutes past midnight.
+const DATED: [(u32, [u64; 2]); 4] = [
+    (0, [0o647064000000, 0o057740210000]),
+    (4095, [0o647064000000, 0o057740217777]),
+    (4096, [0o647064100000, 0o057740210000]),
+    (32767, [0o647064700000, 0o057740217777]),
+];
+
+#[test]
+fn dates_written_and_read_back(rt: HostRuntime) -> Result<(), Fail> {
+    for (date, words) in DATED {
+        expect_date(&rt, rt.alloc(), date, words, Layout::Two, Ok(date))?;
+        let wanted = if date < 4096 {
+            Ok(date)
+        } else {
+            Err(RetrievalError::BadRetrieval(15))
+        };
+        expect_date(&rt, rt.alloc(), date, words, Layout::One, wanted)?;
+    }
+    Ok(())
+}
+
+/// A prime block that is written anew for another prime has the date of that one, all fifteen bits of it.
+#[test]
+fn prime_blocks_for_other_dates(rt: HostRuntime) {
+    let old = [Word::ZERO; BLOCK_WORDS];
+    for (date, words) in DATED {
+        let anew = prime_block_for(&old, &foo_of(&rt, date));
+        assert_eq!(rt; anew[2], word(words[0]));
+        assert_eq!(rt; anew[3], word(words[1]));
+    }
+}
+
+/// Whether the prime block of an empty FOO.TXT of a date is one in a layout.
+fn is_prime_in(rt: &impl Abort, alloc: Global, date: u32, layout: Layout) -> bool {
+    let prime = foo_of(rt, date);
+    let version = Version::new(alloc);
+    let block = prime_block(&prime, &version);
+    let is_prime = is_prime_of(&block, layout, &prime, &version);
+    drop(version);
+    is_prime
+}
+
+#[test]
+fn prime_blocks_of_layouts(rt: HostRuntime) {
+    for (date, _words) in DATED {
+        assert!(rt; is_prime_in(&rt, rt.alloc(), date, Layout::Two));
+        assert_eq!(rt;
+            is_prime_in(&rt, rt.alloc(), date, Layout::One),
+            date < 4096
+        );
+    }
 }
 
 /// Writes FOO.TXT with a version that is listed, with a list for its ribs that was found before. Answers the prime

@@ -5,6 +5,6 @@ use Rattle.retrieval.proofs.build.prime_block_for.Goals as goal
 
 pub returns : goal.returns
 returns c p runs next is =
-    front_rewritten p (with_length c.args.prime.now p.words) runs next c.from_bits.result c.from_halves.result
-    c.attributes_word.result c.word.result c.args.words.now c.args.prime.now.date_fits c.from_bits.ensures
-    c.from_halves.ensures (c.attributes_word.ensures p.words) c.word.ensures.value refl is
+    front_rewritten p (with_length c.args.prime.now p.words) runs next c.extension_word.result
+    c.attributes_word.result c.word.result c.args.words.now (c.extension_word.ensures p.words)
+    (c.attributes_word.ensures p.words) c.word.ensures.value refl is

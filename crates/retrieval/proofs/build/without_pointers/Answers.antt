@@ -8,9 +8,8 @@ pub returns : goal.returns
 returns c =
     let words = c.args.version.now.words in
     front_written (with_length c.args.prime.now words) c.args.count (head_or_zero c.args.version.now.ribs)
-    c.from_bits-4.result c.from_bits-5.result c.from_bits-3.result c.from_bits.result c.from_bits-2.result
-    c.from_halves.result c.attributes_word.result c.word.result
-    c.args.prime.now.date_fits c.from_bits.ensures c.from_bits-2.ensures c.from_halves.ensures
-    (c.attributes_word.ensures words) c.word.ensures.value (c.from_bits-3.ensures ∙ c.from.ensures
-    ∙ c.length.ensures) c.from_bits-4.ensures
-    (c.from_bits-5.ensures ∙ c.from-2.ensures ∙ c.first_of.ensures ∙ ap (λ (l : List ℕ). head_or_zero l) c.ribs.ensures)
+    c.from_bits-3.result c.from_bits-4.result c.from_bits-2.result c.from_bits.result c.extension_word.result
+    c.attributes_word.result c.word.result c.from_bits.ensures (c.extension_word.ensures words)
+    (c.attributes_word.ensures words) c.word.ensures.value (c.from_bits-2.ensures ∙ c.from.ensures
+    ∙ c.length.ensures) c.from_bits-3.ensures
+    (c.from_bits-4.ensures ∙ c.from-2.ensures ∙ c.first_of.ensures ∙ ap (λ (l : List ℕ). head_or_zero l) c.ribs.ensures)

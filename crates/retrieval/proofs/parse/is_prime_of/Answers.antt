@@ -2,6 +2,7 @@ use Rattle.std.proofs.Common.{◌≡◌, ◌==◌, drop, take, rules}
 use Rattle.std.proofs.lemmas.Bool.Decides.{Decides-eqb}
 use Rattle.std.proofs.lemmas.Slice.Eq.{slice_eq-Decides}
 use Rattle.meaning.specs.Blocks.{head_or_zero}
+use Rattle.meaning.specs.Layouts.{layout_number}
 use Rattle.retrieval.specs.Pointers.{runs_of}
 use Rattle.retrieval.specs.Primes.{with_length}
 use Rattle.retrieval.proofs.MatchedPrimes.{is_prime, prime_anew}
@@ -17,6 +18,7 @@ returns-in_default c = (
 
 pub returns : goal.returns
 returns c =
+    let layout = layout_number c.args.layout in
     let words = c.args.block.now in
     let head = c.in-Some.head in
     let prime = c.args.prime.now in
@@ -26,7 +28,8 @@ returns c =
     let first : head.next ≡ head_or_zero version.ribs = search rules in
     let says = slice_eq-Decides {E = λ a b. a == b} (λ a b. Decides-eqb a b) anew words c.eq.result c.eq.ensures in (
       λ yes.
-          is_prime words anew head.prime prime head.length (runs_of (take head.count (drop 16 words))) head.next version
-          (is_mode prime.mode) c.in-Some.ensures.some c.prime_block_for.ensures (says.0 yes) long first,
-      λ is. says.1 (prime_anew words anew prime version is c.prime_block_for.ensures),
+          is_prime layout words anew head.prime prime head.length (runs_of (take head.count (drop 16 words)))
+          head.next version (is_mode prime.mode) c.in-Some.ensures.some c.prime_block_for.ensures (says.0 yes) long
+          first,
+      λ is. says.1 (prime_anew layout words anew prime version is c.prime_block_for.ensures),
     )

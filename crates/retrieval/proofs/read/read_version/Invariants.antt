@@ -3,6 +3,7 @@ use Rattle.std.specs.List.{AllByRecursion}
 use Rattle.meaning.specs.Faults.{InSpace}
 use Rattle.blockdisk.specs.Disk.{SameDisk, Keeps}
 use Rattle.meaning.specs.Costs.{blocks_of}
+use Rattle.meaning.specs.Layouts.{layout_number}
 use Rattle.retrieval.specs.Reading.{IsReadTo}
 use Rattle.retrieval.proofs.RibCounts.{AreFilled}
 use Rattle.retrieval.proofs.read.read_version.Given as goal
@@ -19,7 +20,7 @@ invariant-loop-next g l = record {
   room : length l.version.blocks ≤ blocks_of l.version.words;
   filled : AreFilled (length l.version.ribs) (length l.version.blocks) l.next;
   read : (g.D.Disk.state l.disk).honest
-      → IsReadTo l.size (g.D.Disk.state l.fn.disk).contents l.at l.prime l.version l.next;
+      → IsReadTo l.size (g.D.Disk.state l.fn.disk).contents (layout_number l.fn.layout) l.at l.prime l.version l.next;
 }
 
 abbrev pub decreases-loop-next : goal.decreases-loop-next

@@ -1,4 +1,5 @@
 use Rattle.std.proofs.Common.{◌≡◌, ◌+◌, ◌-◌, ℕ, length, take, drop, flat_map, Err, sym, ap, subst, ◌∙◌, eq-eqb, arith}
+use Rattle.meaning.specs.Layouts.{layout_number}
 use Rattle.meaning.specs.Retrieval.{run_blocks}
 use Rattle.meaning.specs.Faults.{RunsInSpace}
 use Rattle.retrieval.specs.Pointers.{runs_of}
@@ -16,7 +17,7 @@ returns-in_default-follow-clause-bad c k is =
     let counted = count_is tail head.count
     (words_counted 16 112 c.args.block.now head.count c.told-block head.count_fits) in (
       cc,
-      prime_stuck c.args.size c.args.block.now (with_length head.prime head.length)
+      prime_stuck c.args.size (layout_number c.args.layout) c.args.block.now (with_length head.prime head.length)
           (runs_of (take head.count tail)) head.next c.in-Some.ensures.some c.in_default-follow.ensures.named
           (λ full inside. c.in_default-follow.ensures.none (eq-eqb head.count 112 (sym counted ∙ full)) inside),
     )

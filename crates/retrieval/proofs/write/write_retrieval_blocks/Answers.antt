@@ -26,7 +26,7 @@ write_ribs-requires-clause-fit g c =
     omega arith))))
 
 pub returns-clause-written : goal.returns-clause-written
-returns-clause-written g c h =
+returns-clause-written g c h layout date =
     let now = g.D.Disk.state c.write_ribs.new.disk in
     let new = g.D.Disk.state c.write.new.self in
     let v = c.args.version.now in
@@ -40,15 +40,15 @@ returns-clause-written g c h =
     (runs_fit runs (subst (AllByRecursion (λ n. n < 2 ^ 18)) (sym whole) c.requires.fit)
     (subst (λ (l : List ℕ). length l ≤ 16384) (sym whole) (let a = c.requires.enough in let b = c.requires.words in
     omega arith))) in
-    let fits : IsPrime 1 (with_length p v.words) = record {
+    let fits : IsPrime layout (with_length p v.words) = record {
       protection = p.protection_fits;
       mode = is_mode p.mode;
       time = p.moment.minute_in_range;
-      date = p.date_fits;
+      date = date;
       few = c.requires.words;
     } in
     retrieved_on now.contents new.contents (with_length p v.words) c.args.at v.ribs v.blocks (longest_runs v.blocks)
-    part
+    part layout
     c.write.result c.prime_block-words.result
     (subst (λ (l : List ℕ). AreExtensions now.contents (extensions_of l part)) c.ribs.ensures
     (c.in_ok-write_ribs.ensures.written (c.write.ensures.same.was_honest h)))

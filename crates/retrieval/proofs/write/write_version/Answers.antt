@@ -91,7 +91,7 @@ returns-in-Ok-clause-apart g c =
     takes_apart t (at ∷ ribs) c.take_retrieval_blocks-at.new.table sound c.requires.fixed all
 
 pub returns-in-Ok-clause-read_back : goal.returns-in-Ok-clause-read_back
-returns-in-Ok-clause-read_back g c h inside =
+returns-in-Ok-clause-read_back g c h layout date inside =
     let t = c.args.table.now in
     let at = c.take_retrieval_blocks-at.result in
     let ribs = c.take_retrieval_blocks-at.new.version.ribs in
@@ -105,9 +105,10 @@ returns-in-Ok-clause-read_back g c h inside =
     let p = with_length c.args.prime.now v.words in
     let its : AllByRecursion (InSpace old.size) v.blocks = subst (λ (w : VersionState).
     AllByRecursion (InSpace old.size) w.blocks) (sym c.take_retrieval_blocks-at.ensures.kept) inside in
-    subst (λ (s : ℕ). IsStandingVersion s new.contents at p ribs v.blocks)
+    subst (λ (s : ℕ). IsStandingVersion s new.contents layout at p ribs v.blocks)
     (sym c.write_retrieval_blocks.ensures.same.size)
-    (whole_version old.size new.contents p at ribs v.blocks (c.in-Ok.ensures.written h) (λ n there. (own n there).1) its
+    (whole_version old.size new.contents layout p at ribs v.blocks (c.in-Ok.ensures.written h layout date)
+    (λ n there. (own n there).1) its
     (subst IsPpn c.word.ensures.value c.word.ensures.ppn)
     (subst (λ (n : ℕ). n < 2 ^ 18) c.bits.ensures.value c.bits.ensures.fits))
 
