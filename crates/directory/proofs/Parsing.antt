@@ -28,15 +28,15 @@ module _ (words : List ℕ) (d e f : ℕ) (many : length words ≡ 3) where
       )
 
   pub master_outside : (ppn word first : ℕ) → ppn ≡ get_or words 0 d → word ≡ get_or words 1 e
-      → first ≡ get_or words 2 f → IsPpn ppn → word < 2 ^ 36 → word % 2 ^ 27 ≡ 0 → 2 ^ 32 ≤ first
-      → (e : MasterEntry) × IsMasterEntryOf 1 e × (master_words e ≡ words) × (2 ^ 32 ≤ e.1.1)
-  master_outside ppn word first a b c good fits plain far =
+      → first ≡ get_or words 2 f → IsPpn ppn → (half : ℕ) → half ≡ left word → half < 2 ^ 18 → half % 512 ≡ 0
+      → 2 ^ 32 ≤ first → (e : MasterEntry) × IsMasterEntryOf 2 e × (master_words e ≡ words) × (2 ^ 32 ≤ e.1.1)
+  master_outside ppn word first a b c good half halved fits plain far =
       let entry : MasterEntry = (ppn, (word, first)) in (
         entry,
         record {
           ppn = good;
-          protection = word / 2 ^ 27;
-          quota = 0;
+          protection = half / 512;
+          quota = right word;
           protection_fits = omega arith;
           quota_fits = omega arith;
           word = omega arith;

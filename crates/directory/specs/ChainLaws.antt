@@ -101,10 +101,10 @@ chain_weaker weaker chain c = record {
   blocks_once = c.blocks_once;
 }
 
--- a chain of the master directory in layout 1 is one where its entries need a project-programmer number alone
-pub master_chain : (chain : ChainState MasterEntry) → IsChain nat_cmp (IsMasterEntryOf 1) chain
+-- a chain of the master directory, in any layout, is one where its entries need a project-programmer number alone
+pub master_chain : (layout : ℕ) (chain : ChainState MasterEntry) → IsChain nat_cmp (IsMasterEntryOf layout) chain
     → IsChain nat_cmp IsMasterEntry chain
-master_chain = chain_weaker (λ e good. good.ppn)
+master_chain layout = chain_weaker (λ e good. good.ppn)
 
 -- What the contents spell.
 

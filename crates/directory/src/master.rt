@@ -5,32 +5,43 @@ use crate::{Entry, EntryFault};
 use std::cmp::Ordering;
 use words36::{Ppn, Word};
 
-/// An entry of the master directory: a directory, its protection and where its chain begins.
+/// An entry of the master directory: a directory, its protection and quota, and where its chain begins.
 #[derive(Clone, Copy, Debug, PartialEq, Eq)]
 pub struct MasterEntry {
     /// The project-programmer number of the directory.
     pub ppn: Ppn,
     /// Three octal digits: owner, project, others.
     pub protection: u16,
+    /// How many blocks the directory may have; 0 for no limit.
+    pub quota: u32,
     /// The number of the first block of the directory's chain.
     pub first: u32,
     pub ghost protection_fits: { protection < 512 },
+    pub ghost quota_fits: { quota < 262144 },
 }
 
+/// The largest quota: all bits of a half word.
+const LAST_QUOTA: u32 = 262_143;
+
 impl MasterEntry {
-    /// The entry of a directory, or `None` for a protection above 777 (octal).
-    pub fn new(ppn: Ppn, protection: u16, first: u32) -> Option<MasterEntry>
+    /// The entry of a directory, or `None` for a protection above 777 (octal) or a quota above 262143.
+    pub fn new(ppn: Ppn, protection: u16, quota: u32, first: u32) -> Option<MasterEntry>
         ensures ppn { IfSome result (λ entry. entry.ppn ≡ ppn) }
         ensures protection { IfSome result (λ entry. entry.protection ≡ protection) }
+        ensures quota { IfSome result (λ entry. entry.quota ≡ quota) }
         ensures first { IfSome result (λ entry. entry.first ≡ first) }
-        ensures fits { IsSome result ↔ (protection < 512) }
+        ensures fits { IsSome result ↔ ((protection < 512) × (quota < 262144)) }
     {
         if protection > 0o777 {
+            return None;
+        }
+        if quota > LAST_QUOTA {
             return None;
         }
         Some(MasterEntry {
             ppn,
             protection,
+            quota,
             first,
         })
     }
@@ -51,26 +62,28 @@ impl Entry for MasterEntry {
 
     ghost order = { nat_cmp };
 
-    ghost view = { λ e. (e.ppn, (master_word e.protection 0, e.first)) };
+    ghost view = { λ e. (e.ppn, (master_word e.protection e.quota, e.first)) };
 
     ghost words_of = { master_words };
 
-    ghost IsEntry = { IsMasterEntryOf 1 };
+    ghost IsEntry = { IsMasterEntryOf 2 };
 
     ghost target = { λ e. e.1.1 };
 
     fn words(&self) -> [Word; 3] {
         let (ppn, first) = (self.ppn.word(), u64::from(self.first));
-        let protection = u64::from(self.protection) << 27;
-        [ppn, Word::from_bits(protection), Word::from_bits(first)]
+        let word = (u64::from(self.protection) << 27) + u64::from(self.quota);
+        [ppn, Word::from_bits(word), Word::from_bits(first)]
     }
 
     fn parse(words: [Word; 3]) -> Result<Self, EntryFault> {
-        let [ppn, protection, first] = words;
+        let [ppn, word, first] = words;
         let Some(ppn) = Ppn::from_word(ppn) else {
             return Err(EntryFault::Malformed);
         };
-        if protection.bits() & 0o777_777_777 != 0 {
+        // Bits 9 to 17 stand between the protection and the quota, and are zero.
+        let left = word.left().bits();
+        if left % 512 != 0 {
             return Err(EntryFault::Malformed);
         }
         let Some(first) = block_number(first) else {
@@ -78,7 +91,8 @@ impl Entry for MasterEntry {
         };
         Ok(MasterEntry {
             ppn,
-            protection: (protection.bits() >> 27) as u16,
+            protection: (left / 512) as u16,
+            quota: word.right().bits(),
             first,
         })
     }

@@ -80,12 +80,14 @@ fn expect_alone<E: Entry>(
 #[test]
 fn the_entry_of_a_directory(rt: HostRuntime) -> Result<(), Fail> {
     let ppn = Ppn::new(0o10, 0o20).expect(&rt, "a number");
-    let entry = MasterEntry::new(ppn, 0o775, 16).expect(&rt, "an entry");
+    let entry = MasterEntry::new(ppn, 0o775, 0, 16).expect(&rt, "an entry");
     expect_words(&rt, entry, DIRECTORY);
     assert!(rt; entry.key() == ppn);
     assert_eq!(rt; entry.target(), 16);
     expect_alone(&rt, rt.alloc(), entry, DIRECTORY)?;
-    assert!(rt; MasterEntry::new(ppn, 0o1000, 16).is_none());
+    assert_eq!(rt; entry.quota, 0);
+    assert!(rt; MasterEntry::new(ppn, 0o1000, 0, 16).is_none());
+    assert!(rt; MasterEntry::new(ppn, 0o775, 262_144, 16).is_none());
     Ok(())
 }
 
@@ -118,7 +120,7 @@ fn words_of_no_directory(rt: HostRuntime) -> Result<(), Fail> {
     for words in [
         [0o000010000000, 0o775000000000, 0o20],
         [0o000000000020, 0o775000000000, 0o20],
-        [0o000010000020, 0o775000000001, 0o20],
+        [0o000010000020, 0o775001000001, 0o20],
         [0o000010000020, 0o775400000000, 0o20],
     ] {
         expect_fault::<MasterEntry>(&rt, words, EntryFault::Malformed);
@@ -126,6 +128,82 @@ fn words_of_no_directory(rt: HostRuntime) -> Result<(), Fail> {
     let far = [0o000010000020, 0o775000000000, 0o40000000000];
     expect_fault::<MasterEntry>(&rt, far, EntryFault::Outside);
     Ok(())
+}
+
+/// The word of an entry with protection 775 and this quota is this one.
+fn expect_quota_word(rt: &impl Abort, quota: u32, word: u64) {
+    let ppn = Ppn::new(0o10, 0o20).expect(rt, "a number");
+    let entry = MasterEntry::new(ppn, 0o775, quota, 16).expect(rt, "an entry");
+    assert_eq!(rt; entry.quota, quota);
+    expect_words(rt, entry, [0o000010000020, word, 0o20]);
+}
+
+#[test]
+fn quotas_written_and_read(rt: HostRuntime) {
+    for (quota, word) in [
+        (0, 0o775000000000),
+        (1, 0o775000000001),
+        (262_143, 0o775000777777),
+    ] {
+        expect_quota_word(&rt, quota, word);
+    }
+}
+
+/// The words of an entry with this protection word are read, and the quota is this one.
+fn expect_quota_read(rt: &impl Abort, word: u64, quota: u32) {
+    match MasterEntry::parse(three([0o000010000020, word, 0o20])) {
+        Ok(entry) => {
+            assert_eq!(rt; entry.protection, 0);
+            assert_eq!(rt; entry.quota, quota);
+        }
+        Err(_fault) => assert!(rt; false),
+    }
+}
+
+/// Bits 9 to 17 of the protection word are zero in each entry.
+#[test]
+fn each_of_the_bits_9_to_17(rt: HostRuntime) {
+    for word in [
+        0o000400000000,
+        0o000200000000,
+        0o000100000000,
+        0o000040000000,
+        0o000020000000,
+        0o000010000000,
+        0o000004000000,
+        0o000002000000,
+        0o000001000000,
+    ] {
+        let words = [0o000010000020, word, 0o20];
+        expect_fault::<MasterEntry>(&rt, words, EntryFault::Malformed);
+    }
+}
+
+/// Bits 18 to 35 of it are a quota.
+#[test]
+fn each_of_the_bits_18_to_35(rt: HostRuntime) {
+    for (word, quota) in [
+        (0o400000, 131_072),
+        (0o200000, 65_536),
+        (0o100000, 32_768),
+        (0o40000, 16_384),
+        (0o20000, 8192),
+        (0o10000, 4096),
+        (0o4000, 2048),
+        (0o2000, 1024),
+        (0o1000, 512),
+        (0o400, 256),
+        (0o200, 128),
+        (0o100, 64),
+        (0o40, 32),
+        (0o20, 16),
+        (0o10, 8),
+        (0o4, 4),
+        (0o2, 2),
+        (0o1, 1),
+    ] {
+        expect_quota_read(&rt, word, quota);
+    }
 }
 
 #[test]
@@ -153,7 +231,7 @@ fn keys_in_order(rt: HostRuntime) -> Result<(), Fail> {
     }
     let ppn = Ppn::new(1, 2).expect(&rt, "a number");
     let other = Ppn::new(2, 1).expect(&rt, "a number");
-    let directory = MasterEntry::new(ppn, 0, 16).expect(&rt, "an entry");
+    let directory = MasterEntry::new(ppn, 0, 0, 16).expect(&rt, "an entry");
     assert!(rt; directory.cmp_key(&other) == Ordering::Less);
     Ok(())
 }

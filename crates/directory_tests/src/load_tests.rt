@@ -348,13 +348,42 @@ fn bad_entries(rt: HostRuntime) {
     expect_bad_targets(&rt, rt.alloc());
     let directories: [([u64; 5], Option<DirectoryError>); 5] = [
         ([0, 1, 0o1000001, 0o777000000000, 20], None),
-        ([0, 1, 0o1000001, 1, 20], BAD), // a quota
+        ([0, 1, 0o1000001, 1, 20], None), // a quota
         ([0, 1, 0o1000001, 0o1000000, 20], BAD),
         ([0, 1, 0o1000000, 0, 20], BAD),
         ([0, 1, 1, 0, 20], BAD),
     ];
     for (words, wanted) in directories {
         expect_master(&rt, rt.alloc(), &words, wanted);
+    }
+}
+
+/// The only directory of a chain in block 20 has this quota.
+fn expect_quota(rt: &impl Abort, alloc: Global, quota: u32) -> Result<(), DirectoryError> {
+    let block = block_of(&[0, 1, 0o1000001, u64::from(quota), 20]);
+    let mut disk = disk_with(rt, alloc, &block, &block_of(&[]))?;
+    let answer: Result<Chain<MasterEntry>, DirectoryError> = read(rt, alloc, &mut disk, 20);
+    drop(disk);
+    let chain = answer?;
+    assert_eq!(rt; only_entry(rt, &chain, 20).quota, quota);
+    Ok(())
+}
+
+/// Each of bits 18 to 35 of the protection word is one of a quota.
+#[test]
+fn quotas_of_a_chain(rt: HostRuntime) -> Result<(), Fail> {
+    for bit in 0..18_u32 {
+        expect_quota(&rt, rt.alloc(), 1 << bit)?;
+    }
+    expect_quota(&rt, rt.alloc(), 262_143)?;
+    Ok(())
+}
+
+/// Bits 9 to 17 of it are zero.
+#[test]
+fn bits_of_no_quota(rt: HostRuntime) {
+    for bit in 18..27_u32 {
+        expect_master(&rt, rt.alloc(), &[0, 1, 0o1000001, 1 << bit, 20], BAD);
     }
 }
 
