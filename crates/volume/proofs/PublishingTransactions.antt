@@ -12,7 +12,7 @@ use Rattle.meaning.specs.declared.put.Put.{Put}
 use Rattle.meaning.specs.Files.{File, Files}
 use Rattle.meaning.specs.Log.{with_puts}
 use Rattle.meaning.specs.Maps.{get, times}
-use Rattle.meaning.specs.Retrieval.{IsRetrieved, HasBody}
+use Rattle.meaning.specs.Retrieval.{IsRetrieved, HasBody, date_limit}
 use Rattle.meaning.specs.Stands.{StoredFile, StoredDirectory, DiskMap, IsVersion, files_of, place_of}
 use Rattle.meaning.specs.Layouts.{pack_of}
 use Rattle.meaning.proofs.Versions.{body_kept}
@@ -42,14 +42,14 @@ ok_is (Ok x) A none is = is
 ok_is (Err e) A none is = absurd (cc)
 
 -- the same version, as it was when it was still being written
-retrieved_as : (contents : Contents) (prime prime' : Prime) (words words' at : ℕ) (ribs blocks blocks' : List ℕ)
+retrieved_as : (layout : ℕ) (contents : Contents) (prime prime' : Prime) (words words' at : ℕ) (ribs blocks blocks' : List ℕ)
     → prime ≡ prime' → words ≡ words' → blocks ≡ blocks'
-    → IsRetrieved 1 contents (with_length prime words) at ribs blocks
-    → IsRetrieved 1 contents (with_length prime' words') at ribs blocks'
-retrieved_as contents prime prime' words words' at ribs blocks blocks' same long lies is =
-    subst (λ (x : Prime). IsRetrieved 1 contents (with_length x words') at ribs blocks') same
-    (subst (λ (w : ℕ). IsRetrieved 1 contents (with_length prime w) at ribs blocks') long
-    (subst (λ (ns : List ℕ). IsRetrieved 1 contents (with_length prime words) at ribs ns) lies is))
+    → IsRetrieved layout contents (with_length prime words) at ribs blocks
+    → IsRetrieved layout contents (with_length prime' words') at ribs blocks'
+retrieved_as layout contents prime prime' words words' at ribs blocks blocks' same long lies is =
+    subst (λ (x : Prime). IsRetrieved layout contents (with_length x words') at ribs blocks') same
+    (subst (λ (w : ℕ). IsRetrieved layout contents (with_length prime w) at ribs blocks') long
+    (subst (λ (ns : List ℕ). IsRetrieved layout contents (with_length prime words) at ribs ns) lies is))
 
 -- The retrieval blocks are written.
 
@@ -111,7 +111,8 @@ module _ {s mid : DiskState} {c c' : VolumeCore} {key : ℕ} {p : PendingVersion
 
   -- The file stands then, and the puts make it the one of its name.
 
-  module _ (retrieved : IsRetrieved 1 mid.contents (with_length v.prime v.version.words) v.at v.version.ribs
+  module _ (retrieved : (layout : ℕ) → v.prime.moment.date < date_limit layout
+      → IsRetrieved layout mid.contents (with_length v.prime v.version.words) v.at v.version.ribs
       v.version.blocks) (body : List ℕ) (long : length body ≡ p.version.words)
       (has : HasBody s.contents p.version.blocks body) where
     abbrev file : StoredFile
@@ -120,11 +121,19 @@ module _ {s mid : DiskState} {c c' : VolumeCore} {key : ℕ} {p : PendingVersion
     facts : facts_of file ≡ known_facts v.at p.prime (record p.version { ribs = v.version.ribs })
     facts = λ i. record (facts_of file) { words = long i }
 
-    version : IsVersion 1 mid.contents (place_of p.prime.ppn p.prime.file) file
+    -- its moment is one that the layout holds
+    dated : v.prime.moment.date < date_limit at_rest.map.layout
+    dated =
+        let own = sound.dated h refl key p made_current.makes_current.written in
+        subst (λ (layout : ℕ). v.prime.moment.date < date_limit layout)
+        (sym (pack_held s c.known at_rest.map at_rest.rest))
+        (subst (λ (x : Prime). x.moment.date < date_limit (pack_of s).layout) (sym made_current.prime) own)
+
+    version : IsVersion at_rest.map.layout mid.contents (place_of p.prime.ppn p.prime.file) file
     version = record {
-      retrieved = retrieved_as mid.contents v.prime p.prime v.version.words
+      retrieved = retrieved_as at_rest.map.layout mid.contents v.prime p.prime v.version.words
           (length body) v.at v.version.ribs v.version.blocks p.version.blocks made_current.prime (made_current.words
-          ∙ sym long) made_current.blocks retrieved;
+          ∙ sym long) made_current.blocks (retrieved at_rest.map.layout dated);
       body = body_kept s.contents mid.contents p.version.blocks body has
           (λ n there. written_writers key p made_current.makes_current.written n there);
     }
@@ -233,8 +242,8 @@ module _ {s mid s' : DiskState} {c c' : VolumeCore} {key : ℕ} {p : PendingVers
       ∙ same.size) (new_whole sound made_current same) refl
 
   pub committed_sound : (mid.honest → Modifies (λ n. 0 < times n (v.at ∷ v.version.ribs)) s mid)
-      → (mid.honest
-      → IsRetrieved 1 mid.contents (with_length v.prime v.version.words) v.at v.version.ribs v.version.blocks)
+      → (mid.honest → (layout : ℕ) → v.prime.moment.date < date_limit layout
+      → IsRetrieved layout mid.contents (with_length v.prime v.version.words) v.at v.version.ribs v.version.blocks)
       → (s'.honest → Modifies (λ n. IsGateOrLog mid.size n ⊎ IsPutIn puts n) mid s')
       → (s'.honest → SameOutside (IsGateOrLog mid.size) (with_puts puts mid.contents) s'.contents)
       → (s'.honest → NoneOpen s') → (s'.honest → IsShut mid → IsShut s')

@@ -163,6 +163,7 @@ pub fn keep(alloc: Global, map: DiskMap) -> Result<LiveMap, NoMemory>
         ≡ entry_reaches n (core_of live).known.directories) }
 {
     let DiskMap {
+        layout: _,
         master,
         directories: stored,
         table,

@@ -208,7 +208,7 @@ fn entry_of(ppn: Ppn, protection: u16, first: u32) -> MasterEntry
     ensures protection { result.protection ≡ protection }
     ensures first { result.first ≡ first }
 {
-    match MasterEntry::new(ppn, protection, first) {
+    match MasterEntry::new(ppn, protection, 0, first) {
         Some(entry) => entry,
         None => unreachable!(), // the protection fits
     }
