@@ -15,7 +15,7 @@ abbrev pub file_view : FileEntry → words.FileEntry
 file_view e = (e.name, e.prime)
 
 abbrev pub master_view : MasterEntry → words.MasterEntry
-master_view e = (e.ppn, (master_word e.protection 0, e.first))
+master_view e = (e.ppn, (master_word e.protection e.quota, e.first))
 
 abbrev pub known_version : StoredVersion → KnownVersion
 known_version v = record { prime = v.prime; version = v.version }

@@ -206,9 +206,10 @@ fn entry_of(ppn: Ppn, protection: u16, first: u32) -> MasterEntry
     requires { protection < 512 }
     ensures ppn { result.ppn ≡ ppn }
     ensures protection { result.protection ≡ protection }
+    ensures quota { result.quota ≡ 0 }
     ensures first { result.first ≡ first }
 {
-    match MasterEntry::new(ppn, protection, first) {
+    match MasterEntry::new(ppn, protection, 0, first) {
         Some(entry) => entry,
         None => unreachable!(), // the protection fits
     }

@@ -6,6 +6,7 @@ ghost use Rattle.changeset.specs.Reads.{OnlyReads};
 ghost use Rattle.meaning.specs.Blocks.{head_or_zero};
 ghost use Rattle.meaning.specs.Directories.{master_words};
 ghost use Rattle.meaning.specs.Home.{IsHome};
+ghost use Rattle.meaning.specs.Layouts.{layout_number};
 ghost use Rattle.meaning.specs.Maps.{times};
 ghost use Rattle.meaning.specs.Regions.{IsVolumeSize, table_blocks};
 ghost use Rattle.meaning.specs.Stands.{DiskMap as MapValue};
@@ -27,17 +28,20 @@ use crate::VolumeError;
 use crate::cost::book_map;
 use crate::home::read_home;
 use crate::map::{DiskMap, StoredDirectory};
+use crate::quota::refuse_quotas;
 use crate::read::read_directories;
 use alloctab::{Reached, Table, TableError};
 use blockdisk::Disk;
 use directory::{Chain, MasterEntry};
+use meaning::layout::Layout;
 use std::alloc::Global;
 
-/// Reads the chain of the master directory that begins in block `first`.
+/// Reads the chain of the master directory that begins in block `first`, on a disk of this layout.
 fn load_master<D: Disk>(
     alloc: Global,
     disk: &mut D,
     first: u32,
+    layout: Layout,
     reached: &mut Reached,
 ) -> Result<Chain<MasterEntry>, VolumeError>
     // What the caller sees to.
@@ -52,14 +56,16 @@ fn load_master<D: Disk>(
         → IfOk result (λ chain. LeadsAlong master_words (D.state disk.old).contents first
         (nodes_of chain.blocks (map master_view chain.entries)) 0) }
     ensures begins { IfOk result (λ chain. head_or_zero chain.blocks ≡ first) }
-    ensures chain { IfOk result (λ chain. IsChain nat_cmp (IsMasterEntryOf 1) (viewed master_view chain)) }
+    ensures chain { IfOk result (λ chain. IsChain nat_cmp (IsMasterEntryOf (layout_number layout))
+        (viewed master_view chain)) }
     ensures inside { IfOk result (λ chain. AllByRecursion (InSpace (D.state disk.old).size) chain.blocks) }
     ensures targets { IfOk result (λ chain. AllByRecursion (λ e. InSpace (D.state disk.old).size e.1.1)
         (map master_view chain.entries)) }
     ensures marked { IfOk result (λ chain. (n : ℕ) → digit_at reached.new n ≡ times n chain.blocks) }
     // Which refusal comes when.
     ensures fault { (D.state disk.new).honest
-        → IsHome (D.state disk.old).size (D.state disk.old).contents (home_of_master first)
+        → IsHome (D.state disk.old).size (D.state disk.old).contents
+        (record { layout = layout_number layout; master = first })
         → IfErr result (SettledRefuses (D.state disk.old).size (D.state disk.old).contents) }
     ensures named { IfErr result (NamesInSpace (D.state disk.old).size) }
     // The device: what failed, and how often.
@@ -69,9 +75,13 @@ fn load_master<D: Disk>(
     ensures failed { IsErrOf result Device → (D.state disk.new).failures ≡ one_more (D.state disk.old).failures }
     ensures served { (IsErrOf result Device → ⊥) → (D.state disk.new).failures ≡ (D.state disk.old).failures }
 {
-    match Chain::load(alloc, disk, first, reached) {
-        Ok(chain) => Ok(chain),
-        Err(error) => Err(VolumeError::from(error)),
+    let chain = match Chain::load(alloc, disk, first, reached) {
+        Ok(chain) => chain,
+        Err(error) => return Err(VolumeError::from(error)),
+    };
+    match refuse_quotas(&chain, layout) {
+        Ok(()) => Ok(chain),
+        Err(error) => Err(error),
     }
 }
 
@@ -112,7 +122,7 @@ fn read_tree<D: Disk>(
     ensures failed { IsErrOf result Device → (D.state disk.new).failures ≡ one_more (D.state disk.old).failures }
     ensures served { (IsErrOf result Device → ⊥) → (D.state disk.new).failures ≡ (D.state disk.old).failures }
 {
-    let master = load_master(alloc, disk, first, reached)?;
+    let master = load_master(alloc, disk, first, Layout::One, reached)?;
     let directories = read_directories(alloc, disk, master.entries(), reached)?;
     Ok((master, directories))
 }
