@@ -1,13 +1,12 @@
 -- A quota in layout 1 is a fault of the block that has it, and a block that is at fault in layout 2 is so in layout 1.
-use Rattle.std.proofs.Common.{◌≡◌, ℕ, zero, suc, ◌+◌, ◌*◌, ◌-◌, ◌/◌, ◌^◌, ◌<◌, ◌≤◌, List, [], ◌∷◌, ◌++◌, map, length, get_or}
-use Rattle.std.proofs.Common.{take, drop, Option, Some, Bool, inl, refl, sym, ap, subst, ◌∙◌, arith, nat_cmp}
+use Rattle.std.proofs.Common.{◌≡◌, ℕ, zero, suc, ◌+◌, ◌*◌, ◌-◌, ◌/◌, ◌<◌, List, [], ◌∷◌, map, length, get_or, take, drop}
+use Rattle.std.proofs.Common.{Some, Bool, inl, sym, ap, subst, ◌∙◌, arith, nat_cmp}
 use Rattle.std.specs.Prelude.{slice_get, slice_index_or, option_map}
 use Rattle.std.specs.List.{AllByRecursion}
 use Rattle.std.proofs.lemmas.List.{drop-drop, get_or-drop, get_or-take, length-drop, length-take, length-map}
 use Rattle.std.proofs.lemmas.Option.{slice_get-map, slice_get_within, get_or_from_slice_get}
 use Rattle.blockdisk.specs.Disk.{Contents}
-use Rattle.meaning.specs.Costs.{directory_cost}
-use Rattle.meaning.specs.Directories.{Node, directory_block, master_words, master_word}
+use Rattle.meaning.specs.Directories.{Node, directory_block, master_words}
 use Rattle.meaning.specs.Directories as words
 use Rattle.meaning.specs.Faults.{InSpace, IsBadBlock, malformed, next_outside, entry_outside, short, empty_later}
 use Rattle.meaning.specs.Faults.{key_again, IsMasterEntryOf}
@@ -16,7 +15,6 @@ use Rattle.meaning.specs.declared.layout.Layout.{Layout}
 use Rattle.meaning.specs.declared.layout.Layout.TheVariants.{One, Two}
 use Rattle.meaning.specs.Home.{IsHome}
 use Rattle.meaning.specs.Regions.{IsVolumeSize}
-use Rattle.meaning.specs.Stands.{quota_limit}
 use Rattle.meaning.specs.Walks.{LeadsAlong}
 use Rattle.meaning.proofs.Chains.{block_same}
 use Rattle.meaning.proofs.DiskMaps.{master_apart}
@@ -196,16 +194,6 @@ module _ (chain : ChainState MasterEntry) (n : ℕ) (sound : IsChain nat_cmp (Is
       }
 
 -- The chain of the master directory.
-
--- a chain of entries of a layout
-pub chain_of : (layout : ℕ) (chain : ChainState words.MasterEntry) → IsChain nat_cmp (IsMasterEntryOf 2) chain
-    → AllByRecursion (IsMasterEntryOf layout) chain.entries → IsChain nat_cmp (IsMasterEntryOf layout) chain
-chain_of layout chain sound all = record {
-  counted = sound.counted;
-  are_entries = all;
-  each_once = sound.each_once;
-  blocks_once = sound.blocks_once;
-}
 
 -- a block of it is not as it should be
 pub chain_fault : (layout size : ℕ) (contents : Contents) (first n : ℕ) → IsVolumeSize size

@@ -50,9 +50,7 @@ pub fn refuse_quotas(chain: &Chain<MasterEntry>, layout: Layout) -> Result<(), V
     let entries = chain.entries();
     match layout {
         Layout::One => match first_quota(entries) {
-            Some(i) => Err(VolumeError::BadDirectory(
-                chain.blocks()[i / BLOCK_ENTRIES],
-            )),
+            Some(i) => Err(VolumeError::BadDirectory(chain.blocks()[i / BLOCK_ENTRIES])),
             None => Ok(()),
         },
         Layout::Two => Ok(()),

@@ -1,4 +1,4 @@
-use Rattle.std.proofs.Common.{◌≡◌, ◌/◌, slice_index_or, ap, sym, subst, ◌∙◌, map, nat_cmp}
+use Rattle.std.proofs.Common.{◌≡◌, ◌/◌, slice_index_or, sym, subst, map, nat_cmp}
 use Rattle.std.specs.List.{AllByRecursion}
 use Rattle.meaning.specs.Directories.{master_words}
 use Rattle.meaning.specs.Faults.{IsMasterEntryOf}
