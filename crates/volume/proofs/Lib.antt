@@ -1,3 +1,4 @@
+pub mod Quotas
 pub mod HomeCopies
 pub mod Packs
 pub mod FreshTable

@@ -24,3 +24,4 @@ pub mod Removing
 pub mod Moving
 pub mod HomeBlocks
 pub mod PrimeBlocks
+pub mod Quotas

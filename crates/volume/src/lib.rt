@@ -85,6 +85,7 @@ mod pins;
 mod publish;
 mod put;
 mod query;
+mod quota;
 mod read;
 mod rename;
 mod rename_across;

@@ -127,6 +127,7 @@ fn enter(
     fresh: Option<u32>,
     set: &mut ChangeSet,
 ) -> Result<(), NoMemory>
+    requires unlimited { entry.quota ≡ 0 }
     requires absent { find nat_cmp entry.ppn (core_of core.old).known.master.entries ≡ None }
     requires count { length (option_to_list fresh) ≡ chain_growth (core_of core.old).known.master }
     requires new { (n : ℕ) → fresh ≡ Some n → times n core.old.master.blocks ≡ 0 }
@@ -201,11 +202,12 @@ fn make_in_core(
     Ok(fresh.directory)
 }
 
-/// The entry of a directory in the master directory.
+/// The entry of a directory without a quota in the master directory.
 fn entry_of(ppn: Ppn, protection: u16, first: u32) -> MasterEntry
     requires { protection < 512 }
     ensures ppn { result.ppn ≡ ppn }
     ensures protection { result.protection ≡ protection }
+    ensures unlimited { result.quota ≡ 0 }
     ensures first { result.first ≡ first }
 {
     match MasterEntry::new(ppn, protection, 0, first) {

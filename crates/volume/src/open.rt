@@ -28,6 +28,7 @@ use crate::VolumeError;
 use crate::cost::book_map;
 use crate::home::read_home;
 use crate::map::{DiskMap, StoredDirectory};
+use crate::quota::refuse_quotas;
 use crate::read::read_directories;
 use alloctab::{Reached, Table, TableError};
 use blockdisk::Disk;
@@ -73,9 +74,13 @@ fn load_master<D: Disk>(
     ensures failed { IsErrOf result Device → (D.state disk.new).failures ≡ one_more (D.state disk.old).failures }
     ensures served { (IsErrOf result Device → ⊥) → (D.state disk.new).failures ≡ (D.state disk.old).failures }
 {
-    match Chain::load(alloc, disk, first, reached) {
-        Ok(chain) => Ok(chain),
-        Err(error) => Err(VolumeError::from(error)),
+    let chain = match Chain::load(alloc, disk, first, reached) {
+        Ok(chain) => chain,
+        Err(error) => return Err(VolumeError::from(error)),
+    };
+    match refuse_quotas(&chain, layout) {
+        Ok(()) => Ok(chain),
+        Err(error) => Err(error),
     }
 }
 

@@ -22,3 +22,5 @@ mod init_tests;
 mod make_tests;
 #[cfg(test)]
 mod open_tests;
+#[cfg(test)]
+mod quota_tests;

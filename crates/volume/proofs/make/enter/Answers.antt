@@ -1,6 +1,8 @@
-use Rattle.std.proofs.Common.{◌≡◌, [], ◌∷◌, ◌++◌, filter_map, ◌∙◌, ap}
+use Rattle.std.proofs.Common.{◌≡◌, ℕ, [], ◌∷◌, ◌++◌, map, filter_map, ◌∙◌, ap, subst, nat_cmp}
 use Rattle.directory.specs.Chains.{viewed}
-use Rattle.volume.specs.Cores.{file_view}
+use Rattle.directory.specs.Edits.{inserted}
+use Rattle.meaning.specs.Directories.{master_word}
+use Rattle.volume.specs.Cores.{file_view, master_view}
 use Rattle.volume.specs.LiveCores.{core_of, live_directory, known_at}
 use Rattle.volume.specs.Making.{bare_known}
 use Rattle.volume.specs.declared.live.LiveDirectory.{LiveDirectory}
@@ -27,7 +29,9 @@ returns-clause-entered c =
     c.requires.absent c.requires.empty
     (blocks_entered k.master c.args.entry.ppn c.args.fresh c.insert.new.self.blocks c.requires.absent c.requires.count
     c.insert.ensures.kept c.in-Ok.ensures.grown)
-    c.in-Ok.ensures.items c.blocks-blocks.ensures.sound
+    (subst (λ (quota : ℕ). map master_view c.insert.new.self.entries ≡ inserted nat_cmp k.master.entries
+    (c.args.entry.ppn, (master_word c.args.entry.protection quota, c.args.entry.first))) c.requires.unlimited
+    c.in-Ok.ensures.items) c.blocks-blocks.ensures.sound
     (directories_more (live_directory live) c.args.core.now.directories.items c.push_reserved.new.self.items added
     c.args.entry.first (c.push_reserved.ensures.items ∙ ap (λ xs. xs ++ added ∷ []) c.reserve.ensures.items) bare)
     c.insert.ensures.put c.insert.ensures.few

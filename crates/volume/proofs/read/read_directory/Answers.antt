@@ -26,7 +26,7 @@ returns-in_err-chain-clause-fault g c h =
     handed (IsFaultOfDirectory s.size (layout_number c.args.layout) s.contents (digit_at c.args.reached.now) c.args.entry.now.ppn
     c.args.entry.now.first) c.from_residual.result c.load_files.result p.0 c.in_err-chain.field-0.0 p.1
     p.2 c.in_err-chain.was
-    (c.load_files.ensures.fault h c.args.entry.now.ppn)
+    (c.load_files.ensures.fault h (layout_number c.args.layout) c.args.entry.now.ppn)
 
 pub read_files-requires-clause-inside : goal.read_files-requires-clause-inside
 read_files-requires-clause-inside g c =

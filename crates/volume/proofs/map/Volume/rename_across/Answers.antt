@@ -225,6 +225,6 @@ pub invariant_of-self : goal.invariant_of-self
 invariant_of-self g c =
     let ensures = c.move_across.ensures in
     volume_goes_on (g.D.Disk.state c.self.inside.disk) (g.D.Disk.state c.move_across.new.disk) (core_of c.self.inside.map)
-    (core_of c.move_across.new.map) c.self.inside.failed c.move_across.new.failed c.self.inside.layout c.self.invariant
+    (core_of c.move_across.new.core) c.self.inside.failed c.move_across.new.failed c.self.inside.layout c.self.invariant
     ensures.sound ensures.same.size ensures.same.was_honest (λ ok. c.if-self.false)
     (λ h ok. ensures.home_blocks h (no_device c.move_across.result c.move_across.new.failed ensures.ended ok))
