@@ -33,6 +33,7 @@ use Rattle.volume.specs.Queries.{protection_answer, IsShown, IsFileAnswer, IsLoo
 use Rattle.volume.specs.Rest.{IsSoundCore, RestsAt}
 use Rattle.volume.proofs.Costing.{booked_fits}
 use Rattle.volume.proofs.CostLaws.{cost_is}
+use Rattle.volume.proofs.LayoutLimits.{few_quotas}
 
 -- the map in core is that of the files, and the contents have it
 pub record Holds (s : DiskState) (k : Known) (files : Files File) : Type 0 where

@@ -34,6 +34,7 @@ use Rattle.directory.specs.Chains.{IsChain, IsOn}
 use Rattle.directory.specs.ChainLaws.{chain_stands, on_kept, bare_on}
 use Rattle.volume.specs.Known.{KnownDirectory, Known, IsKnownDirectory, IsHeld, IsWholeMap}
 use Rattle.volume.specs.Making.{bare_known, entry_made, map_made, IsMade}
+use Rattle.volume.proofs.LayoutLimits.{some_quota}
 use Rattle.volume.proofs.Lookups.{all_each}
 use Rattle.volume.proofs.MakingHeld.{reached_in_space, chain_reached, master_reached}
 use Rattle.alloctab.proofs.WordLaws.{digit_few}

@@ -18,7 +18,7 @@ use Rattle.volume.specs.Live.{VolumeCore, slot, pending_at, held_reaches, held_c
 use Rattle.volume.specs.Live.{growths}
 use Rattle.volume.specs.Publishing.{Entered, before, live_left, IsEnded, HasOtherKey, MakesCurrent}
 use Rattle.volume.specs.Known.{given_up, cost_before}
-use Rattle.volume.specs.Rest.{HasSomeBody}
+use Rattle.volume.specs.Rest.{AreDated, HasSomeBody}
 use Rattle.volume.specs.declared.live.LiveVersion.{LiveVersion}
 use Rattle.volume.specs.declared.pending.PendingVersion.{PendingVersion}
 use Rattle.volume.proofs.Growing.{share, cost_rises}

@@ -18,8 +18,9 @@ use Rattle.meaning.specs.Splices.{splice, length_after}
 use Rattle.meaning.specs.Stands.{DiskMap, reaches}
 use Rattle.meaning.specs.Table.{table_bit, fixed}
 use Rattle.meaning.specs.Layouts.{pack_of, StandsOn}
+use Rattle.meaning.specs.Retrieval.{date_limit}
 use Rattle.meaning.proofs.DiskMaps.{fixed_below, quiet, quiet_bits}
-use Rattle.meaning.proofs.MapLaws.{some_none}
+use Rattle.meaning.proofs.MapLaws.{some_none, some_same}
 use Rattle.meaning.proofs.MapSums.{times-append}
 use Rattle.meaning.proofs.SpliceLaws.{length-splice}
 use Rattle.alloctab.specs.TableState.{TableState, bit}

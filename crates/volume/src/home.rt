@@ -142,7 +142,6 @@ pub fn read_home<D: Disk>(disk: &mut D) -> Result<Home, VolumeError>
         → IfOk result (λ home. IsHome (D.state disk.old).size (D.state disk.old).contents
         (home_in (layout_number home.layout) home.master)) }
     ensures inside { IfOk result (λ home. InSpace (D.state disk.old).size home.master) }
-    ensures layout { IfOk result (λ home. IsLayout (layout_number home.layout)) }
     ensures volume { IfOk result (λ home. IsVolumeSize (D.state disk.old).size) }
     ensures not_volume { (D.state disk.new).honest → IsErrOf result NotVolume
         → IsNotVolume (D.state disk.old).size (D.state disk.old).contents }

@@ -103,9 +103,9 @@ returns-in-Ok-clause-crash g c h f rests p is body long has =
     let m = c.commit_puts.ensures.same.was_honest h in
     let h₀ = same.was_honest m in
     let modified = c.write_retrieval_blocks-written.ensures.modified m in
-    let retrieved = λ layout dated. ok_is c.write_retrieval_blocks-written.result _ (sym c.is_err.ensures.value
-    ∙ c.if-is_err.false) (c.write_retrieval_blocks-written.ensures.written m layout dated) in
-    committed_crash sound made same h₀ modified retrieved body long has (g.D.Disk.state c.commit_puts.new.disk)
+    committed_crash sound made same h₀ modified (λ layout dated.
+    ok_is c.write_retrieval_blocks-written.result _ (sym c.is_err.ensures.value ∙ c.if-is_err.false)
+    (c.write_retrieval_blocks-written.ensures.written m layout dated)) body long has (g.D.Disk.state c.commit_puts.new.disk)
     (c.commit_puts.ensures.crash h (mid_shut sound made same h₀ modified)) f rests
     (λ d left. g.met.D.Disk.only_now c.args.disk.now d h₀ left)
 
@@ -117,9 +117,9 @@ returns-in-Err-clause-crash g c h f rests p is body long has =
     let m = c.commit_puts.ensures.same.was_honest h in
     let h₀ = same.was_honest m in
     let modified = c.write_retrieval_blocks-written.ensures.modified m in
-    let retrieved = λ layout dated. ok_is c.write_retrieval_blocks-written.result _ (sym c.is_err.ensures.value
-    ∙ c.if-is_err.false) (c.write_retrieval_blocks-written.ensures.written m layout dated) in
-    committed_crash sound made same h₀ modified retrieved body long has (g.D.Disk.state c.commit_puts.new.disk)
+    committed_crash sound made same h₀ modified (λ layout dated.
+    ok_is c.write_retrieval_blocks-written.result _ (sym c.is_err.ensures.value ∙ c.if-is_err.false)
+    (c.write_retrieval_blocks-written.ensures.written m layout dated)) body long has (g.D.Disk.state c.commit_puts.new.disk)
     (c.commit_puts.ensures.crash h (mid_shut sound made same h₀ modified)) f rests
     (λ d left. g.met.D.Disk.only_now c.args.disk.now d h₀ left)
 
@@ -131,9 +131,9 @@ returns-in-Ok-clause-done g c h f rests p is body long has =
     let m = c.in-Ok.ensures.same.was_honest h in
     let h₀ = same.was_honest m in
     let modified = c.write_retrieval_blocks-written.ensures.modified m in
-    let retrieved = λ layout dated. ok_is c.write_retrieval_blocks-written.result _ (sym c.is_err.ensures.value
-    ∙ c.if-is_err.false) (c.write_retrieval_blocks-written.ensures.written m layout dated) in
-    committed_done sound made same h₀ modified retrieved body long has (g.D.Disk.state c.commit_puts.new.disk)
+    committed_done sound made same h₀ modified (λ layout dated.
+    ok_is c.write_retrieval_blocks-written.result _ (sym c.is_err.ensures.value ∙ c.if-is_err.false)
+    (c.write_retrieval_blocks-written.ensures.written m layout dated)) body long has (g.D.Disk.state c.commit_puts.new.disk)
     c.commit_puts.ensures.same (c.in-Ok.ensures.all h) (c.in-Ok.ensures.settled h)
     (c.in-Ok.ensures.shut h (mid_shut sound made same h₀ modified)) f rests
 

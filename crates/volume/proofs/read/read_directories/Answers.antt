@@ -4,7 +4,7 @@ use Rattle.std.specs.List.{AllByRecursion}
 use Rattle.blockdisk.specs.Disk.{MayLeave}
 use Rattle.blockdisk.specs.Laws.{same_contents, same_disk_start, same_disk_on, passes_start}
 use Rattle.meaning.specs.Layouts.{layout_number}
-use Rattle.meaning.specs.Faults.{InSpace}
+use Rattle.meaning.specs.Faults.{InSpace, IsMasterEntryOf}
 use Rattle.meaning.specs.Directories.{MasterEntry}
 use Rattle.meaning.specs.Maps.{total}
 use Rattle.alloctab.specs.Lists.{digit_at}
@@ -27,6 +27,11 @@ add_directory-requires-clause-inside g c =
     subst (λ (n : ℕ). InSpace n c.entry-item.result.first) (sym c.loop-entry.invariant.same.size)
     (viewed_at master_view c.args.entries.now c.loop-entry.entry-index c.entry-item.result c.loop-entry-test.true
     c.entry-item.is (λ (e : MasterEntry). InSpace s.size e.1.1) c.requires.inside)
+
+pub add_directory-requires-clause-entry : goal.add_directory-requires-clause-entry
+add_directory-requires-clause-entry g c =
+    viewed_at master_view c.args.entries.now c.loop-entry.entry-index c.entry-item.result c.loop-entry-test.true
+    c.entry-item.is (IsMasterEntryOf (layout_number c.args.layout)) c.requires.entries
 
 pub returns-in_err-add_directory-clause-fault : goal.returns-in_err-add_directory-clause-fault
 returns-in_err-add_directory-clause-fault g c h =

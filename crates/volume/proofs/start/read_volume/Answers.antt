@@ -5,7 +5,8 @@ use Rattle.changeset.specs.Crashes.{IsRecovered}
 use Rattle.changeset.specs.declared.error.LogError.TheVariants.{Device as LogDevice}
 use Rattle.meaning.specs.Log.{with_puts}
 use Rattle.meaning.specs.Files.{File, Files}
-use Rattle.meaning.specs.Layouts.{pack_of, StandsOn}
+use Rattle.meaning.specs.Layouts.{layout_number, pack_of, StandsOn}
+use Rattle.meaning.proofs.Layouts.{layout_is}
 use Rattle.meaning.specs.Stands.{DiskMap}
 use Rattle.volume.specs.declared.error.VolumeError.TheVariants.{BadLog, Device}
 use Rattle.volume.specs.declared.map.DiskMap.{DiskMap as CoreMap}
@@ -14,6 +15,7 @@ use Rattle.volume.specs.Known.{IsHeld}
 use Rattle.volume.specs.FaultsFound.{SettledRefuses, Refuses}
 use Rattle.volume.specs.Rest.{IsAtRest, RestsAt, StandsLike, StandsLikeBefore}
 use Rattle.volume.proofs.Handing.{found_on, named_on}
+use Rattle.volume.proofs.Packs.{homes_layout}
 use Rattle.volume.proofs.Starting.{ok_on, ok_always, crash_recovered, synced_recovered, crash_read, synced_read}
 use Rattle.volume.proofs.Starting.{rest_known, rest_files, stood_before, closed_refuses, lost_refuses}
 use Rattle.volume.proofs.start.read_volume.Goals as goal
@@ -47,10 +49,21 @@ returns-in-Ok-clause-rest g c h =
     let recovered : IsRecovered s.size s.contents s1.contents = c.in-Ok.ensures.recovered
     (c.read_map.ensures.same.was_honest h) in
     let none : NoneOpen s1 = c.in-Ok.ensures.settled (c.read_map.ensures.same.was_honest h) in
-    ok_on (λ read. (m : DiskMap) × IsHeld s1.size (known_of read) m s1.contents)
+    ok_on (λ read. (m : DiskMap) × IsHeld s1.size (known_of read) m s1.contents × (m.layout ≡ layout_number read.layout))
     (λ read. IsAtRest s2 (known_of read)) c.read_map.result
     (λ read held. rest_known s s1 s2 (known_of read) held.0 c.recover.ensures.same.size c.read_map.ensures.same.size
     recovered none reads held.1) (c.read_map.ensures.held h)
+
+pub returns-in-Ok-clause-layout : goal.returns-in-Ok-clause-layout
+returns-in-Ok-clause-layout g c h =
+    let s1 = g.D.Disk.state c.recover.new.disk in
+    let s2 = g.D.Disk.state c.read_map.new.disk in
+    let reads = c.read_map.ensures.reads h in
+    ok_on (λ read. (m : DiskMap) × IsHeld s1.size (known_of read) m s1.contents × (m.layout ≡ layout_number read.layout))
+    (λ read. layout_number read.layout ≡ (pack_of s2).layout) c.read_map.result
+    (λ read held. sym held.2 ∙ sym (layout_is s1.size s1.contents _ held.1.stands.mapped.home)
+    ∙ sym (homes_layout s1 s2 c.read_map.ensures.same.size (λ n low. reads.still.contents n)))
+    (c.read_map.ensures.held h)
 
 pub returns-in-Ok-clause-files : goal.returns-in-Ok-clause-files
 returns-in-Ok-clause-files g c h files stands =
@@ -85,7 +98,8 @@ returns-in-Ok-clause-stood g c h =
     let recovered : IsRecovered s.size s.contents s1.contents = c.in-Ok.ensures.recovered
     (c.read_map.ensures.same.was_honest h) in
     let none : NoneOpen s1 = c.in-Ok.ensures.settled (c.read_map.ensures.same.was_honest h) in
-    ok_on (λ read. (m : DiskMap) × IsHeld s1.size (known_of read) m s1.contents) (λ read. (files : Files File)
+    ok_on (λ read. (m : DiskMap) × IsHeld s1.size (known_of read) m s1.contents × (m.layout ≡ layout_number read.layout))
+    (λ read. (files : Files File)
     × StandsOn (pack_of s2) s.contents files × RestsAt s2 files) c.read_map.result
     (λ read held. stood_before s s1 s2 (known_of read) held.0 c.recover.ensures.same.size c.read_map.ensures.same.size
     recovered none reads held.1) (c.read_map.ensures.held h)

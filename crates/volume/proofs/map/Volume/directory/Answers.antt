@@ -24,9 +24,11 @@ returns-clause-value g c = rw (← c.self.view_is) (λ honest alive files rest.
     let holds = rest_holds s core c.self.inside.failed c.self.invariant.core honest alive files rest in
     let at = c.in_ok-i.ensures.found in
     let i = c.in_ok-i.i in
-    let entry = get_or c.self.inside.map.master.entries i c.index-entries-i.result in
-    let seen : master_view entry ≡ (c.args.ppn, at.0) = viewed_get master_view c.self.inside.map.master.entries i
-    (c.args.ppn, at.0) c.index-entries-i.result at.1.is in
-    ap (λ es. Ok (get_or es i c.index-entries-i.result).protection) c.entries.ensures.value
-    ∙ sym (directory_protection s k files holds c.args.ppn entry.protection entry.first (at.1.found
+    let entry = c.index-entries-i.result in
+    let is : entry ≡ get_or c.self.inside.map.master.entries i entry = c.index-entries-i.is
+    ∙ ap (λ es. get_or es i entry) c.entries.ensures.value in
+    let seen : master_view entry ≡ (c.args.ppn, at.0) = ap master_view is
+    ∙ viewed_get master_view c.self.inside.map.master.entries i (c.args.ppn, at.0) entry at.1.is in
+    sym (directory_protection s k files holds c.args.ppn entry.protection entry.quota entry.first entry.quota_fits
+    (at.1.found
     ∙ ap Some (sym (ap (λ e. e.1) seen)))))

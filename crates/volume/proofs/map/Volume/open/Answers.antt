@@ -17,14 +17,19 @@ invariant_of-result g c =
     let k = known_of c.in-Ok.map in
     let kept = core_of c.in-Ok-keep.map in
     record {
-      whole = kept_whole s.size k kept (subst (λ n. IsWholeMap n k) size c.in-Ok.ensures.whole)
-          (subst (λ n. IsBooked n k) size c.in-Ok.ensures.booked) c.in-Ok-keep.ensures.known c.in-Ok-keep.ensures.keyed
-          c.in-Ok-keep.ensures.read c.in-Ok-keep.ensures.none c.in-Ok-keep.ensures.current;
-      read = λ h serves key v is some. absurd
-          (let none = (standing_at IsFirstRead kept.live key v c.in-Ok-keep.ensures.read is).unread in omega arith);
-      written = λ h serves key p is. absurd (let none = ap (λ l. pending_at l key) (sym c.in-Ok-keep.ensures.none)
-          ∙ is in cc);
-      rest = λ h serves. subst (IsAtRest s) (sym c.in-Ok-keep.ensures.known) (c.in-Ok.ensures.rest h);
+      core = record {
+        whole = kept_whole s.size k kept (subst (λ n. IsWholeMap n k) size c.in-Ok.ensures.whole)
+            (subst (λ n. IsBooked n k) size c.in-Ok.ensures.booked) c.in-Ok-keep.ensures.known c.in-Ok-keep.ensures.keyed
+            c.in-Ok-keep.ensures.read c.in-Ok-keep.ensures.none c.in-Ok-keep.ensures.current;
+        read = λ h serves key v is some. absurd
+            (let none = (standing_at IsFirstRead kept.live key v c.in-Ok-keep.ensures.read is).unread in omega arith);
+        written = λ h serves key p is. absurd (let none = ap (λ l. pending_at l key) (sym c.in-Ok-keep.ensures.none)
+            ∙ is in cc);
+        rest = λ h serves. subst (IsAtRest s) (sym c.in-Ok-keep.ensures.known) (c.in-Ok.ensures.rest h);
+        dated = λ h serves key p is. absurd (let none = ap (λ l. pending_at l key) (sym c.in-Ok-keep.ensures.none)
+            ∙ is in cc);
+      };
+      layout_is = λ h serves. c.in-Ok.ensures.layout h;
     }
 
 pub returns-in-Ok-keep-clause-synced : goal.returns-in-Ok-keep-clause-synced
