@@ -279,6 +279,12 @@ fn prime_blocks_are_built_again(rt: HostRuntime) -> Result<(), Fail> {
     expect_built(&rt, rt.alloc(), &alone, &none, &pieces)?; // neighbours are joined
     let large = rib(113 * 128, 21, &[(1, 100); 112]);
     expect_built(&rt, rt.alloc(), &large, &xrb(0, &[(1, 99)]), &large)?;
+    Ok(())
+}
+
+#[test]
+fn late_prime_blocks_are_built_again(rt: HostRuntime) -> Result<(), Fail> {
+    let none = [Word::ZERO; BLOCK_WORDS];
     let late = dated(0o700000);
     expect_built(&rt, rt.alloc(), &late, &none, &late)?;
     Ok(())

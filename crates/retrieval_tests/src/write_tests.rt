@@ -281,54 +281,68 @@ fn date_back(
     Ok(answer.map(|(prime, _read)| prime.moment.date))
 }
 
-/// FOO.TXT of a date has these words 2 and 3 in its prime block, which is 15, and is read back, or refused, in a layout.
+/// Some dates of FOO.TXT, with words 2 and 3 of its prime block: protection 057, mode 17, 17 minutes past midnight.
+const DATED: [(u32, u64, u64); 4] = [
+    (0, 0o647064000000, 0o057740210000),
+    (4095, 0o647064000000, 0o057740217777),
+    (4096, 0o647064100000, 0o057740210000),
+    (32767, 0o647064700000, 0o057740217777),
+];
+
+/// FOO.TXT of a date has these words 2 and 3 in its prime block, which is 15. It is read back, or refused, in a layout.
 fn expect_date(
     rt: &impl Abort,
     alloc: Global,
-    date: u32,
-    words: [u64; 2],
+    dated: (u32, u64, u64),
     layout: Layout,
     wanted: Result<u32, RetrievalError>,
 ) -> Result<(), Fail> {
+    let (date, second, third) = dated;
     let mut disk = disk_of(rt, alloc, 8)?;
     let answer = date_back(rt, alloc, &mut disk, date, layout);
-    let has = has_words(rt, &mut disk, 15, &[(2, words[0]), (3, words[1])]);
+    let has = has_words(rt, &mut disk, 15, &[(2, second), (3, third)]);
     drop(disk);
     assert_eq!(rt; answer?, wanted);
     assert!(rt; has);
     Ok(())
 }
 
-/// Words 2 and 3 of the prime blocks of FOO.TXT of some dates: mode 17, protection 057, 17 minutes past midnight.
-const DATED: [(u32, [u64; 2]); 4] = [
-    (0, [0o647064000000, 0o057740210000]),
-    (4095, [0o647064000000, 0o057740217777]),
-    (4096, [0o647064100000, 0o057740210000]),
-    (32767, [0o647064700000, 0o057740217777]),
-];
-
 #[test]
-fn dates_written_and_read_back(rt: HostRuntime) -> Result<(), Fail> {
-    for (date, words) in DATED {
-        expect_date(&rt, rt.alloc(), date, words, Layout::Two, Ok(date))?;
-        let wanted = if date < 4096 {
-            Ok(date)
-        } else {
-            Err(RetrievalError::BadRetrieval(15))
-        };
-        expect_date(&rt, rt.alloc(), date, words, Layout::One, wanted)?;
+fn dates_read_back_in_layout_2(rt: HostRuntime) -> Result<(), Fail> {
+    for dated in DATED {
+        expect_date(&rt, rt.alloc(), dated, Layout::Two, Ok(dated.0))?;
     }
     Ok(())
 }
 
-/// A prime block that is written anew for another prime has the date of that one, all fifteen bits of it.
+/// What layout 1 answers: a date, or a fault of the prime block, which is 15.
+fn in_layout_1(date: u32) -> Result<u32, RetrievalError> {
+    if date > 4095 {
+        return Err(RetrievalError::BadRetrieval(15));
+    }
+    Ok(date)
+}
+
+#[test]
+fn dates_read_back_in_layout_1(rt: HostRuntime) -> Result<(), Fail> {
+    for dated in DATED {
+        expect_date(&rt, rt.alloc(), dated, Layout::One, in_layout_1(dated.0))?;
+    }
+    Ok(())
+}
+
+/// A prime block that is written anew for FOO.TXT of a date has these words 2 and 3.
+fn expect_anew(rt: &impl Abort, dated: (u32, u64, u64)) {
+    let (date, second, third) = dated;
+    let anew = prime_block_for(&[Word::ZERO; BLOCK_WORDS], &foo_of(rt, date));
+    assert_eq!(rt; anew[2].bits(), second);
+    assert_eq!(rt; anew[3].bits(), third);
+}
+
 #[test]
 fn prime_blocks_for_other_dates(rt: HostRuntime) {
-    let old = [Word::ZERO; BLOCK_WORDS];
-    for (date, words) in DATED {
-        let anew = prime_block_for(&old, &foo_of(&rt, date));
-        assert_eq!(rt; anew[2], word(words[0]));
-        assert_eq!(rt; anew[3], word(words[1]));
+    for dated in DATED {
+        expect_anew(&rt, dated);
     }
 }
 
@@ -344,12 +358,10 @@ fn is_prime_in(rt: &impl Abort, alloc: Global, date: u32, layout: Layout) -> boo
 
 #[test]
 fn prime_blocks_of_layouts(rt: HostRuntime) {
-    for (date, _words) in DATED {
+    for (date, _second, _third) in DATED {
         assert!(rt; is_prime_in(&rt, rt.alloc(), date, Layout::Two));
-        assert_eq!(rt;
-            is_prime_in(&rt, rt.alloc(), date, Layout::One),
-            date < 4096
-        );
+        let is_in_1 = is_prime_in(&rt, rt.alloc(), date, Layout::One);
+        assert!(rt; is_in_1 == (date < 4096));
     }
 }
 
