@@ -24,7 +24,7 @@ pub struct MasterEntry {
 const LAST_QUOTA: u32 = 262_143;
 
 impl MasterEntry {
-    /// The entry of a directory, or `None` for a protection above 777 (octal) or a quota above 262143.
+    /// Gives the entry of a directory, or `None` for a protection above 777 (octal) or a quota above 262143.
     pub fn new(ppn: Ppn, protection: u16, quota: u32, first: u32) -> Option<MasterEntry>
         ensures ppn { IfSome result (λ entry. entry.ppn ≡ ppn) }
         ensures protection { IfSome result (λ entry. entry.protection ≡ protection) }

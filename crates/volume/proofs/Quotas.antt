@@ -1,7 +1,7 @@
 -- A quota in layout 1 is a fault of the block that has it, and a block that is at fault in layout 2 is so in layout 1.
-use Rattle.std.proofs.Common.{◌≡◌, ℕ, zero, suc, ◌+◌, ◌*◌, ◌-◌, ◌/◌, ◌<◌, List, [], ◌∷◌, map, length, get_or, take, drop}
-use Rattle.std.proofs.Common.{Some, Bool, inl, sym, ap, subst, ◌∙◌, arith, nat_cmp}
-use Rattle.std.specs.Prelude.{slice_get, slice_index_or, option_map}
+use Rattle.std.proofs.Common.{◌≡◌, ℕ, zero, suc, ◌+◌, ◌*◌, ◌-◌, ◌/◌, ◌<◌, List, [], ◌∷◌, map, length, get_or, take}
+use Rattle.std.proofs.Common.{drop, Some, Bool, inl, sym, ap, subst, ◌∙◌, arith, nat_cmp}
+use Rattle.std.specs.Prelude.{slice_index_or, option_map}
 use Rattle.std.specs.List.{AllByRecursion}
 use Rattle.std.proofs.lemmas.List.{drop-drop, get_or-drop, get_or-take, length-drop, length-take, length-map}
 use Rattle.std.proofs.lemmas.Option.{slice_get-map, slice_get_within, get_or_from_slice_get}
@@ -137,8 +137,8 @@ quota_block chain es blocks i n entries_are blocks_are first is = record {
   block = sym is ∙ ap (λ (l : List ℕ). slice_index_or l (i / 42) 0) blocks_are;
 }
 
-module _ (chain : ChainState MasterEntry) (n : ℕ) (sound : IsChain nat_cmp (IsMasterEntryOf 2) (viewed master_view chain))
-    (q : IsFirstQuotaBlock chain n) where
+module _ (chain : ChainState MasterEntry) (n : ℕ)
+    (sound : IsChain nat_cmp (IsMasterEntryOf 2) (viewed master_view chain)) (q : IsFirstQuotaBlock chain n) where
   within : q.place < length (map master_view chain.entries)
   within =
       let below = slice_get_within chain.entries q.place q.first.entry q.first.is in
@@ -150,7 +150,8 @@ module _ (chain : ChainState MasterEntry) (n : ℕ) (sound : IsChain nat_cmp (Is
 
   -- it is one of the chain's
   pub quota_among : 0 < times n chain.blocks
-  quota_among = subst (λ (k : ℕ). 0 < times k chain.blocks) (sym q.block) (times_get chain.blocks (q.place / 42) counted)
+  quota_among = subst (λ (k : ℕ). 0 < times k chain.blocks) (sym q.block)
+      (times_get chain.blocks (q.place / 42) counted)
 
   -- and no block of layout 1
   pub quota_bad : (size : ℕ) (contents : Contents) (first : ℕ)
