@@ -105,10 +105,11 @@ module _ (s s' : DiskState) (k : Known) (blocks : List ℕ) (aligned : IsAligned
 
   -- what is in core is still the disk's
   pub put_at : (t : TableState) → ((n : ℕ) → bit t n ≡ bit k.table n)
-      → (m : DiskMap) × AtRest s' (IsHeld s.size (record k { table = t }) m)
+      → (m : DiskMap) × AtRest s' (IsHeld s.size (record k { table = t }) m) × (m.layout ≡ (pack_of s).layout)
   put_at t same = (
     at.map,
     record { shut = rest_after.shut; all = λ c left. same_bits s.size k t at.map c same (rest_after.all c left) },
+    pack_held s k at.map at.rest,
   )
 
 -- The words of other versions.
