@@ -18,6 +18,7 @@ use Rattle.volume.proofs.Publications.{ribs_on}
 use Rattle.volume.proofs.PublishingSlots.{made_current_readers}
 use Rattle.volume.proofs.HomesKept.{homes_start, homes_on}
 use Rattle.volume.proofs.PublishingHomes.{ok_anyway}
+use Rattle.volume.proofs.SoundVolumes.{not_both, volume_goes_on}
 use Rattle.volume.proofs.map.Volume.publish.Goals as goal
 
 pub returns-in_err-blocks-clause-crash : goal.returns-in_err-blocks-clause-crash
@@ -178,3 +179,16 @@ pub returns-in-Ok-put-clause-whole : goal.returns-in-Ok-put-clause-whole
 returns-in-Ok-put-clause-whole g c = rw (← c.self.view_is) (λ h some p there.
     ok_anyway c.publish_written.result _ (c.in-Ok-put.ensures.whole (c.publish_written.ensures.same.was_honest h) some p
     (ap (λ (x : VolumeCore). pending_at x.pending c.args.pending.key) c.find_supplies.ensures.core ∙ there)))
+
+-- The layout stays.
+
+pub invariant_of-self-in-Ok-put : goal.invariant_of-self-in-Ok-put
+invariant_of-self-in-Ok-put g c =
+    let put = c.put_in_core-put.ensures in
+    let written = c.publish_written.ensures in
+    volume_goes_on (g.D.Disk.state c.self.inside.disk) (g.D.Disk.state c.publish_written.new.disk)
+    (core_of c.self.inside.map) (core_of c.publish_written.new.map) c.self.inside.failed c.publish_written.new.failed
+    c.self.inside.layout c.self.invariant written.sound (written.same.size ∙ put.same.size)
+    (λ h. put.same.was_honest (written.same.was_honest h)) (λ ok. c.if-self.false)
+    (λ h ok n low. written.home_blocks h (λ is. not_both c.publish_written.new.failed (written.device is) ok) n low
+    ∙ put.home_blocks (written.same.was_honest h) n low)
