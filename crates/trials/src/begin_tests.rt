@@ -1,7 +1,7 @@
 ghost use Rattle.std.specs.Prelude.{IfOk};
 
 use crate::disks::{SIZE, expect_room, open, v1};
-use crate::publish_tests::{empty, expect_directory};
+use crate::publish_tests::{empty, expect_directory, expect_timely};
 use blockdisk::MemDisk;
 use retrieval::{Mode, Prime};
 use std::alloc::Global;
@@ -47,11 +47,13 @@ fn prime_of(rt: &impl Abort, n: u32, file: FileName) -> Prime {
 
 /// Begins a version. What else `begin` promises stays behind this function.
 fn begin_version(
+    rt: &impl Abort,
     alloc: Global,
     volume: &mut Volume<MemDisk>,
     kind: Kind,
     prime: Prime,
 ) -> Result<Pending, CallError> {
+    expect_timely(rt, volume, &prime);
     volume.begin(alloc, kind, prime)
 }
 
@@ -63,7 +65,7 @@ fn expect_unbegun(
     prime: Prime,
     error: CallError,
 ) {
-    assert!(rt; begin_version(alloc, volume, Kind::Create, prime) == Err(error));
+    assert!(rt; begin_version(rt, alloc, volume, Kind::Create, prime) == Err(error));
 }
 
 /// A volume that has failed begins nothing.
@@ -79,10 +81,22 @@ fn a_failed_volume(rt: HostRuntime) -> Result<(), Fail> {
 
 /// Begins a new file; after `NoMemory` all is as before, and the next call begins it.
 fn begin_again(rt: &impl Abort, alloc: Global, volume: &mut Volume<MemDisk>) {
-    let refused = begin_version(alloc, volume, Kind::Create, prime_of(rt, 0o20, numbered(1)));
+    let refused = begin_version(
+        rt,
+        alloc,
+        volume,
+        Kind::Create,
+        prime_of(rt, 0o20, numbered(1)),
+    );
     if refused == Err(CallError::NoMemory) {
         expect_room(rt, volume, 45);
-        let again = begin_version(alloc, volume, Kind::Create, prime_of(rt, 0o20, numbered(1)));
+        let again = begin_version(
+            rt,
+            alloc,
+            volume,
+            Kind::Create,
+            prime_of(rt, 0o20, numbered(1)),
+        );
         assert!(rt; again.is_ok());
         expect_room(rt, volume, 44);
     }

@@ -1,4 +1,6 @@
-ghost use Rattle.std.specs.Prelude.{◌≡◌, ◌+◌, ◌<◌, ◌^◌, ℕ, Some, IsSome, IfOk};
+ghost use Rattle.std.specs.Prelude.{◌≡◌, ◌+◌, ◌<◌, ◌^◌, ℕ, false, Some, IsSome, IfOk};
+ghost use Rattle.meaning.specs.Layouts.{pack_of};
+ghost use Rattle.meaning.specs.Retrieval.{date_limit};
 ghost use Rattle.volume.specs.Live.{slot, pending_at};
 ghost use Rattle.volume.specs.Pins.{IsReadable};
 ghost use Rattle.volume.specs.Publishing.{IsPlaced};
@@ -51,6 +53,15 @@ pub(crate) fn prime_of(rt: &impl Abort, name: u64) -> Prime
     let file = file_name(name);
     assert!(rt; file.name.bits() > 0);
     Prime::new(file, ppn_of(rt), 0o057, Mode::Dump, moment(rt)).expect(rt, "a prime block")
+}
+
+/// A volume's layout holds the moment of what is to be written.
+pub(crate) fn expect_timely<D: Disk>(rt: &impl Abort, volume: &Volume<D>, prime: &Prime)
+    ensures { (D.state volume.now.disk).honest → volume.now.failed ≡ false
+        → prime.now.moment.date < date_limit (pack_of (D.state volume.now.disk)).layout }
+{
+    let last = volume.layout().last_date();
+    assert!(rt; prime.moment.date <= last);
 }
 
 /// So many words: numbers, from this one on.
@@ -117,7 +128,9 @@ pub(crate) fn write<D: Disk>(
         → IsPlaced volume.new.core p }
     ensures readers { (pin : Pin) → IsReadable volume.old.core (Pinned pin) → IsReadable volume.new.core (Pinned pin) }
 {
-    let Ok(pending) = volume.begin(alloc, kind, prime_of(rt, name)) else {
+    let prime = prime_of(rt, name);
+    expect_timely(rt, volume, &prime);
+    let Ok(pending) = volume.begin(alloc, kind, prime) else {
         panic!(rt; "no version is begun");
     };
     if volume.put_words(pending, 1, words) != Ok(()) {
@@ -405,7 +418,9 @@ fn expect_unbegun<D: Disk>(
     volume: &mut Volume<D>,
     error: CallError,
 ) {
-    assert!(rt; volume.begin(alloc, Kind::Supersede, prime_of(rt, FOO)) == Err(error));
+    let prime = prime_of(rt, FOO);
+    expect_timely(rt, volume, &prime);
+    assert!(rt; volume.begin(alloc, Kind::Supersede, prime) == Err(error));
 }
 
 /// Each call is answered `Failed`.

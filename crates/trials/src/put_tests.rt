@@ -2,6 +2,7 @@ ghost use Rattle.std.specs.Prelude.{◌<◌, IsSome, IfSome};
 ghost use Rattle.volume.specs.Live.{pending_at};
 
 use crate::disks::{expect_failure, expect_room, open, spoiled, v1, word};
+use crate::publish_tests::expect_timely;
 use blockdisk::{Disk, NoMemory};
 use retrieval::{Mode, Prime};
 use std::alloc::Global;
@@ -33,6 +34,7 @@ fn open_and_begin<D: Disk + Drop>(
     let Some(mut volume) = open(alloc, disk) else {
         return None;
     };
+    expect_timely(rt, &volume, &prime);
     match volume.begin(alloc, Kind::Supersede, prime) {
         Ok(pending) => Some((volume, pending)),
         Err(_refused) => None,

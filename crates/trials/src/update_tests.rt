@@ -3,7 +3,8 @@ ghost use Rattle.volume.specs.Live.{pending_at};
 
 use crate::disks::{expect_room, open};
 use crate::publish_tests::{
-    FOO, expect_file, expect_published, file_name, fresh, numbers, ppn_of, prime_of, store,
+    FOO, expect_file, expect_published, expect_timely, file_name, fresh, numbers, ppn_of, prime_of,
+    store,
 };
 use blockdisk::MemDisk;
 use meaning::ErrorCode;
@@ -25,7 +26,9 @@ fn expect_refused(
     name: u64,
     code: ErrorCode,
 ) {
-    let begun = volume.begin(alloc, kind, prime_of(rt, name));
+    let prime = prime_of(rt, name);
+    expect_timely(rt, volume, &prime);
+    let begun = volume.begin(alloc, kind, prime);
     assert!(rt; begun == Err(CallError::Refused(code)));
 }
 
@@ -70,7 +73,9 @@ fn with_a_file(rt: &impl Abort, alloc: Global) -> Option<Volume<MemDisk>> {
     if !is_made || volume.make_dir(alloc, other_ppn(rt), 0o775) != Ok(()) {
         return None;
     }
-    let Ok(pending) = volume.begin(alloc, Kind::Create, prime_of(rt, FOO)) else {
+    let prime = prime_of(rt, FOO);
+    expect_timely(rt, &volume, &prime);
+    let Ok(pending) = volume.begin(alloc, Kind::Create, prime) else {
         return None;
     };
     let is_done = volume.publish(alloc, pending, 1, &[]) == Ok(());
@@ -81,12 +86,16 @@ fn with_a_file(rt: &impl Abort, alloc: Global) -> Option<Volume<MemDisk>> {
 fn begin_again(rt: &impl Abort, alloc: Global, volume: &mut Volume<MemDisk>) -> Pending
     ensures { IsSome (pending_at volume.new.core.pending result.key) }
 {
-    match volume.begin(alloc, Kind::Update, prime_of(rt, FOO)) {
+    let prime = prime_of(rt, FOO);
+    expect_timely(rt, volume, &prime);
+    match volume.begin(alloc, Kind::Update, prime) {
         Ok(pending) => pending,
         Err(error) => {
             assert!(rt; error == CallError::NoMemory);
             expect_room(rt, volume, 45);
-            let Ok(pending) = volume.begin(alloc, Kind::Update, prime_of(rt, FOO)) else {
+            let again = prime_of(rt, FOO);
+            expect_timely(rt, volume, &again);
+            let Ok(pending) = volume.begin(alloc, Kind::Update, again) else {
                 panic!(rt; "no version is begun");
             };
             pending
