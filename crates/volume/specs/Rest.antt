@@ -3,15 +3,16 @@ use Rattle.std.specs.Prelude.{◌≡◌, ◌⊎◌, ◌<◌, ℕ, Bool, false, L
 use Rattle.blockdisk.specs.Disk.{Contents, DiskState, MayLeave}
 use Rattle.meaning.specs.Files.{File, Files}
 use Rattle.meaning.specs.Maps.{times}
-use Rattle.meaning.specs.Layouts.{pack_of, pack_in, SettledStandsOn, StandsOn}
+use Rattle.meaning.specs.Layouts.{layout_number, pack_of, pack_in, SettledStandsOn, StandsOn}
 use Rattle.meaning.specs.Room.{Pack}
 use Rattle.meaning.specs.Stands.{DiskMap}
+use Rattle.meaning.specs.declared.layout.Layout.{Layout}
 use Rattle.changeset.specs.Rest.{AtRest}
 use Rattle.volume.specs.Known.{Known, IsHeld}
 use Rattle.volume.specs.Live.{VolumeCore, slot, pending_at, IsWholeCore}
 use Rattle.volume.specs.declared.live.LiveVersion.{LiveVersion}
 use Rattle.volume.specs.declared.pending.PendingVersion.{PendingVersion}
-use Rattle.meaning.specs.Retrieval.{HasBody}
+use Rattle.meaning.specs.Retrieval.{HasBody, date_limit}
 use Rattle.retrieval.specs.Versions.{VersionState}
 
 -- One map for all that a crash may leave, and the one in core.
@@ -23,6 +24,11 @@ pub record IsAtRest (s : DiskState) (k : Known) : Type 0 where
 abbrev pub HasSomeBody : Contents → VersionState → Type 0
 HasSomeBody contents v = (body : List ℕ) × (length body ≡ v.words) × HasBody contents v.blocks body
 
+-- the moment of each version that is being written is one that the layout holds
+abbrev pub AreDated : ℕ → VolumeCore → Type 0
+AreDated layout c = (key : ℕ) (p : PendingVersion) → pending_at c.pending key ≡ Some p
+    → p.prime.moment.date < date_limit layout
+
 -- What is in core is whole, and while the disk is honest and the volume hasn't failed it is the disk's; the
 -- versions that readers hold, and those that are being written, have their words then.
 pub record IsSoundCore (s : DiskState) (c : VolumeCore) (failed : Bool) : Type 0 where
@@ -32,6 +38,12 @@ pub record IsSoundCore (s : DiskState) (c : VolumeCore) (failed : Bool) : Type 0
       → HasSomeBody s.contents v.version
   pub written : s.honest → failed ≡ false → (key : ℕ) (p : PendingVersion) → pending_at c.pending key ≡ Some p
       → HasSomeBody s.contents p.version
+  pub dated : s.honest → failed ≡ false → AreDated (pack_of s).layout c
+
+-- The layout that is in core is the disk's, too.
+pub record IsSoundVolume (s : DiskState) (c : VolumeCore) (failed : Bool) (layout : Layout) : Type 0 where
+  pub core : IsSoundCore s c failed
+  pub layout_is : s.honest → failed ≡ false → layout_number layout ≡ (pack_of s).layout
 
 -- all that a crash may leave has a closed gate and stands for these files, in the disk's layout
 abbrev pub RestsAt : DiskState → Files File → Type 0

@@ -1,5 +1,6 @@
--- A volume as a value: its disk, what it knows of it, and whether it has failed.
+-- A volume as a value: its disk, what it knows of it, whether it has failed, and the layout of the disk.
 use Rattle.std.specs.Prelude.{Bool}
+use Rattle.meaning.specs.declared.layout.Layout.{Layout}
 use Rattle.volume.specs.Live.{VolumeCore}
 
 pub record VolumeState (D : Type 0) : Type 0 where
@@ -7,3 +8,4 @@ pub record VolumeState (D : Type 0) : Type 0 where
   pub core : VolumeCore
   -- a call met a fault of the disk: then nothing is known of the disk any more
   pub failed : Bool
+  pub layout : Layout

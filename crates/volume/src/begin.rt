@@ -8,7 +8,8 @@ ghost use Rattle.meaning.specs.declared.code.ErrorCode.TheVariants.{NoDirectory,
 ghost use Rattle.meaning.specs.Costs.{version_cost};
 ghost use Rattle.meaning.specs.Files.{File, Directory, Files};
 ghost use Rattle.meaning.specs.Maps.{get, total};
-ghost use Rattle.meaning.specs.Retrieval.{most_blocks};
+ghost use Rattle.meaning.specs.Layouts.{pack_of};
+ghost use Rattle.meaning.specs.Retrieval.{date_limit, most_blocks};
 ghost use Rattle.meaning.specs.Room.{growth};
 ghost use Rattle.alloctab.specs.TableState.{space};
 ghost use Rattle.volume.specs.Beginning.{begin_cost, entries_with, is_absent, is_update, begun, version_before};
@@ -286,6 +287,9 @@ impl<D: Disk> Volume<D> {
     /// grow for a new entry, or as many as the file costs that is updated; `NoMemory` where core can't grow. All is as
     /// before then.
     pub fn begin(&mut self, alloc: Global, kind: Kind, prime: Prime) -> Result<Pending, CallError>
+        // The layout has room for its date.
+        requires timely { (D.state self.old.disk).honest → self.old.failed ≡ false
+            → prime.moment.date < date_limit (pack_of (D.state self.old.disk)).layout }
         ensures begun { IfOk result (λ pending. IsBegun self.old.core self.new.core pending.key kind prime) }
         // An update and an append begin with the file.
         ensures file { (D.state self.new.disk).honest → self.old.failed ≡ false → (files : Files File)
@@ -294,6 +298,7 @@ impl<D: Disk> Volume<D> {
             (pending_at self.new.core.pending pending.key) prime.file (get files prime.ppn)) }
         ensures same { OnErr result (self.new.core ≡ self.old.core) }
         ensures untouched { (self.new.disk ≡ self.old.disk) × (self.new.failed ≡ self.old.failed) }
+        ensures layout { self.new.layout ≡ self.old.layout }
 
         // Which error comes when.
         ensures failed { IsErrOf result Failed ↔ IsTrue self.old.failed }

@@ -177,6 +177,7 @@ impl<D: Disk> Volume<D> {
             ≡ (D.state self.old.disk).failures }
         ensures still { (IsErrOf result Device → ⊥) → self.new.failed ≡ self.old.failed }
         ensures same { SameDisk (D.state self.old.disk) (D.state self.new.disk) }
+        ensures layout { self.new.layout ≡ self.old.layout }
     {
         if self.failed {
             return Err(CallError::Failed);

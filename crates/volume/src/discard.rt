@@ -94,6 +94,7 @@ impl<D: Disk> Volume<D> {
             → (n : ℕ) → holds self.new.core.known.table n + times n p.version.blocks
             ≡ holds self.old.core.known.table n }
         ensures untouched { (self.new.disk ≡ self.old.disk) × (self.new.failed ≡ self.old.failed) }
+        ensures layout { self.new.layout ≡ self.old.layout }
     {
         discard_in_core(&mut self.map, pending.key);
     }

@@ -1,10 +1,12 @@
-ghost use Rattle.std.specs.Prelude.{◌≡◌};
+ghost use Rattle.std.specs.Prelude.{◌≡◌, false};
+ghost use Rattle.meaning.specs.Layouts.{layout_number, pack_of};
 
 use crate::files::StoredVersion;
 use crate::live::LiveMap;
 use alloctab::Table;
 use blockdisk::Disk;
 use directory::{Chain, FileEntry, MasterEntry};
+use meaning::layout::Layout;
 use std::marker::Model;
 
 /// A directory that was read: its chain, and for each entry, in their order, the version of its file.
@@ -28,25 +30,27 @@ pub struct DiskMap {
 }
 
 /// A volume: a disk with its map in core. Contracts see it as one value (`VolumeState`): the disk, what is known
-/// of it, and whether the volume has failed.
+/// of it, whether the volume has failed, and the layout.
 #[derive(Drop)]
 pub struct Volume<D: Disk> {
     pub(crate) disk: D,
     pub(crate) map: LiveMap,
     /// Whether a call met a fault of the disk: then nothing is known of the disk any more.
     pub(crate) failed: bool,
+    /// The layout of the disk, which no call changes.
+    pub(crate) layout: Layout,
 }
 
 impl<D: Disk> Model for Volume<D> {
     ghost use Rattle.volume.specs.LiveCores.{core_of};
-    ghost use Rattle.volume.specs.Rest.{IsSoundCore};
+    ghost use Rattle.volume.specs.Rest.{IsSoundVolume};
     ghost use Rattle.volume.specs.States.{VolumeState};
 
     ghost Value = { VolumeState D };
 
-    ghost view = { λ v. record { disk = v.disk; core = core_of v.map; failed = v.failed } };
+    ghost view = { λ v. record { disk = v.disk; core = core_of v.map; failed = v.failed; layout = v.layout } };
 
-    ghost invariant = { λ v. IsSoundCore (D.state v.disk) (core_of v.map) v.failed };
+    ghost invariant = { λ v. IsSoundVolume (D.state v.disk) (core_of v.map) v.failed v.layout };
 }
 
 impl<D: Disk> Volume<D> {
@@ -55,6 +59,16 @@ impl<D: Disk> Volume<D> {
         ensures { result.now ≡ self.now.disk }
     {
         &self.disk
+    }
+
+    /// The layout that `open` found, which no call changes. While the disk is honest and the volume hasn't failed it is
+    /// the disk's.
+    pub fn layout(&self) -> Layout
+        ensures value { result ≡ self.now.layout }
+        ensures disk { (D.state self.now.disk).honest → self.now.failed ≡ false
+            → layout_number result ≡ (pack_of (D.state self.now.disk)).layout }
+    {
+        self.layout
     }
 
     /// The disk as it stands. What isn't published is dropped.

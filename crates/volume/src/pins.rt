@@ -94,6 +94,7 @@ impl<D: Disk> Volume<D> {
         ensures core { self.new.core ≡ record self.old.core { live = self.new.core.live } }
         ensures same { IsErr result → self.new.core ≡ self.old.core }
         ensures untouched { (self.new.disk ≡ self.old.disk) × (self.new.failed ≡ self.old.failed) }
+        ensures layout { self.new.layout ≡ self.old.layout }
         // Where it is refused, core has no file of the place.
         ensures absent { IsErr result → self.old.failed ≡ false → prime_at self.old.core ppn name.now ≡ None }
         ensures failed { IsErrOf result Failed ↔ IsTrue self.old.failed }
@@ -128,6 +129,7 @@ impl<D: Disk> Volume<D> {
         ensures keys { self.new.core.keys ≡ self.old.core.keys }
         ensures known { self.new.core.known ≡ record self.old.core.known { table = self.new.core.known.table } }
         ensures untouched { (self.new.disk ≡ self.old.disk) × (self.new.failed ≡ self.old.failed) }
+        ensures layout { self.new.layout ≡ self.old.layout }
     {
         unpin_version(&mut self.map, pin.key);
     }

@@ -396,6 +396,7 @@ impl<D: Disk> Volume<D> {
         ensures served { (IsErrOf result Device → ⊥) → (D.state self.new.disk).failures
             ≡ (D.state self.old.disk).failures }
         ensures same { SameDisk (D.state self.old.disk) (D.state self.new.disk) }
+        ensures layout { self.new.layout ≡ self.old.layout }
     {
         put_in_core(
             &mut self.disk,

@@ -24,6 +24,7 @@ use crate::map::{DiskMap, Volume};
 use crate::open::read_map;
 use blockdisk::{Disk, NoMemory};
 use changeset::{LogError, recover};
+use meaning::layout::Layout;
 use std::alloc::Global;
 
 /// Recovers a disk and reads all that it reaches, each block once, and its allocation table.
@@ -163,6 +164,7 @@ impl<D: Disk> Volume<D> {
                     disk,
                     map,
                     failed: false,
+                    layout: Layout::One,
                 }),
                 Err(NoMemory) => Err((VolumeError::NoMemory, disk)),
             },
