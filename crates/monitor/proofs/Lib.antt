@@ -7,6 +7,7 @@ pub mod HeldReaders
 pub mod SideSums
 pub mod Growths
 pub mod Rooms
+pub mod Dates
 pub mod ServedPacks
 pub mod Answering
 pub mod Apart

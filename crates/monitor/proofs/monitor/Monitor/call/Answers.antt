@@ -9,7 +9,7 @@ use Rattle.monitor.specs.Calls.{KeepsCore}
 use Rattle.blockdisk.specs.Disk.{LeavesOnly}
 use Rattle.meaning.specs.Crashes.{StandsForEither}
 use Rattle.meaning.specs.declared.call.Event.TheVariants.{Call as Calls}
-use Rattle.monitor.specs.Serving.{pack_one, Serves}
+use Rattle.monitor.specs.Serving.{Serves}
 use Rattle.monitor.proofs.Apart.{IsApart, IsStill, in_still, apart}
 use Rattle.monitor.proofs.EventCrashes.{untouched_event, call_event}
 use Rattle.monitor.proofs.Called.{called_late, all_same}
@@ -90,12 +90,12 @@ returns-clause-still g c =
     → c.args.call.now ≡ In channel address → c.args.moment.date ≤ 4095 → (s : State)
     → Serves (g.D.Disk.state m.disk) m.map m.failed m.jobs (Serving s)
     → (own : machine.Job) → job_at s c.args.job ≡ Some own → (c.serve.result ≡ NoMemory → ⊥)
-    → (c.serve.result ≡ Device → ⊥) → IsStill after (pack_one (g.D.Disk.state m.disk)) s c.args.job c.args.moment
+    → (c.serve.result ≡ Device → ⊥) → IsStill after (pack_of (g.D.Disk.state m.disk)) s c.args.job c.args.moment
     c.serve.result own channel address) c.self.view_is
     (λ h channel address asked timely s serves own there room works.
     let d = g.D.Disk.state c.self.inside.volume.disk in
     let led = c.serve.ensures.serving.answered h (Serving s) (refl, serves.1) in
-    in_still after (pack_one d) s c.args.job c.args.moment c.serve.result own channel address c.args.call.now
+    in_still after (pack_of d) s c.args.job c.args.moment c.serve.result own channel address c.args.call.now
     asked there timely room works led.0 led.1 led.2)
 
 pub returns-clause-apart : goal.returns-clause-apart
