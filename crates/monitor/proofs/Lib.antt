@@ -76,7 +76,6 @@ pub mod ReadsPinned
 pub mod ReadsPublished
 pub mod ServedEvents
 pub mod EventCrashes
-pub mod OnePack
 pub mod Listed
 pub mod Releases
 pub mod Along
