@@ -200,32 +200,32 @@ pub job_set : (files : Files Version) (w : UnderKeys) (jobs : List (Option Job))
 job_set files w jobs n job = ap (λ js. record { files = files; jobs = js })
     (sym (map-set (option_map (job_of w)) jobs n (Some job)))
 
-module _ (d : DiskState) (jobs : List (Option Job)) (n : ℕ) (call : Call) (moment : Moment) (serial : ℕ)
+module _ (pack : Pack) (jobs : List (Option Job)) (n : ℕ) (call : Call) (moment : Moment) (serial : ℕ)
     (files : Files Version) (w : UnderKeys) where
   abbrev before : State
   before = state_of files w jobs
 
-  pub late : last_date (pack_of d).layout < moment.date → step (pack_of d) serial before (Calls n call moment) ≡ (DateRange, before)
+  pub late : last_date pack.layout < moment.date → step pack serial before (Calls n call moment) ≡ (DateRange, before)
   late past = ap (λ b. if b then (DateRange, before)
-      else on_job before (job_at before n) (λ job. call_of (pack_of d) serial before n job call moment))
-      (after (last_date (pack_of d).layout) moment.date past)
+      else on_job before (job_at before n) (λ job. call_of pack serial before n job call moment))
+      (after (last_date pack.layout) moment.date past)
 
-  asked : moment.date ≤ last_date (pack_of d).layout → (o : Option Job) → slot jobs n ≡ o
-      → step (pack_of d) serial before (Calls n call moment)
-      ≡ on_job before (option_map (job_of w) o) (λ job. call_of (pack_of d) serial before n job call moment)
+  asked : moment.date ≤ last_date pack.layout → (o : Option Job) → slot jobs n ≡ o
+      → step pack serial before (Calls n call moment)
+      ≡ on_job before (option_map (job_of w) o) (λ job. call_of pack serial before n job call moment)
   asked timely o is =
       ap (λ b. if b then (DateRange, before)
-      else on_job before (job_at before n) (λ job. call_of (pack_of d) serial before n job call moment))
-      (not_after (last_date (pack_of d).layout) moment.date timely)
-      ∙ ap (λ o. on_job before o (λ job. call_of (pack_of d) serial before n job call moment)) (slot_of w jobs n o is)
+      else on_job before (job_at before n) (λ job. call_of pack serial before n job call moment))
+      (not_after (last_date pack.layout) moment.date timely)
+      ∙ ap (λ o. on_job before o (λ job. call_of pack serial before n job call moment)) (slot_of w jobs n o is)
 
-  pub no_job : moment.date ≤ last_date (pack_of d).layout → slot jobs n ≡ None → step (pack_of d) serial before (Calls n call moment)
+  pub no_job : moment.date ≤ last_date pack.layout → slot jobs n ≡ None → step pack serial before (Calls n call moment)
       ≡ (NoJob, before)
   no_job timely none = asked timely None none
 
-  pub called : moment.date ≤ last_date (pack_of d).layout → (job : Job) → slot jobs n ≡ Some job
-      → step (pack_of d) serial before (Calls n call moment)
-      ≡ call_of (pack_of d) serial before n (job_of w job) call moment
+  pub called : moment.date ≤ last_date pack.layout → (job : Job) → slot jobs n ≡ Some job
+      → step pack serial before (Calls n call moment)
+      ≡ call_of pack serial before n (job_of w job) call moment
   called timely job there = asked timely (Some job) there
 
 -- where nothing stands under any key

@@ -21,20 +21,15 @@ use Rattle.meaning.specs.Step.{last_date}
 use Rattle.meaning.specs.declared.layout.Layout.{Layout}
 use Rattle.monitor.proofs.Dropped.{leaves_none}
 
-abbrev pub IsCalled : DiskState → VolumeCore → Bool → List (Option Job) → DiskState → VolumeCore → Bool
-    → List (Option Job) → ℕ → Moment → Reply → Call → Type 0
-IsCalled d map failed jobs d' map' failed' jobs' n moment reply call =
-    (old : Service) → Serves d map failed jobs old → (new : Service)
-    × Serves d' map' failed' jobs' new × Answers (pack_of d) old (Calls n call moment) reply new
-
--- too late for the disk
-pub called_late : (d : DiskState) (map : VolumeCore) (failed : Bool) (jobs : List (Option Job)) (n : ℕ)
-    (call : Call) (moment : Moment) → failed ≡ false → last_date (pack_of d).layout < moment.date
+-- A date that the pack can't hold, whatever disk there is.
+pub called_late : (pack : Pack) (d : DiskState) (map : VolumeCore) (failed : Bool) (jobs : List (Option Job)) (n : ℕ)
+    (call : Call) (moment : Moment) → failed ≡ false → last_date pack.layout < moment.date
     → AreKeyed map.pending jobs
-    → AreReading map.live jobs → IsCalled d map failed jobs d map failed jobs n moment DateRange call
-called_late d map failed jobs n call moment serves past keyed reading =
-    row d map map failed jobs jobs keyed reading (leaves_none map) (pack_of d) (Calls n call moment) DateRange
-    (λ serial files w. late d jobs n call moment serial files w past) serves
+    → AreReading map.live jobs → (old : Service) → Serves d map failed jobs old
+    → (new : Service) × Serves d map failed jobs new × Answers pack old (Calls n call moment) DateRange new
+called_late pack d map failed jobs n call moment serves past keyed reading =
+    row d map map failed jobs jobs keyed reading (leaves_none map) pack (Calls n call moment) DateRange
+    (λ serial files w. late pack jobs n call moment serial files w past) serves
 
 -- The monitor of these parts.
 abbrev pub all_of : {D : Type 0} → D → VolumeCore → Bool → List (Option Job) → Layout → MonitorState D

@@ -35,9 +35,15 @@ last_of : (b : Bool) (n : ℕ) → n + 1 ≡ (if b then 2 ^ 12 else 2 ^ 15) → 
 last_of true n h = omega arith
 last_of false n h = omega arith
 
--- what `Layout::last_date` answers
-pub last_is : (layout n : ℕ) → n + 1 ≡ date_limit layout → n ≡ last_date layout
+last_is : (layout n : ℕ) → n + 1 ≡ date_limit layout → n ≡ last_date layout
 last_is layout = last_of (layout == 1)
+
+-- a date that is asked about by what `Layout::last_date` answers
+pub late_in : (layout n date : ℕ) → n + 1 ≡ date_limit layout → n < date → last_date layout < date
+late_in layout n date is past = subst (λ (k : ℕ). k < date) (last_is layout n is) past
+
+pub timely_in : (layout n date : ℕ) → n + 1 ≡ date_limit layout → date ≤ n → date ≤ last_date layout
+timely_in layout n date is timely = subst (λ (k : ℕ). date ≤ k) (last_is layout n is) timely
 
 -- Its high bits are none where the layout has none for them.
 

@@ -57,7 +57,7 @@ module _ (d : DiskState) (files : Files Version) (w : UnderKeys) (jobs : List (O
   answer = remove_answer t (job_of w job) e (asked_owner job.core e)
 
   asks : (serial : ℕ) → step (pack_of d) serial t (Calls n (DeleteDir e) moment) ≡ by_answer answer
-  asks serial = called d jobs n (DeleteDir e) moment serial files w timely job there
+  asks serial = called (pack_of d) jobs n (DeleteDir e) moment serial files w timely job there
 
   pub row_done : answer ≡ Done → (serial : ℕ)
       → step (pack_of d) serial t (Calls n (DeleteDir e) moment)

@@ -161,7 +161,7 @@ module _ (d : DiskState) (map between map' : VolumeCore) (jobs jobs' : List (Opt
     -- the row
     row_is : (serial : ℕ) → step (pack_of d) serial t (Calls n (Lookup ch e) moment) ≡ (Done, state_of s.files w jobs')
     row_is serial =
-        called d jobs n (Lookup ch e) moment serial s.files w timely job there
+        called (pack_of d) jobs n (Lookup ch e) moment serial s.files w timely job there
         ∙ ap (λ o. on_channel t o (λ y. of_job t n (lookup (pack_of d) t (job_of w job) ch y e)))
         (channel_is w job ch (Some c) looks.there)
         ∙ ap (of_job t n)
@@ -257,7 +257,7 @@ module _ (d : DiskState) (map : VolumeCore) (jobs jobs' : List (Option Job)) (n 
         (state_of s.files state.under jobs') serves state.sound
         (λ serial. subst (λ y. step (pack_of d) serial y (Calls n (Lookup ch e) moment)
         ≡ (reply, state_of s.files state.under jobs')) (sym before_is)
-        (called d jobs n (Lookup ch e) moment serial s.files state.under timely job there
+        (called (pack_of d) jobs n (Lookup ch e) moment serial s.files state.under timely job there
         ∙ by_channel (channel_at (job_of state.under job) ch)
         (row before (subst (IsKnown d map) before_is known) state.under)
         ∙ ap (λ y. (reply, y)) (job_set s.files state.under jobs n job' ∙ ap (state_of s.files state.under) (sym set))))

@@ -62,7 +62,7 @@ module _ (d : DiskState) (c : VolumeCore) (files : Files Version) (w : UnderKeys
   answer = make_answer (pack_of d) t (job_of w job) e (asked_owner job.core e)
 
   asks : (serial : ℕ) → step (pack_of d) serial t (Calls n (MakeDir e) moment) ≡ by_answer answer
-  asks serial = called d jobs n (MakeDir e) moment serial files w timely job there
+  asks serial = called (pack_of d) jobs n (MakeDir e) moment serial files w timely job there
 
   pub row_done : early_answer job.ppn job.core e ≡ Done → IsAbsent c (asked_owner job.core e) → (IsCrowded d.size c → ⊥)
       → (serial : ℕ)

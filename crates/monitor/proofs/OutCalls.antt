@@ -107,7 +107,7 @@ module _ (d : DiskState) (map : VolumeCore) (jobs : List (Option Job)) (n : ℕ)
 
   finds : step (pack_of d) serial t (Calls n (Out ch a) moment) ≡ row_with (outgoing_at job.core at.channel a)
   finds =
-      called d jobs n (Out ch a) moment serial files w timely job there
+      called (pack_of d) jobs n (Out ch a) moment serial files w timely job there
       ∙ ap (λ x. on_channel t x (λ y. of_job t n (puts (pack_of d) t (job_of w job) ch y a)))
       (channel_is w job ch (Some at.channel) at.there)
       ∙ ap (of_job t n) (row_found job ch a at (pack_of d) t w)

@@ -264,7 +264,7 @@ module _ (d : DiskState) (jobs : List (Option Job)) (n : ℕ) (moment : Moment)
         ≡ row_by files w serial bits (close_after w serial)
         (close_answer (pack_of d) (state_of files w jobs) (job_of w job) (channel_of w c) bits)
     close_row_is files w serial =
-        called d jobs n (Close number bits) moment serial files w timely job there
+        called (pack_of d) jobs n (Close number bits) moment serial files w timely job there
         ∙ ap (λ x. on_channel (state_of files w jobs) x (λ x. of_files (state_of files w jobs) n
         (closes (pack_of d) serial (state_of files w jobs) (job_of w job) number x bits)))
         (channel_is w job number (Some c) is_open)
@@ -307,7 +307,7 @@ module _ (d : DiskState) (jobs : List (Option Job)) (n : ℕ) (moment : Moment)
       ≡ row_by files w serial 0 (release_after w serial)
       (close_answer (pack_of d) (state_of files w jobs) (job_of w job) (channel_of w c) 0)
   release_row_is files w serial =
-      called d jobs n (Releas number) moment serial files w timely job there
+      called (pack_of d) jobs n (Releas number) moment serial files w timely job there
       ∙ ap (λ x. on_channel (state_of files w jobs) x (λ x. of_files (state_of files w jobs) n
       (releases (pack_of d) serial (state_of files w jobs) (job_of w job) number x)))
       (channel_is w job number (Some c) is_open)

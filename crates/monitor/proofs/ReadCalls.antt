@@ -240,7 +240,7 @@ module _ (job : Job) (ch a : ℕ) where
           -- it isn't decided before memory and the disk are needed
           pub undecided : is_plain ((step (pack_of d) serial t (Calls n (In ch a) moment)).0) ≡ false
           undecided =
-              ap (λ r. is_plain r.0) (called d jobs n (In ch a) moment serial files w timely job here
+              ap (λ r. is_plain r.0) (called (pack_of d) jobs n (In ch a) moment serial files w timely job here
               ∙ ap (λ o. on_channel t o (λ x. of_job t n (reads (job_of w job) ch x a)))
               (channel_is w job ch (Some c) there))
               ∙ row_undecided
@@ -249,6 +249,6 @@ module _ (job : Job) (ch a : ℕ) where
               → reads (job_of w job) ch (channel_of w c) a ≡ (reply, job_of w job')
               → step (pack_of d) serial t (Calls n (In ch a) moment) ≡ (reply, state_of files w jobs')
           row_goes job' reply jobs' set is =
-              called d jobs n (In ch a) moment serial files w timely job here
+              called (pack_of d) jobs n (In ch a) moment serial files w timely job here
               ∙ on_row t n w job job' ch c reply (λ x. reads (job_of w job) ch x a) there is
               ∙ ap (λ s. (reply, s)) (job_set files w jobs n job' ∙ ap (state_of files w) (sym set))

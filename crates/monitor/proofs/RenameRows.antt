@@ -60,7 +60,7 @@ module _ (d : DiskState) (files : Files Version) (w : UnderKeys) (jobs : List (O
   asks : (serial : ℕ) → step (pack_of d) serial t (Calls n (Rename number e) moment)
       ≡ of_files t n (by_answer (rename_from (pack_of d) t j e old))
   asks serial =
-      called d jobs n (Rename number e) moment serial files w timely job there
+      called (pack_of d) jobs n (Rename number e) moment serial files w timely job there
       ∙ ap (λ o. on_channel t o (λ c. of_files t n (renames (pack_of d) t j number c e)))
       (channel_is w job number (Some channel) is_open)
       ∙ (λ i. of_files t n (by_sides (inside i) (side i) (free i)))

@@ -43,14 +43,14 @@ module _ (d : DiskState) (map : VolumeCore) (failed : Bool) (jobs : List (Option
   -- nobody calls
   pub nobody_asks : d.honest → slot jobs n ≡ None → Answered map jobs NoJob
   nobody_asks honest none =
-      stays NoJob (λ serial files w. no_job d jobs n call moment serial files w (timely honest) none)
+      stays NoJob (λ serial files w. no_job (pack_of d) jobs n call moment serial files w (timely honest) none)
 
   pub nobody : d.honest → (jobs' : List (Option Job)) → AreKeyed map.pending jobs → AreReading map.live jobs → slot jobs n ≡ None
       → jobs' ≡ jobs → Answered map jobs' NoJob
   nobody honest jobs' keyed reading none same =
       subst (λ js. Answered map js NoJob) (sym same)
       (row d map map failed jobs jobs keyed reading (leaves_none map) (pack_of d) (Calls n call moment) NoJob
-      (λ serial files w. no_job d jobs n call moment serial files w (timely honest) none) serves)
+      (λ serial files w. no_job (pack_of d) jobs n call moment serial files w (timely honest) none) serves)
 
   -- a row of the job alone
   pub row_is : d.honest → (jobs' : List (Option Job)) (job job' : Job) (reply : Reply) → slot jobs n ≡ Some job
@@ -58,7 +58,7 @@ module _ (d : DiskState) (map : VolumeCore) (failed : Bool) (jobs : List (Option
       → (serial : ℕ) (files : Files Version) (w : UnderKeys)
       → step (pack_of d) serial (state_of files w jobs) (Calls n call moment) ≡ (reply, state_of files w jobs')
   row_is honest jobs' job job' reply there set is serial files w =
-      called d jobs n call moment serial files w (timely honest) job there
+      called (pack_of d) jobs n call moment serial files w (timely honest) job there
       ∙ is (pack_of d) serial (state_of files w jobs) n w moment (slot_of w jobs n (Some job) there)
       ∙ ap (λ s. (reply, s)) (job_set files w jobs n job' ∙ ap (state_of files w) (sym set))
 

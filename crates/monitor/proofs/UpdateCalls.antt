@@ -334,7 +334,7 @@ module _ (d : DiskState) (map map' : VolumeCore) (jobs jobs' : List (Option Job)
       row_is : (serial : ℕ) → step (pack_of d) serial t (Calls n (Enter ch e) moment)
           ≡ (Done, state_of s.files w jobs')
       row_is serial =
-          called d jobs n (Enter ch e) moment serial s.files w (timely honest) job there
+          called (pack_of d) jobs n (Enter ch e) moment serial s.files w (timely honest) job there
           ∙ ap (λ o. on_channel t o (λ y. of_job t n (enter (pack_of d) t (job_of w job) ch y e moment)))
           (channel_is w job ch (Some c) is.there)
           ∙ ap (of_job t n)

@@ -1,6 +1,6 @@
 ghost use Rattle.std.specs.Prelude.{◌≡◌, ◌↔◌, ℕ, false, Some, None, slice_set, IsTrue, IsFalse};
 ghost use Rattle.meaning.specs.Jobs.{slot};
-ghost use Rattle.meaning.specs.Layouts.{layout_number, pack_of};
+ghost use Rattle.meaning.specs.Layouts.{layout_number, pack_in, pack_of};
 ghost use Rattle.meaning.specs.Runs.{Service, Answers};
 ghost use Rattle.meaning.specs.declared.call.Call.TheVariants.{Reset};
 ghost use Rattle.meaning.specs.declared.call.Event.TheVariants.{Call as Calls};
@@ -62,10 +62,16 @@ impl<D: Disk> Monitor<D> {
     ///
     /// The answer is `Done`; `DateRange` for a date that the layout of the disk can't hold; `NoJob` where no job of that number is logged in; or `Failed`. It wants no memory and touches no disk.
     pub fn reset(&mut self, job: u32, moment: Moment) -> Reply
-        ensures answered { (old : Service)
+        ensures answered { (D.state self.old.disk).honest → (old : Service)
             → Serves (D.state self.old.disk) self.old.map self.old.failed self.old.jobs old
             → (new : Service) × Serves (D.state self.new.disk) self.new.map self.new.failed self.new.jobs new
             × Answers (pack_of (D.state self.old.disk)) old (Calls job Reset moment) result new }
+        // The same on every disk, in the layout in which it was opened.
+        ensures in_layout { (old : Service)
+            → Serves (D.state self.old.disk) self.old.map self.old.failed self.old.jobs old
+            → (new : Service) × Serves (D.state self.new.disk) self.new.map self.new.failed self.new.jobs new
+            × Answers (pack_in (layout_number self.old.layout) (D.state self.old.disk).size) old
+            (Calls job Reset moment) result new }
         ensures kept { self.new ≡ record self.old { map = self.new.map; jobs = self.new.jobs } }
         ensures failed { result ≡ Failed ↔ IsTrue self.old.failed }
         ensures value { self.old.failed ≡ false
