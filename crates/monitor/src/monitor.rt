@@ -23,7 +23,8 @@ use std::alloc::Global;
 use std::marker::Model;
 use volume::Volume;
 
-/// A service over the files of one disk: a volume, and the jobs that are logged in.
+/// A service over the files of one disk: a volume, and the jobs that are logged in. Contracts see it as one value
+/// (`MonitorState`): the disk, what is known of it, whether it has failed, the jobs, and the layout of the disk.
 #[derive(Drop)]
 pub struct Monitor<D: Disk> {
     pub(crate) volume: Volume<D>,
@@ -92,6 +93,7 @@ impl<D: Disk> Monitor<D> {
             → (D.state refused.1).failures ≡ (D.state disk).failures) }
     {
         let volume = Volume::open(alloc, disk)?;
+        let _layout = volume.layout(); // which says that it is the disk's
         match Jobs::new(alloc) {
             Ok(jobs) => Ok(Monitor { volume, jobs }),
             Err(NoMemory) => Err((StartError::NoMemory, volume.into_disk())),
