@@ -1,5 +1,5 @@
 -- Dates that a layout holds: the last one, those of files, and their high bits in the words of a core.
-use Rattle.std.proofs.Common.{◌≡◌, ◌<◌, ◌≤◌, ◌+◌, ◌*◌, ◌/◌, ◌^◌, ℕ, Bool, true, false, List, [], ◌∷◌, Option, None, Some}
+use Rattle.std.proofs.Common.{◌≡◌, ◌<◌, ◌≤◌, ◌+◌, ◌-◌, ◌*◌, ◌/◌, ◌^◌, ℕ, Bool, true, false, List, [], ◌∷◌, Option, None, Some}
 use Rattle.std.proofs.Common.{refl, sym, ap, subst, ◌∙◌, arith}
 use Rattle.std.specs.Prelude.{◌==◌, if◌then◌else◌, slice_index, option_map}
 use Rattle.std.specs.Cmp.{nat_cmp_total}
@@ -24,14 +24,14 @@ use Rattle.monitor.proofs.Growths.{shown_at}
 
 -- The last date of a layout.
 
-last_below : (b : Bool) (date : ℕ) → date ≤ (if b then 4095 else 32767) → date < (if b then 2 ^ 12 else 2 ^ 15)
+last_below : (b : Bool) (date : ℕ) → date ≤ (if b then 2 ^ 12 - 1 else 2 ^ 15 - 1) → date < (if b then 2 ^ 12 else 2 ^ 15)
 last_below true date h = omega arith
 last_below false date h = omega arith
 
 pub in_time : (layout date : ℕ) → date ≤ last_date layout → date < date_limit layout
 in_time layout date = last_below (layout == 1) date
 
-last_of : (b : Bool) (n : ℕ) → n + 1 ≡ (if b then 2 ^ 12 else 2 ^ 15) → n ≡ (if b then 4095 else 32767)
+last_of : (b : Bool) (n : ℕ) → n + 1 ≡ (if b then 2 ^ 12 else 2 ^ 15) → n ≡ (if b then 2 ^ 12 - 1 else 2 ^ 15 - 1)
 last_of true n h = omega arith
 last_of false n h = omega arith
 

@@ -323,14 +323,16 @@ fn begin_at<D: Disk>(
     }
 }
 
-/// The three high bits of a date, in the highest bits of half a word. A layout without them has no date that sets one.
+/// The three high bits of a date, in the highest bits of half a word. They come from the date alone: where a layout has
+/// no place for them no date sets one.
 pub fn high_date(moment: Moment) -> Half
     ensures { result ≡ high_date 2 moment.date }
 {
     Half::from_bits(moment.date / 4096 << 15)
 }
 
-/// Puts the attributes of a version that is begun into the second and third of the words at an address.
+/// Puts the attributes of a version that is begun into the second and third of the words at an address: the high bits
+/// of its date behind the extension.
 pub fn put_attributes(core: &mut Core, address: u32, prime: &Prime)
     requires { address + 4 ≤ 0o400000 }
     ensures { core.new ≡ with_attributes 2 core.old address (file_begun prime.now) }
@@ -341,7 +343,8 @@ pub fn put_attributes(core: &mut Core, address: u32, prime: &Prime)
 }
 
 /// ENTER: opens an output side for the file that the four words at an address name: a new one, or one that will
-/// take the place of the file of that name. Its attributes are put into the words. The channel reads nothing.
+/// take the place of the file of that name. Its attributes are put into the words, with its whole date. The channel
+/// reads nothing.
 fn enter<D: Disk>(
     alloc: Global,
     volume: &mut Volume<D>,

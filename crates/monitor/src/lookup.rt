@@ -186,7 +186,8 @@ fn size_of(facts: &FileFacts) -> Half
     }
 }
 
-/// Puts the attributes of a file and its size into the second, third and fourth of the words at an address.
+/// Puts the attributes of a file and its size into the second, third and fourth of the words at an address: the high
+/// bits of its date behind the extension.
 pub fn put_found(core: &mut Core, address: u32, facts: &FileFacts)
     requires { address + 4 ≤ 0o400000 }
     ensures { (file : File) → IsShown file facts.now → HasShortFacts file
