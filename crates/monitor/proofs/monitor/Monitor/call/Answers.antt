@@ -19,8 +19,8 @@ use Rattle.monitor.proofs.Dates.{late_in, timely_in}
 use Rattle.monitor.specs.Refusals.{IsRefused}
 use Rattle.monitor.proofs.monitor.Monitor.call.Goals as goal
 
-pub returns-then-moment-gt-last_date-clause-answered : goal.returns-then-moment-gt-last_date-clause-answered
-returns-then-moment-gt-last_date-clause-answered g c =
+pub returns-then-moment-last_date-clause-answered : goal.returns-then-moment-last_date-clause-answered
+returns-then-moment-last_date-clause-answered g c =
     let d = g.D.Disk.state c.self.inside.volume.disk in
     let v = c.self.inside.volume in
     let alive = sym c.has_failed.ensures.value ∙ c.if-has_failed.false in
@@ -31,7 +31,7 @@ returns-then-moment-gt-last_date-clause-answered g c =
     (λ h old serves. called_late (pack_of d) d v.core v.failed c.self.inside.jobs c.args.job c.args.call.now
     c.args.moment alive (late_in (pack_of d).layout c.last_date.result c.args.moment.date
     (subst (λ (n : ℕ). c.last_date.result + 1 ≡ date_limit n) (c.layout-layout.ensures.disk h alive)
-    c.last_date.ensures) c.if-moment-gt-last_date.true)
+    c.last_date.ensures) c.if-moment-last_date.true)
     (c.self.invariant alive).0 (c.self.invariant alive).2 old serves)
 
 pub returns-clause-answered : goal.returns-clause-answered
@@ -52,8 +52,8 @@ returns-then-has_failed-clause-crash g c h s serves =
     untouched_event g.D.Disk.state g.met.D.Disk.only_now m.disk m.disk refl m.map m.jobs
     (Calls c.args.job c.args.call.now c.args.moment) Failed h s serves.1
 
-pub returns-then-moment-gt-last_date-clause-crash : goal.returns-then-moment-gt-last_date-clause-crash
-returns-then-moment-gt-last_date-clause-crash g c h s serves =
+pub returns-then-moment-last_date-clause-crash : goal.returns-then-moment-last_date-clause-crash
+returns-then-moment-last_date-clause-crash g c h s serves =
     let m = c.args.self.now in
     untouched_event g.D.Disk.state g.met.D.Disk.only_now m.disk m.disk refl m.map m.jobs
     (Calls c.args.job c.args.call.now c.args.moment) DateRange h s serves.1
@@ -117,8 +117,8 @@ returns-clause-apart g c =
     let led = c.serve.ensures.serving.answered h (Serving s) (refl, serves.1) in
     apart after (pack_of d) s c.args.job c.args.moment c.serve.result c.args.call.now led.0 led.1 led.2)
 
-pub returns-then-moment-gt-last_date-clause-apart : goal.returns-then-moment-gt-last_date-clause-apart
-returns-then-moment-gt-last_date-clause-apart g c =
+pub returns-then-moment-last_date-clause-apart : goal.returns-then-moment-last_date-clause-apart
+returns-then-moment-last_date-clause-apart g c =
     subst (λ m. (g.D.Disk.state m.disk).honest → (s : State)
     → Serves (g.D.Disk.state m.disk) m.map m.failed m.jobs (Serving s)
     → IsApart (Serves (g.D.Disk.state m.disk) m.map m.failed m.jobs) (pack_of (g.D.Disk.state m.disk))
@@ -130,7 +130,7 @@ returns-then-moment-gt-last_date-clause-apart g c =
     let led = called_late (pack_of d) d m.volume.core m.volume.failed m.jobs c.args.job c.args.call.now c.args.moment
     alive (late_in (pack_of d).layout c.last_date.result c.args.moment.date
     (subst (λ (n : ℕ). c.last_date.result + 1 ≡ date_limit n) (c.layout-layout.ensures.disk h alive)
-    c.last_date.ensures) c.if-moment-gt-last_date.true)
+    c.last_date.ensures) c.if-moment-last_date.true)
     (c.self.invariant alive).0 (c.self.invariant alive).2 (Serving s) serves in
     apart (Serves d m.volume.core m.volume.failed m.jobs) (pack_of d) s c.args.job c.args.moment DateRange
     c.args.call.now led.0 led.1 led.2)
@@ -150,4 +150,4 @@ serve-requires-clause-timely g c h =
     timely_in (pack_of d).layout c.last_date.result c.args.moment.date
     (subst (λ (n : ℕ). c.last_date.result + 1 ≡ date_limit n)
     (c.layout-layout.ensures.disk h (sym c.has_failed.ensures.value ∙ c.if-has_failed.false)) c.last_date.ensures)
-    c.if-moment-gt-last_date.false
+    c.if-moment-last_date.false

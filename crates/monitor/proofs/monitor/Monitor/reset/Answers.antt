@@ -12,8 +12,8 @@ use Rattle.monitor.proofs.Dropped.{leaves_none}
 use Rattle.monitor.proofs.Resetting.{reset_row, nobody_row, reset_leads}
 use Rattle.monitor.proofs.monitor.Monitor.reset.Goals as goal
 
-pub returns-then-moment-gt-last_date-clause-answered : goal.returns-then-moment-gt-last_date-clause-answered
-returns-then-moment-gt-last_date-clause-answered g c =
+pub returns-then-moment-last_date-clause-answered : goal.returns-then-moment-last_date-clause-answered
+returns-then-moment-last_date-clause-answered g c =
     let v = c.self.inside.volume in
     let jobs = c.self.inside.jobs in
     let alive = sym c.has_failed.ensures.value ∙ c.if-has_failed.false in
@@ -27,10 +27,10 @@ returns-then-moment-gt-last_date-clause-answered g c =
     (λ serial files w. late (pack_of (state v.disk)) jobs c.args.job Reset c.args.moment serial files w
     (late_in (pack_of (state v.disk)).layout c.last_date.result c.args.moment.date
     (subst (λ (n : ℕ). c.last_date.result + 1 ≡ date_limit n) (c.layout-layout.ensures.disk h alive)
-    c.last_date.ensures) c.if-moment-gt-last_date.true)))
+    c.last_date.ensures) c.if-moment-last_date.true)))
 
-pub returns-then-moment-gt-last_date-clause-in_layout : goal.returns-then-moment-gt-last_date-clause-in_layout
-returns-then-moment-gt-last_date-clause-in_layout g c =
+pub returns-then-moment-last_date-clause-in_layout : goal.returns-then-moment-last_date-clause-in_layout
+returns-then-moment-last_date-clause-in_layout g c =
     let v = c.self.inside.volume in
     let jobs = c.self.inside.jobs in
     let alive = sym c.has_failed.ensures.value ∙ c.if-has_failed.false in
@@ -45,7 +45,7 @@ returns-then-moment-gt-last_date-clause-in_layout g c =
     (λ serial files w. late (pack_in (layout_number v.layout) (state v.disk).size) jobs c.args.job Reset c.args.moment
     serial files w (late_in (layout_number v.layout) c.last_date.result c.args.moment.date
     (subst (λ l. c.last_date.result + 1 ≡ date_limit (layout_number l)) c.layout-layout.ensures.value
-    c.last_date.ensures) c.if-moment-gt-last_date.true)))
+    c.last_date.ensures) c.if-moment-last_date.true)))
 
 pub returns-then-not-reset-clause-answered : goal.returns-then-not-reset-clause-answered
 returns-then-not-reset-clause-answered g c =
@@ -64,7 +64,7 @@ returns-then-not-reset-clause-answered g c =
     (nobody_row (pack_of (state v.disk)) jobs c.reset.new.jobs c.args.job c.args.moment
     (timely_in (pack_of (state v.disk)).layout c.last_date.result c.args.moment.date
     (subst (λ (n : ℕ). c.last_date.result + 1 ≡ date_limit n) (c.layout-layout.ensures.disk h alive)
-    c.last_date.ensures) c.if-moment-gt-last_date.false) none.0 none.1))
+    c.last_date.ensures) c.if-moment-last_date.false) none.0 none.1))
 
 pub returns-then-not-reset-clause-in_layout : goal.returns-then-not-reset-clause-in_layout
 returns-then-not-reset-clause-in_layout g c =
@@ -84,7 +84,7 @@ returns-then-not-reset-clause-in_layout g c =
     (nobody_row (pack_in (layout_number v.layout) (state v.disk).size) jobs c.reset.new.jobs c.args.job c.args.moment
     (timely_in (layout_number v.layout) c.last_date.result c.args.moment.date
     (subst (λ l. c.last_date.result + 1 ≡ date_limit (layout_number l)) c.layout-layout.ensures.value
-    c.last_date.ensures) c.if-moment-gt-last_date.false) none.0 none.1))
+    c.last_date.ensures) c.if-moment-last_date.false) none.0 none.1))
 
 pub returns-clause-answered : goal.returns-clause-answered
 returns-clause-answered g c =
@@ -102,7 +102,7 @@ returns-clause-answered g c =
     (reset_row (pack_of (state v.disk)) jobs c.reset.new.jobs c.args.job c.args.moment
     (timely_in (pack_of (state v.disk)).layout c.last_date.result c.args.moment.date
     (subst (λ (n : ℕ). c.last_date.result + 1 ≡ date_limit n) (c.layout-layout.ensures.disk h alive)
-    c.last_date.ensures) c.if-moment-gt-last_date.false) (c.reset.ensures.found c.if-not-reset.false)))
+    c.last_date.ensures) c.if-moment-last_date.false) (c.reset.ensures.found c.if-not-reset.false)))
 
 pub returns-clause-in_layout : goal.returns-clause-in_layout
 returns-clause-in_layout g c =
@@ -121,4 +121,4 @@ returns-clause-in_layout g c =
     (reset_row (pack_in (layout_number v.layout) (state v.disk).size) jobs c.reset.new.jobs c.args.job c.args.moment
     (timely_in (layout_number v.layout) c.last_date.result c.args.moment.date
     (subst (λ l. c.last_date.result + 1 ≡ date_limit (layout_number l)) c.layout-layout.ensures.value
-    c.last_date.ensures) c.if-moment-gt-last_date.false) (c.reset.ensures.found c.if-not-reset.false)))
+    c.last_date.ensures) c.if-moment-last_date.false) (c.reset.ensures.found c.if-not-reset.false)))
