@@ -146,13 +146,15 @@ module _ {d d' : DiskState} {c b : VolumeCore} {failed failed' : Bool} {reply : 
         → CrashesAsRow d d' c job (Close number bits)
     close_crashes bits drops publishes_it honest jobs n moment at timely s state =
         crashes_as (Close number bits) moment jobs n job number channel o at there
-        (close_rows d jobs n moment (timely (by.same.was_honest honest)) job at number channel there o side bits drops publishes_it) by live sound
+        (close_rows d jobs n moment (timely (by.same.was_honest honest)) job at number channel there o side bits drops
+        publishes_it) by live sound
         alive honest s state (λ idles. idle idles honest (without_serials s.files) state.files)
 
     pub release_crashes : CrashesAsRow d d' c job (Releas number)
     release_crashes honest jobs n moment at timely s state =
         crashes_as (Releas number) moment jobs n job number channel o at there
-        (release_rows d jobs n moment (timely (by.same.was_honest honest)) job at number channel there o side) by live sound alive honest s state
+        (release_rows d jobs n moment (timely (by.same.was_honest honest)) job at number channel there o side) by live
+        sound alive honest s state
         (λ idles. idle idles honest (without_serials s.files) state.files)
 
   module _ (kept : (reply ≡ Done → ⊥) → job' ≡ left_open job number channel reply)
@@ -175,7 +177,8 @@ module _ {d d' : DiskState} {c b : VolumeCore} {failed failed' : Bool} {reply : 
             → IsPublishRow d d' c c' failed' job job' (Close number bits) reply
         closed_row bits drops publishes_it none set honest placed jobs n moment at timely s state =
             published_answered (Close number bits) moment jobs n job number channel o at there
-            (close_rows d jobs n moment (timely (by.same.was_honest honest)) job at number channel there o side bits drops publishes_it) by live sound
+            (close_rows d jobs n moment (timely (by.same.was_honest honest)) job at number channel there o side bits
+            drops publishes_it) by live sound
             alive honest s state c' job' placed kept behind
             (λ done last found place has serial fresh rests distinct reads. (
               state.under.read,
@@ -187,7 +190,8 @@ module _ {d d' : DiskState} {c b : VolumeCore} {failed failed' : Bool} {reply : 
                         (version_with (state.under.written key) o.next last serial)) state.under
                         (slice_set jobs n (Some job')),
                   )) (sym (state_is s state.under jobs state.jobs_are))
-                  (close_step d jobs n moment (timely (by.same.was_honest honest)) job at number channel there o side bits drops publishes_it s.files
+                  (close_step d jobs n moment (timely (by.same.was_honest honest)) job at number channel there o side
+                  bits drops publishes_it s.files
                   state.under serial last found place (both_closed channel) true (is_some channel.input)
                   (channel_both state.under channel o bits side drops publishes_it serial job none)
                   (rings_marked job.core state.under channel bits true (is_some channel.input)
@@ -199,7 +203,8 @@ module _ {d d' : DiskState} {c b : VolumeCore} {failed failed' : Bool} {reply : 
             → IsPublishRow d d' c c' failed' job job' (Releas number) reply
         released_row set honest placed jobs n moment at timely s state =
             published_answered (Releas number) moment jobs n job number channel o at there
-            (release_rows d jobs n moment (timely (by.same.was_honest honest)) job at number channel there o side) by live sound alive honest s state
+            (release_rows d jobs n moment (timely (by.same.was_honest honest)) job at number channel there o side) by
+            live sound alive honest s state
             c' job' placed kept behind
             (λ done last found place has serial fresh rests distinct reads. (
               state.under.read,
@@ -211,7 +216,8 @@ module _ {d d' : DiskState} {c b : VolumeCore} {failed failed' : Bool} {reply : 
                         (version_with (state.under.written key) o.next last serial)) state.under
                         (slice_set jobs n (Some job')),
                   )) (sym (state_is s state.under jobs state.jobs_are))
-                  (release_step d jobs n moment (timely (by.same.was_honest honest)) job at number channel there o side s.files state.under serial
+                  (release_step d jobs n moment (timely (by.same.was_honest honest)) job at number channel there o side
+                  s.files state.under serial
                   last found place true (is_some channel.input)
                   (rings_marked job.core state.under channel 0 true (is_some channel.input)
                   (ends_output state.under channel o 0 side refl) (ends_input state.under channel 0 refl) refl) job'
@@ -285,7 +291,8 @@ module _ {d d' : DiskState} {c b : VolumeCore} {failed failed' : Bool} {reply : 
                 (length last)) jobs_same ∙ finds
 
             renewed_goes : GoesOn (Close number bits) moment jobs n job number channel o at there
-                (close_rows d jobs n moment (timely (by.same.was_honest honest)) job at number channel there o side bits drops publishes_it) by live
+                (close_rows d jobs n moment (timely (by.same.was_honest honest)) job at number channel there o side
+                bits drops publishes_it) by live
                 sound alive honest s state c' job' last serial
             renewed_goes = (
               with_read w.read h.renewed.pin.key x,
@@ -294,7 +301,8 @@ module _ {d d' : DiskState} {c b : VolumeCore} {failed failed' : Bool} {reply : 
               subst (λ t. step (pack_of d) serial t (Calls n (Close number bits) moment)
                   ≡ (Done, state_of files' u (slice_set jobs n (Some job'))))
                   (sym (state_is s u jobs (state.jobs_are ∙ sym jobs_same)))
-                  (close_step d jobs n moment (timely (by.same.was_honest honest)) job at number channel there o side bits drops publishes_it s.files
+                  (close_step d jobs n moment (timely (by.same.was_honest honest)) job at number channel there o side
+                  bits drops publishes_it s.files
                   u serial last found finds_still (output_closed channel h.renewed) true false
                   (channel_renewed u channel o bits side drops publishes_it serial job last found input h.renewed
                   reads_it keeps pin_only protected
@@ -307,7 +315,8 @@ module _ {d d' : DiskState} {c b : VolumeCore} {failed failed' : Bool} {reply : 
         pub renewed_row : IsPublishRow d d' c c' failed' job job' (Close number bits) reply
         renewed_row honest placed jobs n moment at timely s state =
             published_answered (Close number bits) moment jobs n job number channel o at there
-            (close_rows d jobs n moment (timely (by.same.was_honest honest)) job at number channel there o side bits drops publishes_it) by live sound
+            (close_rows d jobs n moment (timely (by.same.was_honest honest)) job at number channel there o side bits
+            drops publishes_it) by live sound
             alive honest s state c' job' placed kept behind
             (λ done last found place has serial fresh rests distinct reads. renewed_goes jobs n moment at timely s state
             honest last found place serial has (holds done) rests distinct reads) unchanged

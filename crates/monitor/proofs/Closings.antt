@@ -121,5 +121,6 @@ module _ (d : DiskState) (c c' : VolumeCore) (failed : Bool) (jobs jobs' : List 
       → (new : Service) × Serves d c' failed jobs' new × Answers (pack_of d) old (Calls n call moment) reply new
   dropping_answered honest reply keyed reading leaves is =
       row d c c' failed jobs jobs' (dropping_keyed keyed) (dropping_reading reading) leaves (pack_of d)
-      (Calls n call moment) reply (row_is d c failed jobs n call moment alive timely honest jobs' job job' reply there set is)
+      (Calls n call moment) reply (row_is d c failed jobs n call moment alive timely honest jobs' job job' reply there
+      set is)
       alive

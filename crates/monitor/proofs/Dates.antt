@@ -1,5 +1,6 @@
 -- Dates that a layout holds: the last one, those of files, and their high bits in the words of a core.
-use Rattle.std.proofs.Common.{◌≡◌, ◌<◌, ◌≤◌, ◌+◌, ◌-◌, ◌*◌, ◌/◌, ◌^◌, ℕ, Bool, true, false, List, [], ◌∷◌, Option, None, Some}
+use Rattle.std.proofs.Common.{◌≡◌, ◌<◌, ◌≤◌, ◌+◌, ◌-◌, ◌*◌, ◌/◌, ◌^◌, ℕ, Bool, true, false, List, [], ◌∷◌, Option, None}
+use Rattle.std.proofs.Common.{Some}
 use Rattle.std.proofs.Common.{refl, sym, ap, subst, ◌∙◌, arith}
 use Rattle.std.specs.Prelude.{◌==◌, if◌then◌else◌, slice_index, option_map}
 use Rattle.std.specs.Cmp.{nat_cmp_total}
@@ -24,7 +25,8 @@ use Rattle.monitor.proofs.Growths.{shown_at}
 
 -- The last date of a layout.
 
-last_below : (b : Bool) (date : ℕ) → date ≤ (if b then 2 ^ 12 - 1 else 2 ^ 15 - 1) → date < (if b then 2 ^ 12 else 2 ^ 15)
+last_below : (b : Bool) (date : ℕ) → date ≤ (if b then 2 ^ 12 - 1 else 2 ^ 15 - 1)
+    → date < (if b then 2 ^ 12 else 2 ^ 15)
 last_below true date h = omega arith
 last_below false date h = omega arith
 

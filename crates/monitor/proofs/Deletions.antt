@@ -168,7 +168,8 @@ module _ {D : Type 0} (state : D → DiskState) (only_now : (disk : D) (contents
         ≡ (replies.Done, state_of (without_file s.files place) w (slice_set jobs n (Some closed)))
     step_done serial = subst (λ t. step (pack_of d) serial t (Calls n (Rename number e) moment)
         ≡ (replies.Done, state_of (without_file s.files place) w (slice_set jobs n (Some closed)))) (sym before_is)
-        (row_done d s.files w jobs n job among.there number e moment (timely honest) channel is_open input side free inside
+        (row_done d s.files w jobs n job among.there number e moment (timely honest) channel is_open input side free
+        inside
         answer serial
         ∙ ap (λ b. (
           replies.Done,

@@ -68,7 +68,8 @@ module _ (d : DiskState) (map : VolumeCore) (failed : Bool) (jobs jobs' : List (
         (state_of s.files state.under jobs') serves state.sound
         (λ serial. subst (λ x. step (pack_of d) serial x (Calls n (Enter ch e) moment)
         ≡ (reply, state_of s.files state.under jobs')) (sym before_is)
-        (called (pack_of d) jobs n (Enter ch e) moment serial s.files state.under (timely honest) job there ∙ steps serial
+        (called (pack_of d) jobs n (Enter ch e) moment serial s.files state.under (timely honest) job there ∙ steps
+        serial
         ∙ ap (λ x. (reply, x)) (job_set s.files state.under jobs n job' ∙ ap (state_of s.files state.under) (sym set))))
         (same_files d map map failed jobs jobs' other_keyed other_reading (leaves_none map) s state)
 
@@ -94,7 +95,8 @@ module _ (d : DiskState) (map : VolumeCore) (failed : Bool) (jobs jobs' : List (
         wants.0,
         sym unchanged,
         ap (λ y. is_plain ((step (pack_of d) 0 y (Calls n (Enter ch e) moment)).0)) before_is
-            ∙ ap (λ r. is_plain r.0) (called (pack_of d) jobs n (Enter ch e) moment 0 s.files state.under (timely honest) job there)
+            ∙ ap (λ r. is_plain r.0) (called (pack_of d) jobs n (Enter ch e) moment 0 s.files state.under
+            (timely honest) job there)
             ∙ ap (λ o. is_plain ((row_for o).0)) at
             ∙ ap is_plain (settled_reply (enter_answer (pack_of d) before (job_of state.under job) x e
             (place_at (job_of state.under job) e)) _ _) ∙ wants.1,

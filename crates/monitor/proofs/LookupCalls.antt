@@ -225,7 +225,8 @@ module _ (d : DiskState) (map : VolumeCore) (jobs jobs' : List (Option Job)) (n 
     (ch e : ℕ) (moment : Moment) (reply : Reply)
     (there : slot jobs n ≡ Some job) (set : jobs' ≡ slice_set jobs n (Some job')) (not_done : reply ≡ Done
     → ⊥) (keyed : AreKeyed map.pending jobs') (reading : AreReading map.live jobs') where
-  module _ (timely : moment.date ≤ last_date (pack_of d).layout) (s : State) (state : IsState d map jobs s) (known : IsKnown d map s)
+  module _ (timely : moment.date ≤ last_date (pack_of d).layout) (s : State) (state : IsState d map jobs s)
+      (known : IsKnown d map s)
       (row : (s : State) → IsKnown d map s → (w : UnderKeys)
       → IsLookupRow s (job_of w job) (job_of w job') (channel_at (job_of w job) ch) e reply) where
     abbrev before : State

@@ -199,7 +199,8 @@ module _ {D : Type 0} (state : D → DiskState) (only_now : (disk : D) (contents
       row answer says fits serial =
           subst (λ y. step (pack_of d) serial y (Calls n (Rename number e) moment)
           ≡ (replies.Done, state_of files' w moved_jobs)) (sym before)
-          (row_done d s.files w jobs n job among.there number e moment (timely honest) channel is_open input side free inside
+          (row_done d s.files w jobs n job among.there number e moment (timely honest) channel is_open input side free
+          inside
           (moves_done d core t here sound honest (job_of w job) e input.ppn input.file to_ppn to (place w) moves
           (changes honest t here w) (comes honest t here w) answer says.answers fits) serial
           ∙ ap (λ fs. (replies.Done, state_of fs w moved_jobs)) files_are)

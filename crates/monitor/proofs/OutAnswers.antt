@@ -86,7 +86,8 @@ module _ {D : Type 0} (state_in : D → DiskState) (disk disk' : D) (map map' : 
       × Answers (pack_of d) old (Calls n (Out ch a) moment) reply new) (sym same.1) (by old stands))
 
   -- a row that needs neither memory nor the disk
-  plain : d.honest → (reply : Reply) → job' ≡ job → Same → failed' ≡ false → IsRow job job (Out ch a) reply → Leads reply
+  plain : d.honest → (reply : Reply) → job' ≡ job → Same → failed' ≡ false → IsRow job job (Out ch a) reply → Leads
+      reply
   plain honest reply is same alive row =
       unmoved reply same alive (alone d map failed jobs n (Out ch a) moment serves timely honest jobs' job job
       reply keyed reading there (set ∙ ap (λ j. slice_set jobs n (Some j)) is) (keeps_same map.pending job)

@@ -138,7 +138,7 @@ module _ (d : DiskState) (map : VolumeCore) (jobs : List (Option Job)) (n : ℕ)
 
 -- The words are put.
 module _ (d d' : DiskState) (map map' : VolumeCore) (jobs jobs' : List (Option Job)) (n : ℕ) (job : Job)
-    (there : slot jobs n ≡ Some job) (ch a : ℕ) (moment : Moment) 
+    (there : slot jobs n ≡ Some job) (ch a : ℕ) (moment : Moment)
     (timely : IsTimely d moment) (out : putting.OutgoingSide job ch a)
     (set : jobs' ≡ slice_set jobs n (Some
     (record job {

@@ -132,7 +132,8 @@ module _ {D : Type 0} (state : D → DiskState) (only_now : (disk : D) (contents
   -- A call by which versions are dropped or let go, and which asks for nothing else.
   pub dropping_serves : (disk disk' : D) (core core' : VolumeCore) (failed failed' : Bool) (job job' : Job)
       (call : Call) (moment : Moment) (reply : Reply) → failed ≡ false → (disk' ≡ disk) × (failed' ≡ failed)
-      → ArePlaced core → IsTimely (state disk) moment → IsRow job job' call reply → KeepsSides core.pending core'.pending job job'
+      → ArePlaced core → IsTimely (state disk) moment → IsRow job job' call reply → KeepsSides core.pending
+      core'.pending job job'
       → KeepsReading core.live core'.live job job'
       → OnlyDrops core core' → (reply ≡ Failed → ⊥) × (reply ≡ Device → ⊥) × (reply ≡ NoMemory → ⊥)
       → ((code : ℕ) → reply ≡ Refused code → ⊥) → (IsDecided reply → (core' ≡ core) × (job' ≡ job))

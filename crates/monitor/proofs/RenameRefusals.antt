@@ -105,7 +105,8 @@ module _ {D : Type 0} (state : D → DiskState) (only_now : (disk : D) (contents
       let place = place_of input.ppn input.file in
       subst (λ t. step (pack_of d) serial t (Calls n (Rename number e) moment)
       ≡ (Refused (number_of code), state_of s.files w jobs')) (sym before_is)
-      (row_refused d s.files w jobs n job among.there number e moment (timely honest) channel is_open input side free inside
+      (row_refused d s.files w jobs n job among.there number e moment (timely honest) channel is_open input side free
+      inside
       (number_of code) (subst (λ t. rename_from (pack_of d) t (job_of w job) e place ≡ Refused (number_of code))
       before_is (refuses honest s (known d c jobs s state_s sound honest) w)) serial)
 

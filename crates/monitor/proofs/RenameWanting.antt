@@ -90,7 +90,8 @@ module _ {D : Type 0} (state : D → DiskState) (only_now : (disk : D) (contents
         inr (
           refl,
           refl,
-          rename_undecided d core jobs s is n job among.there number e moment (timely honest) channel is_open input side free
+          rename_undecided d core jobs s is n job among.there number e moment (timely honest) channel is_open input
+              side free
               inside,
           refl,
         ),

@@ -44,7 +44,8 @@ module _ {D : Type 0} (state : D → DiskState) (disk disk' : D) (map map' : Vol
   pub reset_leads : (pack : Pack) (reply : Reply) → ((serial : ℕ) (files : Files Version) (w : UnderKeys)
       → step pack serial (state_of files w jobs) (Calls n Reset moment) ≡ (reply, state_of files w jobs'))
       → (old : Service) → Serves (state disk) map failed jobs old
-      → (new : Service) × Serves (state disk') map' failed' jobs' new × Answers pack old (Calls n Reset moment) reply new
+      → (new : Service) × Serves (state disk') map' failed' jobs' new × Answers pack old (Calls n Reset moment) reply
+      new
   reset_leads pack reply steps old serves =
       on_disk state disk disk' failed failed' map' jobs' (Answers pack old (Calls n Reset moment) reply) untouched
       (row (state disk) map map' failed jobs jobs' keyed reading leaves pack (Calls n Reset moment) reply steps alive

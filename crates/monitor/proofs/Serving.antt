@@ -45,7 +45,8 @@ module _ (d : DiskState) (map : VolumeCore) (failed : Bool) (jobs : List (Option
   nobody_asks honest none =
       stays NoJob (λ serial files w. no_job (pack_of d) jobs n call moment serial files w (timely honest) none)
 
-  pub nobody : d.honest → (jobs' : List (Option Job)) → AreKeyed map.pending jobs → AreReading map.live jobs → slot jobs n ≡ None
+  pub nobody : d.honest → (jobs' : List (Option Job)) → AreKeyed map.pending jobs → AreReading map.live jobs → slot
+      jobs n ≡ None
       → jobs' ≡ jobs → Answered map jobs' NoJob
   nobody honest jobs' keyed reading none same =
       subst (λ js. Answered map js NoJob) (sym same)
@@ -63,8 +64,10 @@ module _ (d : DiskState) (map : VolumeCore) (failed : Bool) (jobs : List (Option
       ∙ ap (λ s. (reply, s)) (job_set files w jobs n job' ∙ ap (state_of files w) (sym set))
 
   -- the job stays as it is
-  pub asks : d.honest → (job : Job) (reply : Reply) → slot jobs n ≡ Some job → IsRow job job call reply → Answered map jobs reply
-  asks honest job reply there is = stays reply (row_is honest jobs job job reply there (sym (set-slot jobs n job there)) is)
+  pub asks : d.honest → (job : Job) (reply : Reply) → slot jobs n ≡ Some job → IsRow job job call reply → Answered map
+      jobs reply
+  asks honest job reply there is =
+      stays reply (row_is honest jobs job job reply there (sym (set-slot jobs n job there)) is)
 
   pub alone_keyed : (jobs' : List (Option Job)) (job job' : Job) → AreKeyed map.pending jobs → slot jobs n ≡ Some job
       → jobs' ≡ slice_set jobs n (Some job') → KeepsSides map.pending map.pending job job' → AreKeyed map.pending jobs'

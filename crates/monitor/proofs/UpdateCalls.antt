@@ -367,7 +367,8 @@ module _ (d : DiskState) (map map' : VolumeCore) (jobs jobs' : List (Option Job)
           ∙ ap (λ core. (
             Done,
             with_channel (record (job_of w job) { core = core }) ch (Some (channel_of w now)),
-          )) (ap (λ (x : Writing). with_attributes (pack_of d).layout job.core e x.file) (with_same state.under key new_writing)
+          )) (ap (λ (x : Writing). with_attributes (pack_of d).layout job.core e x.file)
+          (with_same state.under key new_writing)
           ∙ attributes_are)
           ∙ ap (λ j. (Done, j))
           (channel_set w (record job { core = with_attributes 2 job.core e (file_begun is.version.prime) })

@@ -73,4 +73,5 @@ ServesJob state disk disk' core core' failed' job job' call moment reply =
 abbrev pub ServesAlways : {D : Type 0} → (D → DiskState) → (disk disk' : D) → (core core' : VolumeCore)
     → (failed' : Bool) → (job job' : Job) → Call → Reply → Type 0
 ServesAlways state disk disk' core core' failed' job job' call reply =
-    (moment : Moment) → IsTimely (state disk) moment → ServesJob state disk disk' core core' failed' job job' call moment reply
+    (moment : Moment) → IsTimely (state disk) moment → ServesJob state disk disk' core core' failed' job job' call
+    moment reply

@@ -338,7 +338,10 @@ pub fn put_attributes(core: &mut Core, address: u32, prime: &Prime)
     ensures { core.new ≡ with_attributes 2 core.old address (file_begun prime.now) }
 {
     let left = word_at(core, address + 1).left();
-    let _ = core.set_word(address + 1, Word::from_halves(left, high_date(prime.moment)));
+    let _ = core.set_word(
+        address + 1,
+        Word::from_halves(left, high_date(prime.moment)),
+    );
     let _ = core.set_word(address + 2, attributes(prime));
 }
 

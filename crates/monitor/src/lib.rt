@@ -19,9 +19,9 @@
 //!    leaves the state of that row. (`answered`) What every call promises is one record. (`IsServing`) At any moment of
 //!    it a crash leaves the files from before, or those of that row where it is Done or met a fault of the device.
 //!    (`crash`) Which answers, and which calls, leave the disk alone is said beside. (`idle`, `light`) A refusal leaves
-//!    its code, and nothing else. (`refused`) DateRange, NoJob, NoChannel, AddressCheck and NoMemory leave everything as
-//!    it was, on every disk. (`decided`, `memory`) It is DateRange where the layout of the disk can't hold the date,
-//!    on every disk. (`late`)
+//!    its code, and nothing else. (`refused`) DateRange, NoJob, NoChannel, AddressCheck and NoMemory leave everything
+//!    as it was, on every disk. (`decided`, `memory`) A date that the layout of the disk can't hold is DateRange, on
+//!    every disk. (`late`)
 //! 7. Each version that the volume writes belongs to one output side of a job, and may be published under its
 //!    name; each version that is held is held once for each input side that reads it. (`AreKeyed`, `ArePlaced`,
 //!    `AreReading`) What an IN answers and leaves is told by its own job's record, which no other job changes.

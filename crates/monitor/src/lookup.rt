@@ -196,7 +196,10 @@ pub fn put_found(core: &mut Core, address: u32, facts: &FileFacts)
 {
     let left = word_at(core, address + 1).left();
     let zero = Half::from_bits(0);
-    let _ = core.set_word(address + 1, Word::from_halves(left, high_date(facts.moment)));
+    let _ = core.set_word(
+        address + 1,
+        Word::from_halves(left, high_date(facts.moment)),
+    );
     let _ = core.set_word(address + 2, attributes_of(facts));
     let _ = core.set_word(address + 3, Word::from_halves(size_of(facts), zero));
 }

@@ -38,8 +38,13 @@ impl<D: Disk> Model for Monitor<D> {
 
     ghost Value = { MonitorState D };
 
-    ghost view = { λ m. record { disk = m.volume.disk; map = m.volume.core; failed = m.volume.failed; jobs = m.jobs;
-        layout = m.volume.layout } };
+    ghost view = { λ m. record {
+      disk = m.volume.disk;
+      map = m.volume.core;
+      failed = m.volume.failed;
+      jobs = m.jobs;
+      layout = m.volume.layout;
+    } };
 
     // A publication that the device fails leaves core between the two.
     ghost invariant = { λ m. m.volume.failed ≡ false → AreKeyed m.volume.core.pending m.jobs × ArePlaced m.volume.core

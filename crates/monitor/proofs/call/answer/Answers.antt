@@ -14,7 +14,8 @@ returns-in-Open-clause-serving g c =
     said.refused said.decided)
 
 pub returns-in-Rename-clause-serving : goal.returns-in-Rename-clause-serving
-returns-in-Rename-clause-serving g c = as_called c.in-Rename.is (c.serve_rename.ensures.serving c.args.moment c.requires.timely)
+returns-in-Rename-clause-serving g c =
+    as_called c.in-Rename.is (c.serve_rename.ensures.serving c.args.moment c.requires.timely)
 
 pub returns-in-Useti-clause-serving : goal.returns-in-Useti-clause-serving
 returns-in-Useti-clause-serving g c =
@@ -35,7 +36,8 @@ returns-in-Useto-clause-serving g c =
     said.refused said.decided)
 
 pub returns-in-DeleteDir-clause-serving : goal.returns-in-DeleteDir-clause-serving
-returns-in-DeleteDir-clause-serving g c = as_called c.in-DeleteDir.is (c.serve_delete_dir.ensures.serving c.args.moment c.requires.timely)
+returns-in-DeleteDir-clause-serving g c =
+    as_called c.in-DeleteDir.is (c.serve_delete_dir.ensures.serving c.args.moment c.requires.timely)
 
 pub returns-in-Inbuf-clause-serving : goal.returns-in-Inbuf-clause-serving
 returns-in-Inbuf-clause-serving g c =
@@ -65,7 +67,8 @@ returns-in-Getsts-clause-serving g c =
     c.getsts.ensures.only (λ code is. refl) (λ is. refl))
 
 pub returns-in-Lookup-clause-serving : goal.returns-in-Lookup-clause-serving
-returns-in-Lookup-clause-serving g c = as_called c.in-Lookup.is (c.serve_lookup.ensures.serving c.args.moment c.requires.timely)
+returns-in-Lookup-clause-serving g c =
+    as_called c.in-Lookup.is (c.serve_lookup.ensures.serving c.args.moment c.requires.timely)
 
 pub returns-in-Enter-clause-serving : goal.returns-in-Enter-clause-serving
 returns-in-Enter-clause-serving g c = as_called c.in-Enter.is c.serve_enter.ensures.serving
@@ -77,13 +80,17 @@ pub returns-in-Out-clause-serving : goal.returns-in-Out-clause-serving
 returns-in-Out-clause-serving g c = as_called c.in-Out.is (c.serve_out.ensures.serving c.args.moment c.requires.timely)
 
 pub returns-in-Close-clause-serving : goal.returns-in-Close-clause-serving
-returns-in-Close-clause-serving g c = as_called c.in-Close.is (c.serve_close.ensures.serving c.args.moment c.requires.timely)
+returns-in-Close-clause-serving g c =
+    as_called c.in-Close.is (c.serve_close.ensures.serving c.args.moment c.requires.timely)
 
 pub returns-in-Releas-clause-serving : goal.returns-in-Releas-clause-serving
-returns-in-Releas-clause-serving g c = as_called c.in-Releas.is (c.serve_release.ensures.serving c.args.moment c.requires.timely)
+returns-in-Releas-clause-serving g c =
+    as_called c.in-Releas.is (c.serve_release.ensures.serving c.args.moment c.requires.timely)
 
 pub returns-in-Reset-clause-serving : goal.returns-in-Reset-clause-serving
-returns-in-Reset-clause-serving g c = as_called c.in-Reset.is (c.serve_reset.ensures.serving c.args.moment c.requires.timely)
+returns-in-Reset-clause-serving g c =
+    as_called c.in-Reset.is (c.serve_reset.ensures.serving c.args.moment c.requires.timely)
 
 pub returns-in-MakeDir-clause-serving : goal.returns-in-MakeDir-clause-serving
-returns-in-MakeDir-clause-serving g c = as_called c.in-MakeDir.is (c.serve_make_dir.ensures.serving c.args.moment c.requires.timely)
+returns-in-MakeDir-clause-serving g c =
+    as_called c.in-MakeDir.is (c.serve_make_dir.ensures.serving c.args.moment c.requires.timely)

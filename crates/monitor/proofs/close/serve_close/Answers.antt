@@ -22,8 +22,8 @@ pub returns-in-None-clause-serving : goal.returns-in-None-clause-serving
 returns-in-None-clause-serving g c =
     let said = c.close_both.ensures in
     close_serves g.D.Disk.state g.met.D.Disk.only_now c.args.volume.now.disk c.close_both.new.volume.disk
-          c.requires.ready c.in-Some.ensures.some said.published.1 said.idle said.kept said.published.2
-          (sym c.input_kept.ensures ∙ c.in-None.is) said.closed
+    c.requires.ready c.in-Some.ensures.some said.published.1 said.idle said.kept said.published.2
+    (sym c.input_kept.ensures ∙ c.in-None.is) said.closed
 
 pub returns-in-Some-input_kept-clause-serving : goal.returns-in-Some-input_kept-clause-serving
 returns-in-Some-input_kept-clause-serving g c =
@@ -32,8 +32,8 @@ returns-in-Some-input_kept-clause-serving g c =
     let kept = kept_by (keeps_input c.args.bits) c.in-Some.open.input input
     (sym c.input_kept.ensures ∙ c.in-Some-input_kept.is) in
     hold_serves g.D.Disk.state g.met.D.Disk.only_now c.args.volume.now.disk
-          c.close_and_hold.new.volume.disk c.requires.ready c.in-Some.ensures.some said.published.1 said.idle said.kept
-          input kept.1 said.published.2 kept.0
+    c.close_and_hold.new.volume.disk c.requires.ready c.in-Some.ensures.some said.published.1 said.idle said.kept
+    input kept.1 said.published.2 kept.0
 
 pub returns-in_default-clause-serving : goal.returns-in_default-clause-serving
 returns-in_default-clause-serving g c = λ moment timely.

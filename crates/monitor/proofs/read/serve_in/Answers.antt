@@ -46,7 +46,8 @@ returns-clause-serving g c = λ moment timely jobs n among.
       answered = λ h.
           in_answered (state old.disk) (state new.disk) map false jobs n c.args.channel c.args.address
           moment refl timely among.keyed among.reading job job' among.there jobs' refl
-          h (c.read.ensures.same.was_honest h) map' new.failed core (c.read.ensures.only_reads h) (c.read.ensures.rests h) c.read.result
+          h (c.read.ensures.same.was_honest h) map' new.failed core (c.read.ensures.only_reads h)
+          (c.read.ensures.rests h) c.read.result
           c.read.ensures.outcome c.read.ensures.failed;
       crash = quiet_crashes (state old.disk) (state new.disk) map jobs n (In c.args.channel c.args.address) moment
           (λ h. quiet_read (state old.disk) (state new.disk) (c.read.ensures.only_reads h) (c.read.ensures.rests h)

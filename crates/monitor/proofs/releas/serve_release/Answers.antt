@@ -14,8 +14,8 @@ pub returns-in-Some-clause-serving : goal.returns-in-Some-clause-serving
 returns-in-Some-clause-serving g c =
     let said = c.close_both.ensures in
     release_serves g.D.Disk.state g.met.D.Disk.only_now c.args.volume.now.disk
-          c.close_both.new.volume.disk c.requires.ready c.in-Some.ensures.some said.published.1 said.idle said.kept
-          said.published.2 said.closed refl
+    c.close_both.new.volume.disk c.requires.ready c.in-Some.ensures.some said.published.1 said.idle said.kept
+    said.published.2 said.closed refl
 
 pub returns-in-None-clause-serving : goal.returns-in-None-clause-serving
 returns-in-None-clause-serving g c = λ moment timely.

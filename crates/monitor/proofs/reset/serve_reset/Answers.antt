@@ -49,5 +49,6 @@ returns-clause-serving g c = λ moment timely jobs n among.
     row (state old.disk) map map' false jobs jobs' keyed reading c.close_channels.ensures.closed.leaves
     (pack_of (state old.disk)) (Calls n Reset moment) Done
     (reset_row (pack_of (state old.disk)) jobs jobs' n moment
-      (timely (subst (λ x. (state x).honest) c.close_channels.ensures.untouched.0 h)) (job, among.there, ap (λ j. slice_set jobs n (Some j)) is))
+    (timely (subst (λ x. (state x).honest) c.close_channels.ensures.untouched.0 h))
+    (job, among.there, ap (λ j. slice_set jobs n (Some j)) is))
     refl s serves)
