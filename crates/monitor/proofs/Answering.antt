@@ -15,7 +15,7 @@ use Rattle.meaning.specs.Runs.{Service, Serving, Broken, Answers, IsFresh, Steps
 use Rattle.meaning.specs.Outcomes.{settled}
 use Rattle.meaning.specs.Sessions.{login_answer}
 use Rattle.meaning.specs.Sound.{IsSound}
-use Rattle.meaning.specs.Step.{step, call_of, on_job}
+use Rattle.meaning.specs.Step.{step, call_of, on_job, last_date}
 use Rattle.meaning.specs.declared.call.Call.{Call}
 use Rattle.meaning.specs.declared.call.Event.{Event}
 use Rattle.meaning.specs.declared.call.Event.TheVariants.{Login, Call as Calls}
@@ -23,9 +23,10 @@ use Rattle.meaning.specs.declared.call.Reply.{Reply}
 use Rattle.meaning.specs.declared.call.Reply.TheVariants.{Done, Value, Refused, Stopped, NoChannel, AddressCheck, NoJob}
 use Rattle.meaning.specs.declared.call.Reply.TheVariants.{NoMemory, Device, Failed, DateRange}
 use Rattle.meaning.proofs.SoundEvents.{sound_step}
+use Rattle.meaning.specs.Layouts.{pack_of}
 use Rattle.volume.specs.Live.{VolumeCore}
 use Rattle.monitor.specs.Dropping.{OnlyDrops}
-use Rattle.monitor.specs.Serving.{pack_one, IsState, Serves, AreKeyed, AreReading}
+use Rattle.monitor.specs.Serving.{IsState, Serves, AreKeyed, AreReading}
 use Rattle.monitor.specs.Sides.{UnderKeys, job_of, jobs_of, state_of, new_job}
 use Rattle.monitor.specs.declared.job.Job.{Job}
 use Rattle.monitor.proofs.Dropped.{leaves_none}
@@ -199,32 +200,32 @@ pub job_set : (files : Files Version) (w : UnderKeys) (jobs : List (Option Job))
 job_set files w jobs n job = ap (λ js. record { files = files; jobs = js })
     (sym (map-set (option_map (job_of w)) jobs n (Some job)))
 
-module _ (d : DiskState) (jobs : List (Option Job)) (n : ℕ) (call : Call) (moment : Moment) (serial : ℕ)
+module _ (pack : Pack) (jobs : List (Option Job)) (n : ℕ) (call : Call) (moment : Moment) (serial : ℕ)
     (files : Files Version) (w : UnderKeys) where
   abbrev before : State
   before = state_of files w jobs
 
-  pub late : 4095 < moment.date → step (pack_one d) serial before (Calls n call moment) ≡ (DateRange, before)
+  pub late : last_date pack.layout < moment.date → step pack serial before (Calls n call moment) ≡ (DateRange, before)
   late past = ap (λ b. if b then (DateRange, before)
-      else on_job before (job_at before n) (λ job. call_of (pack_one d) serial before n job call moment))
-      (after 4095 moment.date past)
+      else on_job before (job_at before n) (λ job. call_of pack serial before n job call moment))
+      (after (last_date pack.layout) moment.date past)
 
-  asked : moment.date ≤ 4095 → (o : Option Job) → slot jobs n ≡ o
-      → step (pack_one d) serial before (Calls n call moment)
-      ≡ on_job before (option_map (job_of w) o) (λ job. call_of (pack_one d) serial before n job call moment)
+  asked : moment.date ≤ last_date pack.layout → (o : Option Job) → slot jobs n ≡ o
+      → step pack serial before (Calls n call moment)
+      ≡ on_job before (option_map (job_of w) o) (λ job. call_of pack serial before n job call moment)
   asked timely o is =
       ap (λ b. if b then (DateRange, before)
-      else on_job before (job_at before n) (λ job. call_of (pack_one d) serial before n job call moment))
-      (not_after 4095 moment.date timely)
-      ∙ ap (λ o. on_job before o (λ job. call_of (pack_one d) serial before n job call moment)) (slot_of w jobs n o is)
+      else on_job before (job_at before n) (λ job. call_of pack serial before n job call moment))
+      (not_after (last_date pack.layout) moment.date timely)
+      ∙ ap (λ o. on_job before o (λ job. call_of pack serial before n job call moment)) (slot_of w jobs n o is)
 
-  pub no_job : moment.date ≤ 4095 → slot jobs n ≡ None → step (pack_one d) serial before (Calls n call moment)
+  pub no_job : moment.date ≤ last_date pack.layout → slot jobs n ≡ None → step pack serial before (Calls n call moment)
       ≡ (NoJob, before)
   no_job timely none = asked timely None none
 
-  pub called : moment.date ≤ 4095 → (job : Job) → slot jobs n ≡ Some job
-      → step (pack_one d) serial before (Calls n call moment)
-      ≡ call_of (pack_one d) serial before n (job_of w job) call moment
+  pub called : moment.date ≤ last_date pack.layout → (job : Job) → slot jobs n ≡ Some job
+      → step pack serial before (Calls n call moment)
+      ≡ call_of pack serial before n (job_of w job) call moment
   called timely job there = asked timely (Some job) there
 
 -- where nothing stands under any key

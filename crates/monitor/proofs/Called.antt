@@ -4,6 +4,7 @@ use Rattle.std.specs.Prelude.{◌↔◌, IsTrue}
 use Rattle.words36.specs.declared.moment.Moment.{Moment}
 use Rattle.blockdisk.specs.Disk.{DiskState, SameDisk}
 use Rattle.blockdisk.specs.Laws.{same_disk_start}
+use Rattle.meaning.specs.Layouts.{pack_of}
 use Rattle.meaning.specs.Runs.{Service, Answers}
 use Rattle.meaning.specs.declared.call.Event.TheVariants.{Call as Calls}
 use Rattle.meaning.specs.declared.call.Reply.{Reply}
@@ -11,30 +12,34 @@ use Rattle.meaning.specs.declared.call.Reply.TheVariants.{Done, Value, Refused, 
 use Rattle.meaning.specs.declared.call.Reply.TheVariants.{DateRange, NoMemory, Device, Failed}
 use Rattle.volume.specs.Live.{VolumeCore}
 use Rattle.monitor.specs.Events.{IsIdle, IsDecided}
-use Rattle.monitor.specs.Serving.{pack_one, Serves, AreKeyed, AreReading}
+use Rattle.monitor.specs.Serving.{Serves, AreKeyed, AreReading}
 use Rattle.monitor.specs.States.{MonitorState}
 use Rattle.meaning.specs.declared.call.Call.{Call}
 use Rattle.monitor.specs.declared.job.Job.{Job}
 use Rattle.monitor.proofs.Answering.{row, late, contrary}
+use Rattle.meaning.specs.Step.{last_date}
+use Rattle.meaning.specs.declared.layout.Layout.{Layout}
 use Rattle.monitor.proofs.Dropped.{leaves_none}
 
-abbrev pub IsCalled : DiskState → VolumeCore → Bool → List (Option Job) → DiskState → VolumeCore → Bool
-    → List (Option Job) → ℕ → Moment → Reply → Call → Type 0
-IsCalled d map failed jobs d' map' failed' jobs' n moment reply call =
-    (old : Service) → Serves d map failed jobs old → (new : Service)
-    × Serves d' map' failed' jobs' new × Answers (pack_one d) old (Calls n call moment) reply new
-
--- too late for the disk
-pub called_late : (d : DiskState) (map : VolumeCore) (failed : Bool) (jobs : List (Option Job)) (n : ℕ)
-    (call : Call) (moment : Moment) → failed ≡ false → 4095 < moment.date → AreKeyed map.pending jobs
-    → AreReading map.live jobs → IsCalled d map failed jobs d map failed jobs n moment DateRange call
-called_late d map failed jobs n call moment serves past keyed reading =
-    row d map map failed jobs jobs keyed reading (leaves_none map) (pack_one d) (Calls n call moment) DateRange
-    (λ serial files w. late d jobs n call moment serial files w past) serves
+-- A date that the pack can't hold, whatever disk there is.
+pub called_late : (pack : Pack) (d : DiskState) (map : VolumeCore) (failed : Bool) (jobs : List (Option Job)) (n : ℕ)
+    (call : Call) (moment : Moment) → failed ≡ false → last_date pack.layout < moment.date
+    → AreKeyed map.pending jobs
+    → AreReading map.live jobs → (old : Service) → Serves d map failed jobs old
+    → (new : Service) × Serves d map failed jobs new × Answers pack old (Calls n call moment) DateRange new
+called_late pack d map failed jobs n call moment serves past keyed reading =
+    row d map map failed jobs jobs keyed reading (leaves_none map) pack (Calls n call moment) DateRange
+    (λ serial files w. late pack jobs n call moment serial files w past) serves
 
 -- The monitor of these parts.
-abbrev pub all_of : {D : Type 0} → D → VolumeCore → Bool → List (Option Job) → MonitorState D
-all_of disk core failed jobs = record { disk = disk; map = core; failed = failed; jobs = jobs }
+abbrev pub all_of : {D : Type 0} → D → VolumeCore → Bool → List (Option Job) → Layout → MonitorState D
+all_of disk core failed jobs layout = record {
+  disk = disk;
+  map = core;
+  failed = failed;
+  jobs = jobs;
+  layout = layout;
+}
 
 -- A call that leaves the disk alone.
 
@@ -84,8 +89,8 @@ still_serves failed true reply alive fails none = ⊎_elim (λ e. let wrong = sy
 
 -- What leaves each part as it was leaves the whole monitor.
 pub all_same : {D : Type 0} (disk' disk : D) (core' core : VolumeCore) (failed' failed : Bool) → failed ≡ false
-    → (jobs' jobs : List (Option Job))
+    → (jobs' jobs : List (Option Job)) (layout' layout : Layout) → layout' ≡ layout
     → (disk' ≡ disk) × (core' ≡ core) × (failed' ≡ false) × (jobs' ≡ jobs)
-    → all_of disk' core' failed' jobs' ≡ all_of disk core failed jobs
-all_same disk' disk core' core failed' failed alive jobs' jobs same =
-    λ i. all_of (same.0 i) (same.1 i) ((same.2 ∙ sym alive) i) (same.3 i)
+    → all_of disk' core' failed' jobs' layout' ≡ all_of disk core failed jobs layout
+all_same disk' disk core' core failed' failed alive jobs' jobs layout' layout kept same =
+    λ i. all_of (same.0 i) (same.1 i) ((same.2 ∙ sym alive) i) (same.3 i) (kept i)

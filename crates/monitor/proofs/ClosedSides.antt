@@ -38,7 +38,7 @@ use Rattle.monitor.specs.Publishing.{last_at, HasPublished, IsPublishing, Publis
 use Rattle.monitor.specs.Publishing.{StillStands}
 use Rattle.monitor.specs.Readers.{ArePinned, AreRead}
 use Rattle.monitor.specs.Renewing.{Renews, HoldsPublished}
-use Rattle.monitor.specs.Serving.{pack_one, IsState}
+use Rattle.monitor.specs.Serving.{IsState, IsTimely}
 use Rattle.monitor.specs.Sides.{UnderKeys, readers, pins_of, input_of, output_of, jobs_of, state_of}
 use Rattle.monitor.specs.declared.channel.Channel.{Channel}
 use Rattle.monitor.specs.declared.input.Input.{Input}
@@ -146,13 +146,15 @@ module _ {d d' : DiskState} {c b : VolumeCore} {failed failed' : Bool} {reply : 
         → CrashesAsRow d d' c job (Close number bits)
     close_crashes bits drops publishes_it honest jobs n moment at timely s state =
         crashes_as (Close number bits) moment jobs n job number channel o at there
-        (close_rows d jobs n moment timely job at number channel there o side bits drops publishes_it) by live sound
+        (close_rows d jobs n moment (timely (by.same.was_honest honest)) job at number channel there o side bits drops
+        publishes_it) by live sound
         alive honest s state (λ idles. idle idles honest (without_serials s.files) state.files)
 
     pub release_crashes : CrashesAsRow d d' c job (Releas number)
     release_crashes honest jobs n moment at timely s state =
         crashes_as (Releas number) moment jobs n job number channel o at there
-        (release_rows d jobs n moment timely job at number channel there o side) by live sound alive honest s state
+        (release_rows d jobs n moment (timely (by.same.was_honest honest)) job at number channel there o side) by live
+        sound alive honest s state
         (λ idles. idle idles honest (without_serials s.files) state.files)
 
   module _ (kept : (reply ≡ Done → ⊥) → job' ≡ left_open job number channel reply)
@@ -175,19 +177,21 @@ module _ {d d' : DiskState} {c b : VolumeCore} {failed failed' : Bool} {reply : 
             → IsPublishRow d d' c c' failed' job job' (Close number bits) reply
         closed_row bits drops publishes_it none set honest placed jobs n moment at timely s state =
             published_answered (Close number bits) moment jobs n job number channel o at there
-            (close_rows d jobs n moment timely job at number channel there o side bits drops publishes_it) by live sound
+            (close_rows d jobs n moment (timely (by.same.was_honest honest)) job at number channel there o side bits
+            drops publishes_it) by live sound
             alive honest s state c' job' placed kept behind
             (λ done last found place has serial fresh rests distinct reads. (
               state.under.read,
               reads_left d' b c' _ state.under.read (leaves done) reads,
-              subst (λ t. step (pack_one d) serial t (Calls n (Close number bits) moment)
+              subst (λ t. step (pack_of d) serial t (Calls n (Close number bits) moment)
                   ≡ (
                     Done,
                     state_of (with_file s.files (state.under.written key).place
                         (version_with (state.under.written key) o.next last serial)) state.under
                         (slice_set jobs n (Some job')),
                   )) (sym (state_is s state.under jobs state.jobs_are))
-                  (close_step d jobs n moment timely job at number channel there o side bits drops publishes_it s.files
+                  (close_step d jobs n moment (timely (by.same.was_honest honest)) job at number channel there o side
+                  bits drops publishes_it s.files
                   state.under serial last found place (both_closed channel) true (is_some channel.input)
                   (channel_both state.under channel o bits side drops publishes_it serial job none)
                   (rings_marked job.core state.under channel bits true (is_some channel.input)
@@ -199,19 +203,21 @@ module _ {d d' : DiskState} {c b : VolumeCore} {failed failed' : Bool} {reply : 
             → IsPublishRow d d' c c' failed' job job' (Releas number) reply
         released_row set honest placed jobs n moment at timely s state =
             published_answered (Releas number) moment jobs n job number channel o at there
-            (release_rows d jobs n moment timely job at number channel there o side) by live sound alive honest s state
+            (release_rows d jobs n moment (timely (by.same.was_honest honest)) job at number channel there o side) by
+            live sound alive honest s state
             c' job' placed kept behind
             (λ done last found place has serial fresh rests distinct reads. (
               state.under.read,
               reads_left d' b c' _ state.under.read (leaves done) reads,
-              subst (λ t. step (pack_one d) serial t (Calls n (Releas number) moment)
+              subst (λ t. step (pack_of d) serial t (Calls n (Releas number) moment)
                   ≡ (
                     Done,
                     state_of (with_file s.files (state.under.written key).place
                         (version_with (state.under.written key) o.next last serial)) state.under
                         (slice_set jobs n (Some job')),
                   )) (sym (state_is s state.under jobs state.jobs_are))
-                  (release_step d jobs n moment timely job at number channel there o side s.files state.under serial
+                  (release_step d jobs n moment (timely (by.same.was_honest honest)) job at number channel there o side
+                  s.files state.under serial
                   last found place true (is_some channel.input)
                   (rings_marked job.core state.under channel 0 true (is_some channel.input)
                   (ends_output state.under channel o 0 side refl) (ends_input state.under channel 0 refl) refl) job'
@@ -224,9 +230,9 @@ module _ {d d' : DiskState} {c b : VolumeCore} {failed failed' : Bool} {reply : 
           (drops : keeps_output bits ≡ false) (publishes_it : discards bits ≡ false)
           (keeps : keeps_input bits ≡ true) where
         module _ (jobs : List (Option Job)) (n : ℕ) (moment : Moment) (at : slot jobs n ≡ Some job)
-            (timely : moment.date ≤ 4095) (s : State) (state : IsState d c jobs s) (honest : d'.honest) (last : List ℕ)
+            (timely : IsTimely d moment) (s : State) (state : IsState d c jobs s) (honest : d'.honest) (last : List ℕ)
             (found : last_at job.core channel ≡ Some last)
-            (finds : finds_no_place (pack_one d) (state_of s.files state.under jobs) (output_of state.under o)
+            (finds : finds_no_place (pack_of d) (state_of s.files state.under jobs) (output_of state.under o)
             (length last) ≡ false) (serial : ℕ) (has : HasPublished d d' c b o last)
             (h : HoldsPublished d' c b c' key job job' number channel input) where
           abbrev w : UnderKeys
@@ -280,21 +286,23 @@ module _ {d d' : DiskState} {c b : VolumeCore} {failed failed' : Bool} {reply : 
                 ap (λ (i : Input). i.protection) h.renews.renewed_is ∙ (h.place p.0 p.1).2
                 ∙ sym (state.versions key p.0 p.1).protection
 
-            finds_still : finds_no_place (pack_one d) (state_of s.files u jobs) (output_of u o) (length last) ≡ false
-            finds_still = ap (λ js. finds_no_place (pack_one d) (record { files = s.files; jobs = js }) (output_of w o)
+            finds_still : finds_no_place (pack_of d) (state_of s.files u jobs) (output_of u o) (length last) ≡ false
+            finds_still = ap (λ js. finds_no_place (pack_of d) (record { files = s.files; jobs = js }) (output_of w o)
                 (length last)) jobs_same ∙ finds
 
             renewed_goes : GoesOn (Close number bits) moment jobs n job number channel o at there
-                (close_rows d jobs n moment timely job at number channel there o side bits drops publishes_it) by live
+                (close_rows d jobs n moment (timely (by.same.was_honest honest)) job at number channel there o side
+                bits drops publishes_it) by live
                 sound alive honest s state c' job' last serial
             renewed_goes = (
               with_read w.read h.renewed.pin.key x,
               renewed_reads b c' input h.renewed h.ppn h.file h.protection h.renews d' files' w.read reads h.whole x
                   it_is distinct answer,
-              subst (λ t. step (pack_one d) serial t (Calls n (Close number bits) moment)
+              subst (λ t. step (pack_of d) serial t (Calls n (Close number bits) moment)
                   ≡ (Done, state_of files' u (slice_set jobs n (Some job'))))
                   (sym (state_is s u jobs (state.jobs_are ∙ sym jobs_same)))
-                  (close_step d jobs n moment timely job at number channel there o side bits drops publishes_it s.files
+                  (close_step d jobs n moment (timely (by.same.was_honest honest)) job at number channel there o side
+                  bits drops publishes_it s.files
                   u serial last found finds_still (output_closed channel h.renewed) true false
                   (channel_renewed u channel o bits side drops publishes_it serial job last found input h.renewed
                   reads_it keeps pin_only protected
@@ -307,7 +315,8 @@ module _ {d d' : DiskState} {c b : VolumeCore} {failed failed' : Bool} {reply : 
         pub renewed_row : IsPublishRow d d' c c' failed' job job' (Close number bits) reply
         renewed_row honest placed jobs n moment at timely s state =
             published_answered (Close number bits) moment jobs n job number channel o at there
-            (close_rows d jobs n moment timely job at number channel there o side bits drops publishes_it) by live sound
+            (close_rows d jobs n moment (timely (by.same.was_honest honest)) job at number channel there o side bits
+            drops publishes_it) by live sound
             alive honest s state c' job' placed kept behind
             (λ done last found place has serial fresh rests distinct reads. renewed_goes jobs n moment at timely s state
             honest last found place serial has (holds done) rests distinct reads) unchanged

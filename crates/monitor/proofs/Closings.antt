@@ -12,12 +12,13 @@ use Rattle.meaning.specs.declared.call.Reply.{Reply}
 use Rattle.meaning.specs.declared.call.Reply.TheVariants.{Done, Value, Refused, Stopped, NoChannel, AddressCheck, NoJob}
 use Rattle.meaning.specs.declared.call.Reply.TheVariants.{NoMemory, Device, Failed, DateRange}
 use Rattle.meaning.proofs.MapLaws.{some_same}
+use Rattle.meaning.specs.Layouts.{pack_of}
 use Rattle.volume.specs.Live.{VolumeCore}
 use Rattle.monitor.specs.Dropping.{OnlyDrops}
 use Rattle.monitor.specs.Events.{CallCrashes, IsIdle}
 use Rattle.monitor.specs.Publishing.{IsPublishing, IsPublishRow, CrashesAsRow, StillStands}
 use Rattle.monitor.specs.Rows.{ClosesSide, IsRow, KeepsSides, KeepsReading}
-use Rattle.monitor.specs.Serving.{pack_one, Serves, AreKeyed, ArePlaced, AreReading}
+use Rattle.monitor.specs.Serving.{Serves, AreKeyed, ArePlaced, AreReading, IsTimely}
 use Rattle.monitor.specs.declared.channel.Channel.{Channel}
 use Rattle.monitor.specs.declared.output.Output.{Output}
 use Rattle.monitor.specs.declared.job.Job.{Job}
@@ -37,13 +38,13 @@ closes_here jobs n job channel bits c o at closes = subst (λ j. ClosesSide j ch
 
 module _ (d d' : DiskState) (c c' : VolumeCore) (jobs jobs' : List (Option Job)) (n : ℕ) (job job' : Job)
     (moment : Moment) (there : slot jobs n ≡ Some job) (set : jobs' ≡ slice_set jobs n (Some job'))
-    (timely : moment.date ≤ 4095) where
+    (timely : IsTimely d moment) where
   pub row_answered : (failed failed' : Bool) (call : Call) (reply : Reply) → failed ≡ false → ArePlaced c
       → d'.honest → IsPublishRow d d' c c' failed' job job' call reply → (old : Service) → Serves d c failed jobs old
-      → (new : Service) × Serves d' c' failed' jobs' new × Answers (pack_one d) old (Calls n call moment) reply new
+      → (new : Service) × Serves d' c' failed' jobs' new × Answers (pack_of d) old (Calls n call moment) reply new
   row_answered failed failed' call reply alive placed honest is =
       in_state d c failed jobs (λ old. (new : Service) × Serves d' c' failed' jobs' new
-      × Answers (pack_one d) old (Calls n call moment) reply new) alive (λ s state.
+      × Answers (pack_of d) old (Calls n call moment) reply new) alive (λ s state.
       let led = is honest placed jobs n moment there timely s state in
       (led.0, subst (λ js. Serves d' c' failed' js led.0) (sym set) led.1, led.2))
 
@@ -104,7 +105,7 @@ module _ (d d' : DiskState) (c c' : VolumeCore) (failed failed' : Bool) (channel
 
 -- Where what was written is dropped, and what was read is let go, if anything.
 module _ (d : DiskState) (c c' : VolumeCore) (failed : Bool) (jobs jobs' : List (Option Job)) (n : ℕ)
-    (job job' : Job) (call : Call) (moment : Moment) (alive : failed ≡ false) (timely : moment.date ≤ 4095)
+    (job job' : Job) (call : Call) (moment : Moment) (alive : failed ≡ false) (timely : IsTimely d moment)
     (there : slot jobs n ≡ Some job) (set : jobs' ≡ slice_set jobs n (Some job'))
     (keeps : KeepsSides c.pending c'.pending job job') (reads : KeepsReading c.live c'.live job job') where
   pub dropping_keyed : AreKeyed c.pending jobs → AreKeyed c'.pending jobs'
@@ -115,10 +116,11 @@ module _ (d : DiskState) (c c' : VolumeCore) (failed : Bool) (jobs jobs' : List 
   dropping_reading reading = subst (AreReading c'.live) (sym set)
       (keeps_reading c.live c'.live jobs n job job' reading there reads)
 
-  pub dropping_answered : (reply : Reply) → AreKeyed c.pending jobs → AreReading c.live jobs → OnlyDrops c c'
+  pub dropping_answered : d.honest → (reply : Reply) → AreKeyed c.pending jobs → AreReading c.live jobs → OnlyDrops c c'
       → IsRow job job' call reply → (old : Service) → Serves d c failed jobs old
-      → (new : Service) × Serves d c' failed jobs' new × Answers (pack_one d) old (Calls n call moment) reply new
-  dropping_answered reply keyed reading leaves is =
-      row d c c' failed jobs jobs' (dropping_keyed keyed) (dropping_reading reading) leaves (pack_one d)
-      (Calls n call moment) reply (row_is d c failed jobs n call moment alive timely jobs' job job' reply there set is)
+      → (new : Service) × Serves d c' failed jobs' new × Answers (pack_of d) old (Calls n call moment) reply new
+  dropping_answered honest reply keyed reading leaves is =
+      row d c c' failed jobs jobs' (dropping_keyed keyed) (dropping_reading reading) leaves (pack_of d)
+      (Calls n call moment) reply (row_is d c failed jobs n call moment alive timely honest jobs' job job' reply there
+      set is)
       alive

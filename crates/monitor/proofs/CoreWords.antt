@@ -19,8 +19,7 @@ use Rattle.volume.specs.Live.{VolumeCore}
 use Rattle.volume.specs.declared.live.LiveVersion.{LiveVersion}
 use Rattle.volume.specs.declared.pending.PendingVersion.{PendingVersion}
 use Rattle.meaning.specs.Layouts.{pack_of}
-use Rattle.monitor.specs.Serving.{pack_one, Serves, AreKeyed, AreReading}
-use Rattle.monitor.proofs.ServedPacks.{led_here}
+use Rattle.monitor.specs.Serving.{Serves, AreKeyed, AreReading}
 use Rattle.monitor.specs.Sides.{UnderKeys, job_of, state_of, sides_in}
 use Rattle.monitor.specs.declared.job.Job.{Job}
 use Rattle.monitor.proofs.Answering.{row, slot_of, job_set, is_done, settled_other}
@@ -104,30 +103,28 @@ module _ (d : DiskState) (map : VolumeCore) (failed : Bool) (jobs jobs' : List (
       → (old : Service) → Serves d map failed jobs old → (new : Service) × Serves d map failed jobs' new
       × Answers (pack_of d) old (Deposit n address word) reply new
   deposit_answered serves keyed reading answer done refused old is =
-      led_here d map failed jobs (Serves d map failed jobs') (Deposit n address word) reply old is
-      (row d map map failed jobs jobs' (deposit_keyed map.pending jobs jobs' n address word reply keyed done refused)
+      row d map map failed jobs jobs' (deposit_keyed map.pending jobs jobs' n address word reply keyed done refused)
       (deposit_reading map.live jobs jobs' n address word reply reading done refused) (leaves_none map)
-      (pack_one d) (Deposit n address word) reply
+      (pack_of d) (Deposit n address word) reply
       (λ serial files w. ⊎_elim
-      (λ is. let there = done is in subst (λ r. step (pack_one d) serial (state_of files w jobs)
+      (λ is. let there = done is in subst (λ r. step (pack_of d) serial (state_of files w jobs)
       (Deposit n address word)
       ≡ (r, state_of files w jobs')) (sym is)
-      (deposit_done_row (pack_one d) jobs n address serial files w jobs' word there.0 there.1 (sym answer
+      (deposit_done_row (pack_of d) jobs n address serial files w jobs' word there.0 there.1 (sym answer
       ∙ is) there.2))
-      (λ not. subst (λ js. step (pack_one d) serial (state_of files w jobs) (Deposit n address word)
+      (λ not. subst (λ js. step (pack_of d) serial (state_of files w jobs) (Deposit n address word)
       ≡ (reply, state_of files w js)) (sym (refused not))
-      (deposit_other_row (pack_one d) jobs n address serial files w word reply (slot jobs n) refl answer not))
-      (is_done reply)) serves old is)
+      (deposit_other_row (pack_of d) jobs n address serial files w word reply (slot jobs n) refl answer not))
+      (is_done reply)) serves old is
 
   pub examine_answered : failed ≡ false → AreKeyed map.pending jobs → AreReading map.live jobs
       → reply ≡ examine_of address (slot jobs n)
       → (old : Service) → Serves d map failed jobs old → (new : Service) × Serves d map failed jobs new
       × Answers (pack_of d) old (Examine n address) reply new
   examine_answered serves keyed reading answer old is =
-      led_here d map failed jobs (Serves d map failed jobs) (Examine n address) reply old is
-      (row d map map failed jobs jobs keyed reading (leaves_none map) (pack_one d) (Examine n address) reply
-      (λ serial files w. examine_row (pack_one d) jobs n address serial files w reply
-      (slot jobs n) refl answer) serves old is)
+      row d map map failed jobs jobs keyed reading (leaves_none map) (pack_of d) (Examine n address) reply
+      (λ serial files w. examine_row (pack_of d) jobs n address serial files w reply
+      (slot jobs n) refl answer) serves old is
 
 -- words in a row that are shown, each as an event would be told it
 module _ (d : DiskState) (map : VolumeCore) (failed : Bool) (jobs : List (Option Job)) (n first count : ℕ) where

@@ -32,7 +32,7 @@ use Rattle.monitor.specs.DeleteDirRows.{IsKeptBy, IsRemovable, IsDeleteDir}
 use Rattle.monitor.specs.DirectoryRows.{asked_owner}
 use Rattle.monitor.specs.Events.{CallCrashes, IsIdle}
 use Rattle.monitor.specs.Refusals.{with_code}
-use Rattle.monitor.specs.Serving.{pack_one, AreKeyed, ArePlaced, AreReading, IsState, Serves}
+use Rattle.monitor.specs.Serving.{AreKeyed, ArePlaced, AreReading, IsState, Serves, IsTimely}
 use Rattle.monitor.specs.Sides.{state_of}
 use Rattle.monitor.specs.declared.job.Job.{Job}
 use Rattle.monitor.proofs.Answering.{in_state, goes_on, same_files, on_disk, state_is}
@@ -79,8 +79,8 @@ idle_same d c Disks Cores job job' e DateRange outcome idle = absurd outcome
 
 module _ {D : Type 0} (state_in : D → DiskState) (disk disk' : D) (c c' : VolumeCore) (jobs jobs' : List (Option Job))
     (n : ℕ) (job job' : Job) (e : ℕ) (moment : Moment)
-    (there : slot jobs n ≡ Some job) (set : jobs' ≡ slice_set jobs n (Some job')) (timely : moment.date
-    ≤ 4095) (sound : IsSoundCore (state_in disk) c false) where
+    (there : slot jobs n ≡ Some job) (set : jobs' ≡ slice_set jobs n (Some job'))
+    (timely : IsTimely (state_in disk) moment) (sound : IsSoundCore (state_in disk) c false) where
   abbrev d : DiskState
   d = state_in disk
 
@@ -127,29 +127,29 @@ module _ {D : Type 0} (state_in : D → DiskState) (disk disk' : D) (c c' : Volu
     set_to : (x : Job) → job' ≡ x → slice_set jobs n (Some x) ≡ jobs'
     set_to x is = sym (set ∙ ap (λ j. slice_set jobs n (Some j)) is)
 
-    step_done : job' ≡ job → MayGo → (serial : ℕ) → step (pack_one d) serial s event ≡ (Done, after_removed)
+    step_done : job' ≡ job → MayGo → (serial : ℕ) → step (pack_of d) serial s event ≡ (Done, after_removed)
     step_done same (inside, free) serial =
-        from_before (λ y. step (pack_one d) serial y event ≡ (Done, after_removed))
-        (row_done d s.files state.under jobs n job there e moment timely
+        from_before (λ y. step (pack_of d) serial y event ≡ (Done, after_removed))
+        (row_done d s.files state.under jobs n job there e moment (timely honest)
         (may_delete d c s.files state.under jobs sound.whole holds creations owner honest state.files job e inside free)
         serial
         ∙ ap (λ js. (Done, state_of (remove s.files owner) state.under js)) (set_to job same))
 
     step_refused : (code : ℕ) → job' ≡ with_code job e code → lies_outside job.core e 2 ≡ false
         → IsKeptBy d c job.ppn owner code → (serial : ℕ)
-        → step (pack_one d) serial s event ≡ (Refused code, after_kept)
+        → step (pack_of d) serial s event ≡ (Refused code, after_kept)
     step_refused code job_is inside why serial =
-        from_before (λ y. step (pack_one d) serial y event ≡ (Refused code, after_kept))
-        (row_kept d s.files state.under jobs n job there e moment timely (Refused code) (with_code job e code)
+        from_before (λ y. step (pack_of d) serial y event ≡ (Refused code, after_kept))
+        (row_kept d s.files state.under jobs n job there e moment (timely honest) (Refused code) (with_code job e code)
         (refused_by d c s.files state.under jobs sound.whole holds creations owner honest state.files job e code inside
         why) (λ is. cc is) refl serial
         ∙ ap (λ js. (Refused code, state_of s.files state.under js)) (set_to (with_code job e code) job_is))
 
     step_checked : job' ≡ job → lies_outside job.core e 2 ≡ true → (serial : ℕ)
-        → step (pack_one d) serial s event ≡ (AddressCheck, after_kept)
+        → step (pack_of d) serial s event ≡ (AddressCheck, after_kept)
     step_checked same outside serial =
-        from_before (λ y. step (pack_one d) serial y event ≡ (AddressCheck, after_kept))
-        (row_kept d s.files state.under jobs n job there e moment timely AddressCheck job
+        from_before (λ y. step (pack_of d) serial y event ≡ (AddressCheck, after_kept))
+        (row_kept d s.files state.under jobs n job there e moment (timely honest) AddressCheck job
         (checked d c s.files state.under jobs sound.whole holds creations owner honest state.files job e outside)
         (λ is. cc is) refl serial
         ∙ ap (λ js. (AddressCheck, state_of s.files state.under js)) (set_to job same))
@@ -209,19 +209,19 @@ module _ {D : Type 0} (state_in : D → DiskState) (disk disk' : D) (c c' : Volu
       (reading' : AreReading c'.live jobs') (honest : d.honest) where
     abbrev Leads : Reply → Type 0
     Leads reply = (old : Service) → Serves d c failed jobs old → (new : Service) × Serves d' c' failed' jobs' new
-        × Answers (pack_one d) old event reply new
+        × Answers (pack_of d) old event reply new
 
     -- disk, volume and files are as they were
     kept : (reply : Reply) → Same → failed' ≡ false → ((s : State) (state : IsState d c jobs s) (serial : ℕ)
-        → step (pack_one d) serial s event ≡ (reply, after_kept honest s state)) → Leads reply
+        → step (pack_of d) serial s event ≡ (reply, after_kept honest s state)) → Leads reply
     kept reply same alive steps old stands =
-        on_disk state_in disk disk' failed failed' c' jobs' (Answers (pack_one d) old event reply)
+        on_disk state_in disk disk' failed failed' c' jobs' (Answers (pack_of d) old event reply)
         (same.0, alive ∙ sym serves)
-        (subst (λ m. (new : Service) × Serves d m failed jobs' new × Answers (pack_one d) old event reply new)
+        (subst (λ m. (new : Service) × Serves d m failed jobs' new × Answers (pack_of d) old event reply new)
         (sym same.1)
         (in_state d c failed jobs (λ x. (new : Service) × Serves d c failed jobs' new
-        × Answers (pack_one d) x event reply new) serves
-        (λ s state. goes_on d c failed jobs' (pack_one d) event reply s (after_kept honest s state) serves state.sound
+        × Answers (pack_of d) x event reply new) serves
+        (λ s state. goes_on d c failed jobs' (pack_of d) event reply s (after_kept honest s state) serves state.sound
         (steps s state)
         (same_files d c c failed jobs jobs' (subst (λ m. AreKeyed m.pending jobs') same.1 keyed')
         (subst (λ m. AreReading m.live jobs') same.1 reading') (leaves_none c) s state)) old stands))
@@ -235,12 +235,12 @@ module _ {D : Type 0} (state_in : D → DiskState) (disk disk' : D) (c c' : Volu
           → ((f : Files File) → RestsAt d f → reply ≡ Done → RestsAt d' (directory_removed f owner)) → Leads reply
       delete_dir_answered Done (job_is, inside, free) fails done =
           in_state d c failed jobs (λ old. (new : Service) × Serves d' c' failed' jobs' new
-          × Answers (pack_one d) old event Done new) serves
+          × Answers (pack_of d) old event Done new) serves
           (λ s state.
           let alive = not_failed failed' Done fails (λ is. cc is) in
           let bare = empty_one d c s.files state.under jobs sound.whole (holds honest s state)
           (creations honest s state) owner honest state.files job.ppn free in
-          goes_on d' c' failed' jobs' (pack_one d) event Done s (after_removed honest s state) alive state.sound
+          goes_on d' c' failed' jobs' (pack_of d) event Done s (after_removed honest s state) alive state.sound
           (step_done honest s state job_is (inside, free))
           (removed_state d d' c c' jobs jobs' s state keyed' reading' live pending primes (readers alive)
           (writers alive) owner bare.0 bare.1 bare.2 (done (without_serials s.files) state.files refl)))
@@ -252,7 +252,7 @@ module _ {D : Type 0} (state_in : D → DiskState) (disk disk' : D) (c c' : Volu
           (λ s state. step_checked honest s state job_is outside)
       delete_dir_answered Device (job_is, inside, free) fails done =
           in_state d c failed jobs (λ old. (new : Service) × Serves d' c' failed' jobs' new
-          × Answers (pack_one d) old event Device new) serves
+          × Answers (pack_of d) old event Device new) serves
           (λ s state. (
             Broken,
             fails.1 refl,

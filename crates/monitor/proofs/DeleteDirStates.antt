@@ -13,7 +13,7 @@ use Rattle.meaning.specs.Outcomes.{settled, refused_at}
 use Rattle.meaning.specs.Published.{Version, without_serials, file_in, file_at}
 use Rattle.meaning.specs.Runs.{HaveDistinctSerials}
 use Rattle.meaning.specs.Sound as meaning
-use Rattle.meaning.specs.Step.{step, of_files}
+use Rattle.meaning.specs.Step.{step, of_files, last_date}
 use Rattle.meaning.specs.declared.call.Call.TheVariants.{DeleteDir}
 use Rattle.meaning.specs.declared.call.Event.TheVariants.{Call as Calls}
 use Rattle.meaning.specs.declared.call.Reply.{Reply}
@@ -22,13 +22,14 @@ use Rattle.meaning.proofs.MapLaws.{some_none, same_or_other, get-empty, get-remo
 use Rattle.meaning.proofs.MapLaws.{insert-removed}
 use Rattle.meaning.proofs.MapLists.{map_values-remove}
 use Rattle.meaning.proofs.MapSums.{empty_of_size}
+use Rattle.meaning.specs.Layouts.{pack_of}
 use Rattle.volume.specs.Live.{VolumeCore, pending_at}
 use Rattle.volume.specs.Places.{prime_at}
 use Rattle.volume.specs.RemovingDirectories.{directory_removed}
 use Rattle.volume.specs.Rest.{RestsAt, KeepsRead, KeepsEachWritten}
 use Rattle.volume.specs.declared.pending.PendingVersion.{PendingVersion}
 use Rattle.monitor.specs.DirectoryRows.{asked_owner}
-use Rattle.monitor.specs.Serving.{pack_one, AreKeyed, AreReading, IsState}
+use Rattle.monitor.specs.Serving.{AreKeyed, AreReading, IsState}
 use Rattle.monitor.specs.Sides.{UnderKeys, job_of, state_of}
 use Rattle.monitor.specs.declared.job.Job.{Job}
 use Rattle.monitor.proofs.Answering.{job_set, called, settled_with}
@@ -39,7 +40,8 @@ use Rattle.monitor.proofs.WrittenStays.{writing_stays}
 
 -- The machine's row, by its answer.
 module _ (d : DiskState) (files : Files Version) (w : UnderKeys) (jobs : List (Option Job))
-    (n : ℕ) (job : Job) (there : slot jobs n ≡ Some job) (e : ℕ) (moment : Moment) (timely : moment.date ≤ 4095) where
+    (n : ℕ) (job : Job) (there : slot jobs n ≡ Some job) (e : ℕ) (moment : Moment)
+    (timely : moment.date ≤ last_date (pack_of d).layout) where
   abbrev t : State
   t = state_of files w jobs
 
@@ -54,18 +56,18 @@ module _ (d : DiskState) (files : Files Version) (w : UnderKeys) (jobs : List (O
   abbrev answer : Reply
   answer = remove_answer t (job_of w job) e (asked_owner job.core e)
 
-  asks : (serial : ℕ) → step (pack_one d) serial t (Calls n (DeleteDir e) moment) ≡ by_answer answer
-  asks serial = called d jobs n (DeleteDir e) moment serial files w timely job there
+  asks : (serial : ℕ) → step (pack_of d) serial t (Calls n (DeleteDir e) moment) ≡ by_answer answer
+  asks serial = called (pack_of d) jobs n (DeleteDir e) moment serial files w timely job there
 
   pub row_done : answer ≡ Done → (serial : ℕ)
-      → step (pack_one d) serial t (Calls n (DeleteDir e) moment)
+      → step (pack_of d) serial t (Calls n (DeleteDir e) moment)
       ≡ (Done, state_of removed w (slice_set jobs n (Some job)))
   row_done is serial = asks serial ∙ ap by_answer is ∙ ap (λ x. (Done, x)) (job_set removed w jobs n job)
 
   -- another answer
   pub row_kept : (reply : Reply) (job' : Job) → answer ≡ reply → (reply ≡ Done → ⊥)
       → refused_at (job_of w job) e reply ≡ job_of w job' → (serial : ℕ)
-      → step (pack_one d) serial t (Calls n (DeleteDir e) moment)
+      → step (pack_of d) serial t (Calls n (DeleteDir e) moment)
       ≡ (reply, state_of files w (slice_set jobs n (Some job')))
   row_kept reply job' is not_done left serial =
       asks serial ∙ ap by_answer is ∙ ap (of_files t n) (settled_with reply (job_of w job, removed)

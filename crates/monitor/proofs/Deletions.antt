@@ -46,7 +46,7 @@ use Rattle.monitor.specs.Events.{CallCrashes}
 use Rattle.monitor.specs.Finding.{IsKnown}
 use Rattle.monitor.specs.Promises.{IsAmong, IsServing}
 use Rattle.monitor.specs.Refusals.{with_code}
-use Rattle.monitor.specs.Serving.{pack_one, AreKeyed, ArePlaced, AreReading, IsState, Serves}
+use Rattle.monitor.specs.Serving.{AreKeyed, ArePlaced, AreReading, IsState, Serves, IsTimely}
 use Rattle.monitor.specs.Sides.{UnderKeys, sides_in, job_of, state_of}
 use Rattle.monitor.specs.declared.channel.Channel.{Channel}
 use Rattle.monitor.specs.declared.input.Input.{Input}
@@ -124,7 +124,7 @@ module _ {D : Type 0} (state : D → DiskState) (only_now : (disk : D) (contents
     → change_answer s (job_of w job) e (place_of input.ppn input.file) ≡ replies.Done)
     (result : Result (Unit {0}) CallError)
     (is : Deletes (state disk) (state disk') c b ((disk' ≡ disk) × (b ≡ c)) failed failed' input.ppn input.file result)
-    (moment : Moment) (timely : moment.date ≤ 4095) (jobs : List (Option Job)) (n : ℕ)
+    (moment : Moment) (timely : IsTimely (state disk) moment) (jobs : List (Option Job)) (n : ℕ)
     (among : IsAmong c jobs n job) where
   abbrev d : DiskState
   d = state disk
@@ -159,16 +159,17 @@ module _ {D : Type 0} (state : D → DiskState) (only_now : (disk : D) (contents
     deletes : deletes_at (job_of w job) e ≡ true
     deletes = eq-eqb (slice_index job.core e) 0 zero
 
-    answer : rename_from (pack_one d) before (job_of w job) e place ≡ replies.Done
-    answer = rename_goes_on before (job_of w job) e place (pack_one d) allowed
-        ∙ ap (λ b. if b then replies.Done else move_answer (pack_one d) before (job_of w job) place
+    answer : rename_from (pack_of d) before (job_of w job) e place ≡ replies.Done
+    answer = rename_goes_on before (job_of w job) e place (pack_of d) allowed
+        ∙ ap (λ b. if b then replies.Done else move_answer (pack_of d) before (job_of w job) place
         (place_at (job_of w job) e)) deletes
 
-    step_done : (serial : ℕ) → step (pack_one d) serial s (Calls n (Rename number e) moment)
+    step_done : (serial : ℕ) → step (pack_of d) serial s (Calls n (Rename number e) moment)
         ≡ (replies.Done, state_of (without_file s.files place) w (slice_set jobs n (Some closed)))
-    step_done serial = subst (λ t. step (pack_one d) serial t (Calls n (Rename number e) moment)
+    step_done serial = subst (λ t. step (pack_of d) serial t (Calls n (Rename number e) moment)
         ≡ (replies.Done, state_of (without_file s.files place) w (slice_set jobs n (Some closed)))) (sym before_is)
-        (row_done d s.files w jobs n job among.there number e moment timely channel is_open input side free inside
+        (row_done d s.files w jobs n job among.there number e moment (timely honest) channel is_open input side free
+        inside
         answer serial
         ∙ ap (λ b. (
           replies.Done,
@@ -177,7 +178,7 @@ module _ {D : Type 0} (state : D → DiskState) (only_now : (disk : D) (contents
               (slice_set jobs n (Some closed)),
         )) deletes)
 
-    undecided : is_plain ((step (pack_one d) 0 s (Calls n (Rename number e) moment)).0) ≡ false
+    undecided : is_plain ((step (pack_of d) 0 s (Calls n (Rename number e) moment)).0) ≡ false
     undecided = ap (λ (r : Reply × State). is_plain r.0) (step_done 0)
 
     never_refused : (code : ErrorCode) → IsErrOf result (Refused code) → ⊥
@@ -225,11 +226,11 @@ module _ {D : Type 0} (state : D → DiskState) (only_now : (disk : D) (contents
         others = λ m other. slot-set_other jobs n m (Some closed) other;
         answered = λ honest. in_state d c false jobs (λ old. (new : Service)
             × Serves d' c' failed' (slice_set jobs n (Some closed)) new
-            × Answers (pack_one d) old (Calls n (Rename number e) moment) replies.Done new) refl
+            × Answers (pack_of d) old (Calls n (Rename number e) moment) replies.Done new) refl
             (λ s state_s.
             let was = is.same.was_honest honest in
             let x = there was s state_s in
-            goes_on d' c' failed' (slice_set jobs n (Some closed)) (pack_one d) (Calls n (Rename number e) moment)
+            goes_on d' c' failed' (slice_set jobs n (Some closed)) (pack_of d) (Calls n (Rename number e) moment)
             replies.Done s (state_of (without_file s.files place) state_s.under (slice_set jobs n (Some closed)))
             serves' state_s.sound (step_done was s state_s)
             (deleted_state d d' c b c' jobs n job closed among.there input.ppn input.file key v puts removes behind s
@@ -268,7 +269,7 @@ module _ {D : Type 0} (state : D → DiskState) (only_now : (disk : D) (contents
       (keeps_reading c.live c.live jobs n job job' among.reading among.there (reading_same c c job job' refl refl)))
       (λ honest. in_state d c false jobs (λ old. (new : Service)
       × Serves d c' false (slice_set jobs n (Some job')) new
-      × Answers (pack_one d) old (Calls n (Rename number e) moment) (replies.Refused (number_of code)) new) refl
+      × Answers (pack_of d) old (Calls n (Rename number e) moment) (replies.Refused (number_of code)) new) refl
       (λ s state_s. absurd (never_refused (is.same.was_honest honest) s state_s code error)))
 
   -- The device failed.
@@ -280,7 +281,7 @@ module _ {D : Type 0} (state : D → DiskState) (only_now : (disk : D) (contents
     others = λ m other. slot-set_other jobs n m (Some job) other;
     answered = λ honest. in_state d c false jobs (λ old. (new : Service)
         × Serves d' c' failed' (slice_set jobs n (Some job)) new
-        × Answers (pack_one d) old (Calls n (Rename number e) moment) replies.Device new) refl
+        × Answers (pack_of d) old (Calls n (Rename number e) moment) replies.Device new) refl
         (λ s state_s. (Broken, is.device error, (refl, undecided (is.same.was_honest honest) s state_s, refl)));
     crash = crashes;
     idle = λ idle. absurd idle;

@@ -6,6 +6,7 @@ use Rattle.blockdisk.specs.Disk.{DiskState}
 use Rattle.meaning.specs.Entering.{protection_or}
 use Rattle.meaning.specs.Files.{File, Files}
 use Rattle.meaning.specs.Jobs.{State, slot, channel_at}
+use Rattle.meaning.specs.Layouts.{pack_of}
 use Rattle.meaning.specs.Maps.{get}
 use Rattle.meaning.specs.Runs.{Service, Serving, Answers}
 use Rattle.meaning.specs.declared.call.Call.TheVariants.{Enter}
@@ -17,7 +18,7 @@ use Rattle.volume.specs.Live.{VolumeCore}
 use Rattle.volume.specs.Rest.{IsSoundCore, RestsAt}
 use Rattle.monitor.specs.Entering.{IsEntering, IsEnterAnswer}
 use Rattle.monitor.specs.Finding.{IsKnown, found_in, protection_for}
-use Rattle.monitor.specs.Serving.{pack_one, AreKeyed, AreReading, Serves}
+use Rattle.monitor.specs.Serving.{AreKeyed, AreReading, Serves, IsTimely}
 use Rattle.monitor.specs.Sides.{UnderKeys, job_of}
 use Rattle.monitor.specs.declared.channel.Channel.{Channel}
 use Rattle.monitor.specs.declared.job.Job.{Job}
@@ -52,23 +53,23 @@ module _ (d d' : DiskState) (map map' : VolumeCore) (jobs jobs' : List (Option J
       (is_done reply)
 
   pub enter_answered : (failed : Bool) → failed ≡ false → IsSoundCore d map false → d.honest → d'.honest
-      → moment.date ≤ 4095
+      → IsTimely d moment
       → ((s : State) → IsKnown d map s → (w : UnderKeys)
-      → IsEnterAnswer (pack_one d) s (job_of w job) (job_of w job') (channel_at (job_of w job) ch) e reply)
+      → IsEnterAnswer (pack_of d) s (job_of w job) (job_of w job') (channel_at (job_of w job) ch) e reply)
       → (old : Service) → Serves d map failed jobs old → (new : Service) × Serves d map' failed jobs' new
-      × Answers (pack_one d) old (Calls n (Enter ch e) moment) reply new
+      × Answers (pack_of d) old (Calls n (Enter ch e) moment) reply new
   enter_answered failed serves sound honest later timely row =
       in_state d map failed jobs (λ old. (new : Service) × Serves d map' failed jobs' new
-      × Answers (pack_one d) old (Calls n (Enter ch e) moment) reply new) serves (λ s state. ⊎_elim
+      × Answers (pack_of d) old (Calls n (Enter ch e) moment) reply new) serves (λ s state. ⊎_elim
       (λ is. let b = begun is in
       subst (λ r. (new : Service) × Serves d map' failed jobs' new
-      × Answers (pack_one d) (Serving s) (Calls n (Enter ch e) moment) r new) (sym is)
+      × Answers (pack_of d) (Serving s) (Calls n (Enter ch e) moment) r new) (sym is)
       (entered_leads d map map' jobs jobs' n job job' ch e moment b.0 b.1 b.2 there set b.3 keyed reading
-      sound honest timely (λ x known w. subst (IsEnterAnswer (pack_one d) x (job_of w job) (job_of w job')
+      sound honest timely (λ x known w. subst (IsEnterAnswer (pack_of d) x (job_of w job) (job_of w job')
       (channel_at (job_of w job) ch) e) is (row x known w)) (b.4 later) s state failed serves))
       (λ not. let k = kept not in
       subst (λ m. (new : Service) × Serves d m failed jobs' new
-      × Answers (pack_one d) (Serving s) (Calls n (Enter ch e) moment) reply new) (sym k.0)
+      × Answers (pack_of d) (Serving s) (Calls n (Enter ch e) moment) reply new) (sym k.0)
       (other_leads d map failed jobs jobs' n job job' ch e moment reply there set k.1 not keyed reading
       sound honest timely row s state serves))
       (is_done reply))

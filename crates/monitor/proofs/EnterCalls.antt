@@ -35,7 +35,7 @@ use Rattle.monitor.specs.Entering.{IsEntering, IsEnterAnswer}
 use Rattle.monitor.specs.Entering as entering
 use Rattle.monitor.specs.Finding.{IsKnown, found_file, found_in, protection_for, file_begun}
 use Rattle.monitor.specs.Rows.{KeepsSides}
-use Rattle.monitor.specs.Serving.{pack_one, present, IsSide, AreKeyed, IsWriting, AreReading, IsState, Serves}
+use Rattle.monitor.specs.Serving.{present, IsSide, AreKeyed, IsWriting, AreReading, IsState, Serves, IsTimely}
 use Rattle.monitor.specs.Sides.{Writing, UnderKeys, side_of, kind_of, input_of, output_of, channel_of, job_of, state_of}
 use Rattle.monitor.specs.declared.channel.Channel.{Channel}
 use Rattle.monitor.specs.declared.output.Kind.{Kind}
@@ -55,6 +55,9 @@ use Rattle.monitor.proofs.ReadingJobs.{keeps_reading}
 use Rattle.monitor.proofs.SideLists.{count, count-channel, each-channel}
 use Rattle.meaning.proofs.MapLists.{get-map_values}
 use Rattle.meaning.proofs.Names.{name_total}
+use Rattle.meaning.specs.Retrieval.{date_limit}
+use Rattle.monitor.proofs.Dates.{attributes_in, in_time}
+use Rattle.meaning.specs.Layouts.{pack_of}
 
 -- The output side that is opened.
 
@@ -137,9 +140,9 @@ module _ (d : DiskState) (map map' : VolumeCore) (jobs jobs' : List (Option Job)
   enter_reading = subst (AreReading map'.live) (sym set) (keeps_reading map.live map'.live jobs n job job' reading there
       (reading_entered map map' job job' ch e moment c key prime enters))
 
-  module _ (sound : IsSoundCore d map false) (honest : d.honest) (timely : moment.date ≤ 4095)
+  module _ (sound : IsSoundCore d map false) (honest : d.honest) (timely : IsTimely d moment)
       (row : (s : State) → IsKnown d map s → (w : UnderKeys)
-      → IsEnterAnswer (pack_one d) s (job_of w job) (job_of w job') (channel_at (job_of w job) ch) e Done)
+      → IsEnterAnswer (pack_of d) s (job_of w job) (job_of w job') (channel_at (job_of w job) ch) e Done)
       (protection : (files : Files File) → RestsAt d files
       → prime.protection ≡ protection_for (found_in (get files prime.ppn) prime.file)
       (protection_or (slice_index job.core (e + 2)) 0o057)) where
@@ -176,9 +179,9 @@ module _ (d : DiskState) (map map' : VolumeCore) (jobs jobs' : List (Option Job)
       found_is : file_at s.files (place_of prime.ppn prime.file) ≡ get directory.directory.files prime.file
       found_is = ap (λ o. file_in o prime.file) directory.there
 
-      answer : enter_answer (pack_one d) t (job_of w job) (channel_of w c) e (place_at (job_of w job) e) ≡ Done
+      answer : enter_answer (pack_of d) t (job_of w job) (channel_of w c) e (place_at (job_of w job) e) ≡ Done
       answer = ⊎_elim (λ none. absurd (cc none.0)) (λ is. is.0)
-          (subst (λ o. IsEnterAnswer (pack_one d) t (job_of w job) (job_of w job') o e Done)
+          (subst (λ o. IsEnterAnswer (pack_of d) t (job_of w job) (job_of w job') o e Done)
           (channel_is w job ch (Some c) enters.there) (row t t_known w))
 
       opens : output_opened (job_of w job) (channel_of w c) e moment (place_at (job_of w job) e)
@@ -203,36 +206,46 @@ module _ (d : DiskState) (map map' : VolumeCore) (jobs jobs' : List (Option Job)
           ∙ (let x = sym (with_same state.under key new_writing) in
           λ i. record { place = (x i).place; kind = kind_of enters.kind; pending = (x i).file; next = 1 })
 
+      -- its date is one that the layout holds
+      dated : prime.moment.date < date_limit (pack_of d).layout
+      dated = subst (λ (m : Moment). m.date < date_limit (pack_of d).layout) (sym enters.at.moment_is)
+          (in_time (pack_of d).layout moment.date (timely honest))
+
       -- the row
-      row_is : (serial : ℕ) → step (pack_one d) serial t (Calls n (Enter ch e) moment)
+      row_is : (serial : ℕ) → step (pack_of d) serial t (Calls n (Enter ch e) moment)
           ≡ (Done, state_of s.files w jobs')
       row_is serial =
-          called d jobs n (Enter ch e) moment serial s.files w timely job there
-          ∙ ap (λ o. on_channel t o (λ x. of_job t n (enter (pack_one d) t (job_of w job) ch x e moment)))
+          called (pack_of d) jobs n (Enter ch e) moment serial s.files w (timely honest) job there
+          ∙ ap (λ o. on_channel t o (λ x. of_job t n (enter (pack_of d) t (job_of w job) ch x e moment)))
           (channel_is w job ch (Some c) enters.there)
           ∙ ap (of_job t n)
-          (ap (λ r. settled r (enter_done (pack_one d) t (job_of w job) ch (channel_of w c) e moment
+          (ap (λ r. settled r (enter_done (pack_of d) t (job_of w job) ch (channel_of w c) e moment
           (place_at (job_of w job) e)) (refused_at (job_of w job) e)) answer
           ∙ ap (λ o. (
             Done,
-            entered (pack_one d) (job_of w job) ch (channel_of w c) e
+            entered (pack_of d) (job_of w job) ch (channel_of w c) e
                 (input_updating o (file_at s.files (place_at (job_of w job) e)))
                 (output_opened (job_of w job) (channel_of w c) e moment (place_at (job_of w job) e)
                 (digit_at t (job_of w job) (place_at (job_of w job) e)) o
                 (file_at s.files (place_at (job_of w job) e))),
           )) (ap (option_map (input_of w)) enters.unread)
-          ∙ ap (λ o. (Done, entered (pack_one d) (job_of w job) ch (channel_of w c) e None o)) opens
+          ∙ ap (λ o. (Done, entered (pack_of d) (job_of w job) ch (channel_of w c) e None o)) opens
           ∙ ap (λ o. (
             Done,
-            entered (pack_one d) (job_of w job) ch (channel_of w c) e (option_map (input_of w) o)
+            entered (pack_of d) (job_of w job) ch (channel_of w c) e (option_map (input_of w) o)
                 (output_of w out),
           )) (sym enters.unread)
           ∙ ap (λ (x : Writing). (
             Done,
-            with_channel (record (job_of w job) { core = with_attributes 1 job.core e x.file }) ch
+            with_channel (record (job_of w job) { core = with_attributes (pack_of d).layout job.core e x.file }) ch
                 (Some (channel_of w (entering.side_entered c key enters.kind))),
           )) (with_same state.under key new_writing)
-          ∙ ap (λ j. (Done, j)) (channel_set w (record job { core = with_attributes 1 job.core e (file_begun prime) })
+          ∙ ap (λ core. (
+            Done,
+            with_channel (record (job_of w job) { core = core }) ch
+                (Some (channel_of w (entering.side_entered c key enters.kind))),
+          )) (sym (attributes_in (pack_of d).layout job.core e (file_begun prime) dated))
+          ∙ ap (λ j. (Done, j)) (channel_set w (record job { core = with_attributes 2 job.core e (file_begun prime) })
           ch (Some (entering.side_entered c key enters.kind)) ∙ ap (job_of w) (sym enters.job_is)))
           ∙ ap (λ x. (Done, x)) (job_set s.files w jobs n job' ∙ ap (state_of s.files w) (sym set))
 
@@ -276,11 +289,11 @@ module _ (d : DiskState) (map map' : VolumeCore) (jobs jobs' : List (Option Job)
       primes ppn name = ap (λ k. prime_at (record map { known = k }) ppn name) enters.begun.known
 
       pub entered_leads : (failed : Bool) → failed ≡ false → (new : Service) × Serves d map' failed jobs' new
-          × Answers (pack_one d) (Serving s) (Calls n (Enter ch e) moment) Done new
+          × Answers (pack_of d) (Serving s) (Calls n (Enter ch e) moment) Done new
       entered_leads failed serves =
-          goes_on d map' failed jobs' (pack_one d) (Calls n (Enter ch e) moment) Done s
+          goes_on d map' failed jobs' (pack_of d) (Calls n (Enter ch e) moment) Done s
           (state_of s.files w jobs') serves state.sound
-          (λ serial. subst (λ x. step (pack_one d) serial x (Calls n (Enter ch e) moment)
+          (λ serial. subst (λ x. step (pack_of d) serial x (Calls n (Enter ch e) moment)
           ≡ (Done, state_of s.files w jobs')) (sym t_is) (row_is serial))
           (λ still. record {
             files = state.files;

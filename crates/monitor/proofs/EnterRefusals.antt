@@ -6,6 +6,7 @@ use Rattle.blockdisk.specs.Disk.{DiskState}
 use Rattle.meaning.specs.Entering.{enter, enter_answer, enter_done}
 use Rattle.meaning.specs.Jobs as machine
 use Rattle.meaning.specs.Jobs.{State, slot, channel_at, with_job}
+use Rattle.meaning.specs.Layouts.{pack_of}
 use Rattle.meaning.specs.Looking.{place_at}
 use Rattle.meaning.specs.Outcomes.{settled, refused_at}
 use Rattle.meaning.specs.Runs.{Service, Serving, Answers, is_plain}
@@ -19,7 +20,7 @@ use Rattle.volume.specs.Live.{VolumeCore}
 use Rattle.volume.specs.Rest.{IsSoundCore}
 use Rattle.monitor.specs.Entering.{IsEnterAnswer}
 use Rattle.monitor.specs.Finding.{IsKnown}
-use Rattle.monitor.specs.Serving.{pack_one, AreKeyed, AreReading, IsState, Serves}
+use Rattle.monitor.specs.Serving.{AreKeyed, AreReading, IsState, Serves, IsTimely}
 use Rattle.monitor.specs.Sides.{UnderKeys, sides_in, job_of, state_of}
 use Rattle.monitor.specs.declared.job.Job.{Job}
 use Rattle.monitor.proofs.Answering.{state_is, slot_of, job_set, called, goes_on, same_files, settled_with}
@@ -44,9 +45,9 @@ module _ (d : DiskState) (map : VolumeCore) (failed : Bool) (jobs jobs' : List (
   other_reading = subst (AreReading map.live) (sym set)
       (keeps_reading map.live map.live jobs n job job' reading there (reading_same map map job job' refl kept))
 
-  module _ (sound : IsSoundCore d map false) (honest : d.honest) (timely : moment.date ≤ 4095)
+  module _ (sound : IsSoundCore d map false) (honest : d.honest) (timely : IsTimely d moment)
       (row : (s : State) → IsKnown d map s → (w : UnderKeys)
-      → IsEnterAnswer (pack_one d) s (job_of w job) (job_of w job') (channel_at (job_of w job) ch) e reply)
+      → IsEnterAnswer (pack_of d) s (job_of w job) (job_of w job') (channel_at (job_of w job) ch) e reply)
       (s : State) (state : IsState d map jobs s) where
     abbrev before : State
     before = state_of s.files state.under jobs
@@ -56,28 +57,29 @@ module _ (d : DiskState) (map : VolumeCore) (failed : Bool) (jobs jobs' : List (
 
     abbrev Leads : Type 0
     Leads = (new : Service) × Serves d map failed jobs' new
-        × Answers (pack_one d) (Serving s) (Calls n (Enter ch e) moment) reply new
+        × Answers (pack_of d) (Serving s) (Calls n (Enter ch e) moment) reply new
 
     -- by a step of the machine
     by_step : failed ≡ false → ((serial : ℕ)
-        → call_of (pack_one d) serial before n (job_of state.under job) (Enter ch e) moment
+        → call_of (pack_of d) serial before n (job_of state.under job) (Enter ch e) moment
         ≡ (reply, with_job before n (job_of state.under job'))) → Leads
     by_step serves steps =
-        goes_on d map failed jobs' (pack_one d) (Calls n (Enter ch e) moment) reply s
+        goes_on d map failed jobs' (pack_of d) (Calls n (Enter ch e) moment) reply s
         (state_of s.files state.under jobs') serves state.sound
-        (λ serial. subst (λ x. step (pack_one d) serial x (Calls n (Enter ch e) moment)
+        (λ serial. subst (λ x. step (pack_of d) serial x (Calls n (Enter ch e) moment)
         ≡ (reply, state_of s.files state.under jobs')) (sym before_is)
-        (called d jobs n (Enter ch e) moment serial s.files state.under timely job there ∙ steps serial
+        (called (pack_of d) jobs n (Enter ch e) moment serial s.files state.under (timely honest) job there ∙ steps
+        serial
         ∙ ap (λ x. (reply, x)) (job_set s.files state.under jobs n job' ∙ ap (state_of s.files state.under) (sym set))))
         (same_files d map map failed jobs jobs' other_keyed other_reading (leaves_none map) s state)
 
     -- on the channel
     abbrev row_for : Option machine.Channel → Reply × State
     row_for o = on_channel before o
-        (λ x. of_job before n (enter (pack_one d) before (job_of state.under job) ch x e moment))
+        (λ x. of_job before n (enter (pack_of d) before (job_of state.under job) ch x e moment))
 
     by_channel : failed ≡ false → (o : Option machine.Channel) → channel_at (job_of state.under job) ch ≡ o
-        → IsEnterAnswer (pack_one d) before (job_of state.under job) (job_of state.under job') o e reply → Leads
+        → IsEnterAnswer (pack_of d) before (job_of state.under job) (job_of state.under job') o e reply → Leads
     by_channel serves None at is =
         by_step serves (λ serial. ap row_for at ∙ ap (λ r. (r, before)) (sym is.0)
         ∙ ap (λ x. (reply, x)) (job_same before n (job_of state.under job) (slot_of state.under jobs n (Some job) there)
@@ -92,10 +94,11 @@ module _ (d : DiskState) (map : VolumeCore) (failed : Bool) (jobs jobs' : List (
       inr (
         wants.0,
         sym unchanged,
-        ap (λ y. is_plain ((step (pack_one d) 0 y (Calls n (Enter ch e) moment)).0)) before_is
-            ∙ ap (λ r. is_plain r.0) (called d jobs n (Enter ch e) moment 0 s.files state.under timely job there)
+        ap (λ y. is_plain ((step (pack_of d) 0 y (Calls n (Enter ch e) moment)).0)) before_is
+            ∙ ap (λ r. is_plain r.0) (called (pack_of d) jobs n (Enter ch e) moment 0 s.files state.under
+            (timely honest) job there)
             ∙ ap (λ o. is_plain ((row_for o).0)) at
-            ∙ ap is_plain (settled_reply (enter_answer (pack_one d) before (job_of state.under job) x e
+            ∙ ap is_plain (settled_reply (enter_answer (pack_of d) before (job_of state.under job) x e
             (place_at (job_of state.under job) e)) _ _) ∙ wants.1,
         refl,
       ),
@@ -108,7 +111,7 @@ module _ (d : DiskState) (map : VolumeCore) (failed : Bool) (jobs jobs' : List (
             ∙ ap (state_of s.files state.under) (sym set)
     by_channel serves (Some x) at (inr is) =
         by_step serves (λ serial. ap row_for at
-        ∙ ap (of_job before n) (ap (λ r. settled r (enter_done (pack_one d) before
+        ∙ ap (of_job before n) (ap (λ r. settled r (enter_done (pack_of d) before
         (job_of state.under job) ch x e moment
         (place_at (job_of state.under job) e)) (refused_at (job_of state.under job) e)) is.0
         ∙ settled_with reply _ (refused_at (job_of state.under job) e) not_done

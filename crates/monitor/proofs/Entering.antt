@@ -28,6 +28,7 @@ use Rattle.meaning.specs.declared.call.Reply.TheVariants as replies
 use Rattle.meaning.proofs.MapLists.{get-map_values}
 use Rattle.meaning.proofs.Names.{name_total}
 use Rattle.alloctab.specs.TableState.{space}
+use Rattle.meaning.specs.Layouts.{pack_of}
 use Rattle.retrieval.specs.declared.prime.Prime.{Prime}
 use Rattle.volume.specs.Beginning.{begin_cost, entries_with, is_absent, IsBeginRefusal, IsDirectoryOf}
 use Rattle.volume.specs.Known.{KnownDirectory, Before, IsNamed, IsWholeDirectory}
@@ -43,7 +44,6 @@ use Rattle.volume.proofs.Lookups.{first_place}
 use Rattle.volume.specs.Claims.{claims}
 use Rattle.monitor.specs.Finding.{IsKnown, IsAnswer, found_file, found_in, begun_as, allowed, kind_for}
 use Rattle.monitor.specs.Finding.{begin_answer_at}
-use Rattle.monitor.specs.Serving.{pack_one}
 use Rattle.monitor.specs.Sides.{UnderKeys, job_of}
 use Rattle.monitor.specs.declared.found.Found.{Found}
 use Rattle.monitor.specs.declared.job.Job.{Job}
@@ -115,15 +115,15 @@ module _ (d : DiskState) (map : VolumeCore) (s : State) (known : IsKnown d map s
       ≡ Ok kind))
 
   reply_is : (w : UnderKeys) (job : Job) (place : Place)
-      → begin_answer_at (pack_one d) s (job_of w job) place
-      ≡ begin_reply (may job.ppn place) (exceeds_room (pack_one d) s (1 + growth (entry_count s place.ppn)))
-      (has_no_room (pack_one d) s)
+      → begin_answer_at (pack_of d) s (job_of w job) place
+      ≡ begin_reply (may job.ppn place) (exceeds_room (pack_of d) s (1 + growth (entry_count s place.ppn)))
+      (has_no_room (pack_of d) s)
   reply_is w job place =
       begin_is place.name place.ppn (job_of w job) (get s.files place.ppn) (place.name.name == 0) _ _ _
       ∙ (let shown = sym (shown_at s.files place.ppn) in
       λ i. begin_reply (allowed (found_in (shown i) place.name) job.ppn place.ppn (place.name.name
-      == 0) (known.claimed place i)) (exceeds_room (pack_one d) s (1 + growth (entry_count s place.ppn)))
-      (has_no_room (pack_one d) s))
+      == 0) (known.claimed place i)) (exceeds_room (pack_of d) s (1 + growth (entry_count s place.ppn)))
+      (has_no_room (pack_of d) s))
 
   -- no directory has a number that is none
   pub no_directory : (place : Place) → (IsPpn place.ppn → ⊥) → get s.files place.ppn ≡ None
@@ -143,16 +143,16 @@ module _ (d : DiskState) (map : VolumeCore) (s : State) (known : IsKnown d map s
           (unnamed (find nat_cmp place.ppn map.known.master.entries) refl))
 
   pub no_owner : (w : UnderKeys) (job : Job) (place : Place) → (IsPpn place.ppn → ⊥)
-      → begin_answer_at (pack_one d) s (job_of w job) place ≡ replies.Refused 1
+      → begin_answer_at (pack_of d) s (job_of w job) place ≡ replies.Refused 1
   no_owner w job place none = ap (λ o. if is_none o then replies.Refused 1
-      else (if place.name.name == 0 then replies.Refused 0 else begin_answer (pack_one d) s (job_of w job) None place))
+      else (if place.name.name == 0 then replies.Refused 0 else begin_answer (pack_of d) s (job_of w job) None place))
       (no_directory place none)
 
   pub refused : (w : UnderKeys) (job : Job) (place : Place) (code : ErrorCode) → may job.ppn place ≡ Err code
-      → begin_answer_at (pack_one d) s (job_of w job) place ≡ replies.Refused (number_of code)
+      → begin_answer_at (pack_of d) s (job_of w job) place ≡ replies.Refused (number_of code)
   refused w job place code is = reply_is w job place
-      ∙ ap (λ r. begin_reply r (exceeds_room (pack_one d) s (1 + growth (entry_count s place.ppn)))
-      (has_no_room (pack_one d) s)) is
+      ∙ ap (λ r. begin_reply r (exceeds_room (pack_of d) s (1 + growth (entry_count s place.ppn)))
+      (has_no_room (pack_of d) s)) is
 
   -- how a version begins there
   abbrev pub begins_as : Place → VersionKind
@@ -181,7 +181,7 @@ module _ (d : DiskState) (map : VolumeCore) (s : State) (known : IsKnown d map s
     pub old : Before
     pub named : IsNamed directory place.name old
     pub is_new : is_create kind ≡ is_none old
-    pub answer : begin_answer_at (pack_one d) s (job_of w job) place
+    pub answer : begin_answer_at (pack_of d) s (job_of w job) place
         ≡ (if full kind place directory old then replies.Refused 0o14 else replies.Done)
 
   pub begins : (w : UnderKeys) (job : Job) (place : Place) (kind : VersionKind) → may job.ppn place ≡ Ok kind
@@ -195,27 +195,27 @@ module _ (d : DiskState) (map : VolumeCore) (s : State) (known : IsKnown d map s
           ≡ entries_with map x place.ppn → (old : Before) → (was : Option Version) → get D.files place.name ≡ was
           → is_none old ≡ is_none was → may job.ppn place ≡ Ok kind
           → (is_none was ≡ true → kind ≡ kinds.Create) → (is_none was ≡ false → kind ≡ kinds.Supersede)
-          → (is_create (begins_as place) ≡ is_none old) × (begin_answer_at (pack_one d) s (job_of w job) place
+          → (is_create (begins_as place) ≡ is_none old) × (begin_answer_at (pack_of d) s (job_of w job) place
           ≡ (if full (begins_as place) place x old then replies.Refused 0o14 else replies.Done))
       by_room x D at count old None name none ok new present =
-          subst (λ k. (is_create k ≡ is_none old) × (begin_answer_at (pack_one d) s (job_of w job) place
+          subst (λ k. (is_create k ≡ is_none old) × (begin_answer_at (pack_of d) s (job_of w job) place
           ≡ (if full k place x old then replies.Refused 0o14 else replies.Done)))
           (sym (kind_found place D at None name)) (
             sym none,
             reply_is w job place
-                ∙ ap (λ r. begin_reply r (exceeds_room (pack_one d) s (1 + growth (entry_count s place.ppn)))
-                (has_no_room (pack_one d) s)) (ok ∙ ap Ok (new refl))
+                ∙ ap (λ r. begin_reply r (exceeds_room (pack_of d) s (1 + growth (entry_count s place.ppn)))
+                (has_no_room (pack_of d) s)) (ok ∙ ap Ok (new refl))
                 ∙ (λ i. if nat_lt (space d.size) (known.booked_is i + begin_cost kinds.Create (count i) old)
                 then replies.Refused 0o14 else replies.Done),
           )
       by_room x D at count old (Some v) name none ok new present =
-          subst (λ k. (is_create k ≡ is_none old) × (begin_answer_at (pack_one d) s (job_of w job) place
+          subst (λ k. (is_create k ≡ is_none old) × (begin_answer_at (pack_of d) s (job_of w job) place
           ≡ (if full k place x old then replies.Refused 0o14 else replies.Done)))
           (sym (kind_found place D at (Some v) name)) (
             sym none,
             reply_is w job place
-                ∙ ap (λ r. begin_reply r (exceeds_room (pack_one d) s (1 + growth (entry_count s place.ppn)))
-                (has_no_room (pack_one d) s)) (ok ∙ ap Ok (present refl))
+                ∙ ap (λ r. begin_reply r (exceeds_room (pack_of d) s (1 + growth (entry_count s place.ppn)))
+                (has_no_room (pack_of d) s)) (ok ∙ ap Ok (present refl))
                 ∙ (λ i. if nat_lt (space d.size) (known.booked_is i + begin_cost kinds.Supersede (count i) old)
                 then replies.Refused 0o14 else replies.Done),
           )
@@ -248,7 +248,7 @@ module _ (d : DiskState) (map : VolumeCore) (s : State) (known : IsKnown d map s
   -- What is answered by what the volume answers.
   module _ (w : UnderKeys) (job : Job) (place : Place) (kind : VersionKind) (b : Begins w job place kind) where
     begun : (space d.size < map.known.table.booked + begin_cost kind (entries_with map b.directory place.ppn) b.old
-        → ⊥) → begin_answer_at (pack_one d) s (job_of w job) place ≡ replies.Done
+        → ⊥) → begin_answer_at (pack_of d) s (job_of w job) place ≡ replies.Done
     begun fits = b.answer ∙ ap (λ t. if t then replies.Refused 0o14 else replies.Done) (not_less _ _ fits)
 
     -- the name is there as the kind has it
@@ -263,7 +263,7 @@ module _ (d : DiskState) (map : VolumeCore) (s : State) (known : IsKnown d map s
         + begin_cost kind (entries_with map b.directory place.ppn) b.old)
         → ((code : ErrorCode) → error ≡ errors.Refused code → IsBeginRefusal code)
         → (error ≡ errors.Device → ⊥) → (error ≡ errors.Failed → ⊥)
-        → IsAnswer {X = X} (Err error) (begin_answer_at (pack_one d) s (job_of w job) place)
+        → IsAnswer {X = X} (Err error) (begin_answer_at (pack_of d) s (job_of w job) place)
     not_begun X (errors.Refused code) gone exists none many codes device failed = ⊎_elim
         (λ is. absurd (b.found (gone (ap errors.Refused is))))
         (⊎_elim (λ is. let said = exists (ap errors.Refused is) in
@@ -308,7 +308,7 @@ module _ (d : DiskState) (map : VolumeCore) (s : State) (known : IsKnown d map s
     room_here = room begins_here.directory begins_here.there begins_here.old begins_here.named begins_here.is_new
 
     pub begun_at : (x : X) → result ≡ Ok x
-        → begin_answer_at (pack_one d) s (job_of w job) (place_of prime.ppn prime.file) ≡ replies.Done
+        → begin_answer_at (pack_of d) s (job_of w job) (place_of prime.ppn prime.file) ≡ replies.Done
     begun_at x is = begun w job (place_of prime.ppn prime.file) kind begins_here
         (λ many. let no = room_here.1 many in cc (is, no))
 
@@ -320,7 +320,7 @@ module _ (d : DiskState) (map : VolumeCore) (s : State) (known : IsKnown d map s
         ↔ ((is_create kind ≡ false) × (is_absent prime.file x ≡ true))))
         → ((code : ErrorCode) → result ≡ Err (errors.Refused code) → IsBeginRefusal code)
         → (result ≡ Err errors.Device → ⊥) → (result ≡ Err errors.Failed → ⊥)
-        → IsAnswer {X = Y} (Err error) (begin_answer_at (pack_one d) s (job_of w job) (place_of prime.ppn prime.file))
+        → IsAnswer {X = Y} (Err error) (begin_answer_at (pack_of d) s (job_of w job) (place_of prime.ppn prime.file))
     not_begun_at Y error is gone exists none codes device failed =
         not_begun w job (place_of prime.ppn prime.file) kind begins_here Y error
         (λ e. gone (is ∙ ap Err e))

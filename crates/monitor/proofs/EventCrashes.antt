@@ -19,9 +19,8 @@ use Rattle.meaning.specs.declared.call.Reply.TheVariants.{NoMemory, Device, Fail
 use Rattle.meaning.proofs.SerialLaws as serials
 use Rattle.volume.specs.Live.{VolumeCore}
 use Rattle.monitor.specs.Events.{CallCrashes, IsIdle, OfCall}
-use Rattle.monitor.specs.Serving.{pack_one, IsState}
+use Rattle.monitor.specs.Serving.{IsState}
 use Rattle.monitor.specs.declared.job.Job.{Job}
-use Rattle.monitor.proofs.ServedPacks.{state_pack}
 use Rattle.monitor.proofs.Untouched.{untouched_leaves}
 
 -- whatever a crash may leave stands for the files of the state that the monitor stands for
@@ -50,10 +49,9 @@ changing_event d d' map jobs n call moment reply may crash honest s is =
     (λ c. ⊎_elim (λ was. inl was) (λ after.
     inr (may, subst (StandsOn (pack_of d) c) (same_files after.0) after.1)))
   where
-    same_files : (serial : ℕ) → without_serials ((step (pack_one d) serial s (Calls n call moment)).1.files)
+    same_files : (serial : ℕ) → without_serials ((step (pack_of d) serial s (Calls n call moment)).1.files)
         ≡ without_serials ((step (pack_of d) 0 s (Calls n call moment)).1.files)
-    same_files serial = ap (λ p. without_serials ((step p serial s (Calls n call moment)).1.files))
-        (sym (state_pack d map jobs s is)) ∙ serials.same_files (pack_of d) serial 0 s (Calls n call moment)
+    same_files serial = serials.same_files (pack_of d) serial 0 s (Calls n call moment)
 
 module _ {D : Type 0} (state : D → DiskState) (only_now : (disk : D) (contents : Contents) → (state disk).honest
     → (state disk).left_since (state disk).clock contents → MayLeave (state disk) contents)

@@ -7,6 +7,7 @@ pub mod HeldReaders
 pub mod SideSums
 pub mod Growths
 pub mod Rooms
+pub mod Dates
 pub mod ServedPacks
 pub mod Answering
 pub mod Apart
@@ -75,7 +76,6 @@ pub mod ReadsPinned
 pub mod ReadsPublished
 pub mod ServedEvents
 pub mod EventCrashes
-pub mod OnePack
 pub mod Listed
 pub mod Releases
 pub mod Along

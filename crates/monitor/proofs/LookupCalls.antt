@@ -15,20 +15,21 @@ use Rattle.meaning.specs.Outcomes.{settled, clean, refused_at}
 use Rattle.meaning.specs.Published.{Version, file_at, with_protection}
 use Rattle.meaning.specs.Runs.{Service, Serving, Answers}
 use Rattle.meaning.specs.Stands.{place_of}
-use Rattle.meaning.specs.Step.{step, on_channel, of_job}
+use Rattle.meaning.specs.Step.{step, on_channel, of_job, last_date}
 use Rattle.meaning.specs.declared.call.Call.TheVariants.{Lookup}
 use Rattle.meaning.specs.declared.call.Event.TheVariants.{Call as Calls}
 use Rattle.meaning.specs.declared.call.Reply.{Reply}
 use Rattle.meaning.specs.declared.call.Reply.TheVariants.{Done}
 use Rattle.meaning.proofs.MapSums.{times_head}
 use Rattle.meaning.proofs.SlotLaws.{filter_map-set}
+use Rattle.meaning.specs.Layouts.{pack_of}
 use Rattle.volume.specs.Live.{VolumeCore, pending_at}
 use Rattle.volume.specs.Rest.{IsSoundCore}
 use Rattle.monitor.specs.Finding.{IsKnown}
 use Rattle.monitor.specs.LookingUp.{looking, IsLookingUp, IsLookedUp, IsLookupRow}
 use Rattle.monitor.specs.Readers.{readers_of, AreRead}
 use Rattle.monitor.specs.Rows.{KeepsReading}
-use Rattle.monitor.specs.Serving.{pack_one, AreKeyed, AreReading, IsState, Serves}
+use Rattle.monitor.specs.Serving.{AreKeyed, AreReading, IsState, Serves, IsTimely}
 use Rattle.monitor.specs.Sides.{UnderKeys, side_of, sides_in, reader_of, readers_in, readers, input_of, channel_of}
 use Rattle.monitor.specs.Sides.{job_of, jobs_of, state_of}
 use Rattle.monitor.specs.declared.channel.Channel.{Channel}
@@ -40,6 +41,7 @@ use Rattle.monitor.proofs.Calling.{channel_is, channel_set, job_same}
 use Rattle.monitor.proofs.Dropped.{same_or_not, leaves_none, job_keyed}
 use Rattle.monitor.proofs.ReaderLists.{held, held-append, held-cons_option}
 use Rattle.monitor.proofs.ReadingJobs.{keeps_reading, reads_left}
+use Rattle.monitor.proofs.Dates.{attributes_in, version_dated}
 use Rattle.monitor.proofs.ReadsPinned.{with_read, with_read_same, with_read_other, read_again, reads_pinned}
 
 -- Another version is read under one key.
@@ -106,7 +108,8 @@ module _ (d : DiskState) (map between map' : VolumeCore) (jobs jobs' : List (Opt
     (there : slot jobs n ≡ Some job) (set : jobs' ≡ slice_set jobs n (Some job'))
     (looks : IsLookingUp map between map' job job' ch e c input) (keyed : AreKeyed map'.pending jobs')
     (reading : AreReading map'.live jobs') where
-  module _ (sound : IsSoundCore d map false) (timely : moment.date ≤ 4095) (s : State) (state : IsState d map jobs s)
+  module _ (sound : IsSoundCore d map false) (timely : moment.date ≤ last_date (pack_of d).layout) (s : State)
+      (state : IsState d map jobs s)
       (known : IsKnown d map s) (found : IsLookedUp d.contents between.live s job job' e input)
       (row : (s : State) → IsKnown d map s → (w : UnderKeys)
       → IsLookupRow s (job_of w job) (job_of w job') (channel_at (job_of w job) ch) e Done) where
@@ -152,21 +155,30 @@ module _ (d : DiskState) (map between map' : VolumeCore) (jobs jobs' : List (Opt
         λ i. record { place = p i; version = with_protection (v i) (q i); next = x i }
 
     abbrev words : List ℕ
-    words = after_writes (with_attributes 1 job.core e found.version.file)
+    words = after_writes (with_attributes 2 job.core e found.version.file)
         ((e + 3, size_word (length found.version.file.body)) ∷ [])
 
     -- the row
-    row_is : (serial : ℕ) → step (pack_one d) serial t (Calls n (Lookup ch e) moment) ≡ (Done, state_of s.files w jobs')
+    row_is : (serial : ℕ) → step (pack_of d) serial t (Calls n (Lookup ch e) moment) ≡ (Done, state_of s.files w jobs')
     row_is serial =
-        called d jobs n (Lookup ch e) moment serial s.files w timely job there
-        ∙ ap (λ o. on_channel t o (λ y. of_job t n (lookup (pack_one d) t (job_of w job) ch y e)))
+        called (pack_of d) jobs n (Lookup ch e) moment serial s.files w timely job there
+        ∙ ap (λ o. on_channel t o (λ y. of_job t n (lookup (pack_of d) t (job_of w job) ch y e)))
         (channel_is w job ch (Some c) looks.there)
         ∙ ap (of_job t n)
-        (ap (λ r. settled r (lookup_done (pack_one d) t (job_of w job) ch (channel_of w c) e (place_at
+        (ap (λ r. settled r (lookup_done (pack_of d) t (job_of w job) ch (channel_of w c) e (place_at
         (job_of w job) e))
         (refused_at (job_of w job) e)) answer
-        ∙ ap (λ o. (Done, looked_up (pack_one d) (job_of w job) ch (channel_of w c) e (place_at (job_of w job) e) o))
+        ∙ ap (λ o. (Done, looked_up (pack_of d) (job_of w job) ch (channel_of w c) e (place_at (job_of w job) e) o))
         (ap (file_at s.files) (sym (looks.place w)) ∙ found.there)
+        ∙ ap (λ core. (
+          Done,
+          with_channel (record (job_of w job) {
+            core = after_writes core ((e + 3, size_word (length found.version.file.body)) ∷ []);
+          }) ch (Some (record (clean (channel_of w c)) {
+            input = Some (record { place = place_at (job_of w job) e; version = found.version; next = 1 });
+          })),
+        )) (sym (attributes_in (pack_of d).layout job.core e found.version.file
+        (version_dated d s.files state.files place found.version found.there)))
         ∙ ap (λ (y : machine.Input). (
           Done,
           with_channel (record (job_of w job) { core = words }) ch
@@ -188,11 +200,11 @@ module _ (d : DiskState) (map between map' : VolumeCore) (jobs jobs' : List (Opt
         between key state.serials looks.holds.pinned looks.holds.others looks.holds.core looks.holds.at found.held)
 
     pub looked_leads : (failed : Bool) → failed ≡ false → map'.pending ≡ map.pending → (new : Service)
-        × Serves d map' failed jobs' new × Answers (pack_one d) (Serving s) (Calls n (Lookup ch e) moment) Done new
+        × Serves d map' failed jobs' new × Answers (pack_of d) (Serving s) (Calls n (Lookup ch e) moment) Done new
     looked_leads failed serves pending =
-        goes_on d map' failed jobs' (pack_one d) (Calls n (Lookup ch e) moment) Done s
+        goes_on d map' failed jobs' (pack_of d) (Calls n (Lookup ch e) moment) Done s
         (state_of s.files w jobs') serves state.sound
-        (λ serial. subst (λ y. step (pack_one d) serial y (Calls n (Lookup ch e) moment)
+        (λ serial. subst (λ y. step (pack_of d) serial y (Calls n (Lookup ch e) moment)
         ≡ (Done, state_of s.files w jobs')) (sym t_is) (row_is serial))
         (λ still. record {
           files = state.files;
@@ -213,7 +225,8 @@ module _ (d : DiskState) (map : VolumeCore) (jobs jobs' : List (Option Job)) (n 
     (ch e : ℕ) (moment : Moment) (reply : Reply)
     (there : slot jobs n ≡ Some job) (set : jobs' ≡ slice_set jobs n (Some job')) (not_done : reply ≡ Done
     → ⊥) (keyed : AreKeyed map.pending jobs') (reading : AreReading map.live jobs') where
-  module _ (timely : moment.date ≤ 4095) (s : State) (state : IsState d map jobs s) (known : IsKnown d map s)
+  module _ (timely : moment.date ≤ last_date (pack_of d).layout) (s : State) (state : IsState d map jobs s)
+      (known : IsKnown d map s)
       (row : (s : State) → IsKnown d map s → (w : UnderKeys)
       → IsLookupRow s (job_of w job) (job_of w job') (channel_at (job_of w job) ch) e reply) where
     abbrev before : State
@@ -224,7 +237,7 @@ module _ (d : DiskState) (map : VolumeCore) (jobs jobs' : List (Option Job)) (n 
 
     -- on the channel
     abbrev row_for : Option machine.Channel → Reply × State
-    row_for o = on_channel before o (λ y. of_job before n (lookup (pack_one d) before (job_of state.under job) ch y e))
+    row_for o = on_channel before o (λ y. of_job before n (lookup (pack_of d) before (job_of state.under job) ch y e))
 
     by_channel : (o : Option machine.Channel)
         → IsLookupRow before (job_of state.under job) (job_of state.under job') o e reply
@@ -233,19 +246,19 @@ module _ (d : DiskState) (map : VolumeCore) (jobs jobs' : List (Option Job)) (n 
         ∙ ap (λ y. (reply, y)) (job_same before n (job_of state.under job) (slot_of state.under jobs n (Some job) there)
         ∙ ap (with_job before n) (sym is.1))
     by_channel (Some x) is =
-        ap (of_job before n) (ap (λ r. settled r (lookup_done (pack_one d) before (job_of state.under job) ch x e
+        ap (of_job before n) (ap (λ r. settled r (lookup_done (pack_of d) before (job_of state.under job) ch x e
         (place_at (job_of state.under job) e)) (refused_at (job_of state.under job) e)) is.0
         ∙ settled_with reply _ (refused_at (job_of state.under job) e) not_done
         ∙ ap (λ j. (reply, j)) (sym (is.1 not_done)))
 
     pub other_leads : (failed : Bool) → failed ≡ false → (new : Service) × Serves d map failed jobs' new
-        × Answers (pack_one d) (Serving s) (Calls n (Lookup ch e) moment) reply new
+        × Answers (pack_of d) (Serving s) (Calls n (Lookup ch e) moment) reply new
     other_leads failed serves =
-        goes_on d map failed jobs' (pack_one d) (Calls n (Lookup ch e) moment) reply s
+        goes_on d map failed jobs' (pack_of d) (Calls n (Lookup ch e) moment) reply s
         (state_of s.files state.under jobs') serves state.sound
-        (λ serial. subst (λ y. step (pack_one d) serial y (Calls n (Lookup ch e) moment)
+        (λ serial. subst (λ y. step (pack_of d) serial y (Calls n (Lookup ch e) moment)
         ≡ (reply, state_of s.files state.under jobs')) (sym before_is)
-        (called d jobs n (Lookup ch e) moment serial s.files state.under timely job there
+        (called (pack_of d) jobs n (Lookup ch e) moment serial s.files state.under timely job there
         ∙ by_channel (channel_at (job_of state.under job) ch)
         (row before (subst (IsKnown d map) before_is known) state.under)
         ∙ ap (λ y. (reply, y)) (job_set s.files state.under jobs n job' ∙ ap (state_of s.files state.under) (sym set))))
@@ -278,26 +291,27 @@ module _ (d d' : DiskState) (map map' : VolumeCore) (jobs jobs' : List (Option J
   lookup_reading = subst (AreReading map'.live) (sym set)
       (keeps_reading map.live map'.live jobs n job job' reading there keeps)
 
-  pub lookup_answered : (failed : Bool) → failed ≡ false → IsSoundCore d map false → d'.honest → moment.date ≤ 4095
+  pub lookup_answered : (failed : Bool) → failed ≡ false → IsSoundCore d map false → d.honest → d'.honest
+      → IsTimely d moment
       → ((s : State) → IsState d map jobs s → IsKnown d map s)
       → ((s : State) → IsKnown d map s → (w : UnderKeys)
       → IsLookupRow s (job_of w job) (job_of w job') (channel_at (job_of w job) ch) e reply)
       → (old : Service) → Serves d map failed jobs old → (new : Service) × Serves d map' failed jobs' new
-      × Answers (pack_one d) old (Calls n (Lookup ch e) moment) reply new
-  lookup_answered failed serves sound honest timely known row =
+      × Answers (pack_of d) old (Calls n (Lookup ch e) moment) reply new
+  lookup_answered failed serves sound was honest timely known row =
       in_state d map failed jobs (λ old. (new : Service) × Serves d map' failed jobs' new
-      × Answers (pack_one d) old (Calls n (Lookup ch e) moment) reply new) serves (λ s state. ⊎_elim
+      × Answers (pack_of d) old (Calls n (Lookup ch e) moment) reply new) serves (λ s state. ⊎_elim
       (λ is. let l = looked is in
       subst (λ r. (new : Service) × Serves d map' failed jobs' new
-      × Answers (pack_one d) (Serving s) (Calls n (Lookup ch e) moment) r new) (sym is)
+      × Answers (pack_of d) (Serving s) (Calls n (Lookup ch e) moment) r new) (sym is)
       (looked_leads d map l.2 map' jobs jobs' n job job' ch e moment l.0 l.1 there set l.3 lookup_keyed
-      lookup_reading sound timely s state (known s state) (l.4 honest s (known s state))
+      lookup_reading sound (timely was) s state (known s state) (l.4 honest s (known s state))
       (λ x at w. subst (IsLookupRow x (job_of w job) (job_of w job') (channel_at (job_of w job) ch) e) is (row x at w))
       failed serves pending))
       (λ not. let k = kept not in
       subst (λ m. (new : Service) × Serves d m failed jobs' new
-      × Answers (pack_one d) (Serving s) (Calls n (Lookup ch e) moment) reply new) (sym k.0)
+      × Answers (pack_of d) (Serving s) (Calls n (Lookup ch e) moment) reply new) (sym k.0)
       (other_leads d map jobs jobs' n job job' ch e moment reply there set not
       (subst (λ m. AreKeyed m.pending jobs') k.0 lookup_keyed) (subst (λ m. AreReading m.live jobs') k.0 lookup_reading)
-      timely s state (known s state) row failed serves))
+      (timely was) s state (known s state) row failed serves))
       (is_done reply))

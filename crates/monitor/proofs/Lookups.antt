@@ -110,7 +110,7 @@ pub is_found : (contents : Contents) (live : List (Option LiveVersion)) (s : Sta
     (e : ℕ) (input : Input) (facts : FileFacts) → place_of input.ppn input.file ≡ place_at (job_of w job) e
     → IsInputOf contents live s (job_of w job) e input facts
     → ((file : File) → IsShown file facts → HasShortFacts file
-    → job'.core ≡ after_writes (with_attributes 1 job.core e file) ((e + 3, size_word (length file.body)) ∷ []))
+    → job'.core ≡ after_writes (with_attributes 2 job.core e file) ((e + 3, size_word (length file.body)) ∷ []))
     → IsLookedUp contents live s job job' e input
 is_found contents live s w job job' e input facts place is put = record {
   version = is.version;

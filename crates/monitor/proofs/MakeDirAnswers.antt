@@ -29,7 +29,7 @@ use Rattle.monitor.specs.DirectoryRows.{IsAbsent, IsCrowded, IsRefusedBy}
 use Rattle.monitor.specs.DirectoryRows.{IsMakeDir}
 use Rattle.monitor.specs.Events.{CallCrashes, IsIdle}
 use Rattle.monitor.specs.Rows.{KeepsSides, KeepsReading}
-use Rattle.monitor.specs.Serving.{pack_one, AreKeyed, AreReading, IsState, Serves}
+use Rattle.monitor.specs.Serving.{AreKeyed, AreReading, IsState, Serves, IsTimely}
 use Rattle.monitor.specs.Sides.{state_of}
 use Rattle.monitor.specs.declared.job.Job.{Job}
 use Rattle.monitor.proofs.Answering.{in_state, goes_on, same_files, on_disk}
@@ -44,7 +44,7 @@ pub idle_crashes : (d : DiskState) (c : VolumeCore) (jobs : List (Option Job)) (
 idle_crashes d c jobs n call moment only_now honest s state =
     leaves_start d (λ contents. StandsOn (pack_of d) contents (without_serials s.files)
     ⊎ ((serial : ℕ) × StandsOn (pack_of d) contents
-    (without_serials ((step (pack_one d) serial s (Calls n call moment)).1.files)))) (only_now honest)
+    (without_serials ((step (pack_of d) serial s (Calls n call moment)).1.files)))) (only_now honest)
     (λ x left. inl (rest_settles d (λ y. SettledStandsOn (pack_of d) y (without_serials s.files)) state.files x left))
 
 -- it failed just where the device did
@@ -80,8 +80,8 @@ idle_same size c Disks Cores job job' e DateRange outcome idle = absurd outcome
 
 module _ {D : Type 0} (state_in : D → DiskState) (disk disk' : D) (c c' : VolumeCore) (jobs jobs' : List (Option Job))
     (n : ℕ) (job job' : Job) (e : ℕ) (moment : Moment)
-    (there : slot jobs n ≡ Some job) (set : jobs' ≡ slice_set jobs n (Some job')) (timely : moment.date
-    ≤ 4095) (sound : IsSoundCore (state_in disk) c false) where
+    (there : slot jobs n ≡ Some job) (set : jobs' ≡ slice_set jobs n (Some job'))
+    (timely : IsTimely (state_in disk) moment) (sound : IsSoundCore (state_in disk) c false) where
   abbrev d : DiskState
   d = state_in disk
 
@@ -116,44 +116,44 @@ module _ {D : Type 0} (state_in : D → DiskState) (disk disk' : D) (c c' : Volu
     set_to x is = sym (set ∙ ap (λ j. slice_set jobs n (Some j)) is)
 
     step_done : job' ≡ job → early_answer job.ppn job.core e ≡ Done → IsAbsent c (asked_owner job.core e)
-        → (IsCrowded d.size c → ⊥) → (serial : ℕ) → step (pack_one d) serial s (Calls n (MakeDir e) moment)
+        → (IsCrowded d.size c → ⊥) → (serial : ℕ) → step (pack_of d) serial s (Calls n (MakeDir e) moment)
         ≡ (Done, after_made)
     step_done same early absent fits serial =
-        from_before (λ y. step (pack_one d) serial y (Calls n (MakeDir e) moment) ≡ (Done, after_made))
+        from_before (λ y. step (pack_of d) serial y (Calls n (MakeDir e) moment) ≡ (Done, after_made))
         (row_done d c s.files state.under jobs sound.whole (held d c jobs job e sound honest s state)
-        (books d c jobs job e sound honest s state) n job there e moment timely early absent fits serial
+        (books d c jobs job e sound honest s state) n job there e moment (timely honest) early absent fits serial
         ∙ ap (λ js. (Done, state_of (files' d c jobs job e sound honest s state) state.under js)) (set_to job same))
 
     step_refused : (code : ℕ) → IsMakeDir d.size c Same job job' e (Refused code) → (serial : ℕ)
-        → step (pack_one d) serial s (Calls n (MakeDir e) moment) ≡ (Refused code, after_kept)
+        → step (pack_of d) serial s (Calls n (MakeDir e) moment) ≡ (Refused code, after_kept)
     step_refused code (job_is, same, why) serial =
-        from_before (λ y. step (pack_one d) serial y (Calls n (MakeDir e) moment) ≡ (Refused code, after_kept))
+        from_before (λ y. step (pack_of d) serial y (Calls n (MakeDir e) moment) ≡ (Refused code, after_kept))
         (⊎_elim
         (λ (early : early_answer job.ppn job.core e ≡ Refused code).
         row_early d c s.files state.under jobs sound.whole (held d c jobs job e sound honest s state)
-        (books d c jobs job e sound honest s state) n job there e moment timely (Refused code) _ early
+        (books d c jobs job e sound honest s state) n job there e moment (timely honest) (Refused code) _ early
         (λ is. cc is) refl serial)
         (λ (late : (early_answer job.ppn job.core e ≡ Done) × IsRefusedBy d.size c (asked_owner job.core e) code).
         row_refused d c s.files state.under jobs sound.whole (held d c jobs job e sound honest s state)
-        (books d c jobs job e sound honest s state) n job there e moment timely code late.0 late.1 serial)
+        (books d c jobs job e sound honest s state) n job there e moment (timely honest) code late.0 late.1 serial)
         why
         ∙ ap (λ js. (Refused code, state_of s.files state.under js)) (set_to _ job_is))
 
     step_checked : job' ≡ job → early_answer job.ppn job.core e ≡ AddressCheck → (serial : ℕ)
-        → step (pack_one d) serial s (Calls n (MakeDir e) moment) ≡ (AddressCheck, after_kept)
+        → step (pack_of d) serial s (Calls n (MakeDir e) moment) ≡ (AddressCheck, after_kept)
     step_checked same early serial =
-        from_before (λ y. step (pack_one d) serial y (Calls n (MakeDir e) moment) ≡ (AddressCheck, after_kept))
+        from_before (λ y. step (pack_of d) serial y (Calls n (MakeDir e) moment) ≡ (AddressCheck, after_kept))
         (row_early d c s.files state.under jobs sound.whole (held d c jobs job e sound honest s state)
-        (books d c jobs job e sound honest s state) n job there e moment timely AddressCheck job early
+        (books d c jobs job e sound honest s state) n job there e moment (timely honest) AddressCheck job early
         (λ is. cc is) refl serial
         ∙ ap (λ js. (AddressCheck, state_of s.files state.under js)) (set_to job same))
 
     undecided : early_answer job.ppn job.core e ≡ Done
-        → is_plain ((step (pack_one d) 0 s (Calls n (MakeDir e) moment)).0) ≡ false
+        → is_plain ((step (pack_of d) 0 s (Calls n (MakeDir e) moment)).0) ≡ false
     undecided early =
-        from_before (λ y. is_plain ((step (pack_one d) 0 y (Calls n (MakeDir e) moment)).0) ≡ false)
+        from_before (λ y. is_plain ((step (pack_of d) 0 y (Calls n (MakeDir e) moment)).0) ≡ false)
         (row_undecided d c s.files state.under jobs sound.whole (held d c jobs job e sound honest s state)
-        (books d c jobs job e sound honest s state) n job there e moment timely early)
+        (books d c jobs job e sound honest s state) n job there e moment (timely honest) early)
 
   -- Crashes.
   module _ (was : d'.honest → d.honest) (only_now : d.honest → (x : Contents) → d.left_since d.clock x → MayLeave d x)
@@ -197,26 +197,26 @@ module _ {D : Type 0} (state_in : D → DiskState) (disk disk' : D) (c c' : Volu
       (reading' : AreReading c'.live jobs') (honest : d.honest) where
     abbrev Leads : Reply → Type 0
     Leads reply = (old : Service) → Serves d c failed jobs old → (new : Service) × Serves d' c' failed' jobs' new
-        × Answers (pack_one d) old (Calls n (MakeDir e) moment) reply new
+        × Answers (pack_of d) old (Calls n (MakeDir e) moment) reply new
 
     -- disk and volume are as they were
     unmoved : (reply : Reply) → Same → failed' ≡ false
         → ((s : State) → IsState d c jobs s → (new : Service) × Serves d c failed jobs' new
-        × Answers (pack_one d) (Serving s) (Calls n (MakeDir e) moment) reply new) → Leads reply
+        × Answers (pack_of d) (Serving s) (Calls n (MakeDir e) moment) reply new) → Leads reply
     unmoved reply same alive by old stands =
-        on_disk state_in disk disk' failed failed' c' jobs' (Answers (pack_one d) old (Calls n
+        on_disk state_in disk disk' failed failed' c' jobs' (Answers (pack_of d) old (Calls n
         (MakeDir e) moment) reply)
         (same.0, alive ∙ sym serves)
         (subst (λ m. (new : Service) × Serves d m failed jobs' new
-        × Answers (pack_one d) old (Calls n (MakeDir e) moment) reply new) (sym same.1)
+        × Answers (pack_of d) old (Calls n (MakeDir e) moment) reply new) (sym same.1)
         (in_state d c failed jobs (λ x. (new : Service) × Serves d c failed jobs' new
-        × Answers (pack_one d) x (Calls n (MakeDir e) moment) reply new) serves by old stands))
+        × Answers (pack_of d) x (Calls n (MakeDir e) moment) reply new) serves by old stands))
 
     -- the files are as they were
     kept : (reply : Reply) → Same → failed' ≡ false → ((s : State) (state : IsState d c jobs s) (serial : ℕ)
-        → step (pack_one d) serial s (Calls n (MakeDir e) moment) ≡ (reply, after_kept honest s state)) → Leads reply
+        → step (pack_of d) serial s (Calls n (MakeDir e) moment) ≡ (reply, after_kept honest s state)) → Leads reply
     kept reply same alive steps =
-        unmoved reply same alive (λ s state. goes_on d c failed jobs' (pack_one d) (Calls n (MakeDir e) moment) reply s
+        unmoved reply same alive (λ s state. goes_on d c failed jobs' (pack_of d) (Calls n (MakeDir e) moment) reply s
         (after_kept honest s state) serves state.sound (steps s state)
         (same_files d c c failed jobs jobs' (subst (λ m. AreKeyed m.pending jobs') same.1 keyed')
         (subst (λ m. AreReading m.live jobs') same.1 reading') (leaves_none c) s state))
@@ -231,10 +231,10 @@ module _ {D : Type 0} (state_in : D → DiskState) (disk disk' : D) (c c' : Volu
           → RestsAt d' (files_made f (asked_owner job.core e) (directory_protection_asked job.core e))) → Leads reply
       make_dir_answered Done (job_is, early, absent, fits) fails done =
           in_state d c failed jobs (λ old. (new : Service) × Serves d' c' failed' jobs' new
-          × Answers (pack_one d) old (Calls n (MakeDir e) moment) Done new) serves
+          × Answers (pack_of d) old (Calls n (MakeDir e) moment) Done new) serves
           (λ s state.
           let alive = not_failed failed' Done fails (λ is. cc is) in
-          goes_on d' c' failed' jobs' (pack_one d) (Calls n (MakeDir e) moment) Done s
+          goes_on d' c' failed' jobs' (pack_of d) (Calls n (MakeDir e) moment) Done s
           (after_made honest s state) alive state.sound (step_done honest s state job_is early absent fits)
           (made_state d c jobs job e sound honest s state d' c' jobs' keyed' reading' live pending primes
           (readers alive) (writers alive) (done (without_serials s.files) state.files refl) absent))
@@ -257,7 +257,7 @@ module _ {D : Type 0} (state_in : D → DiskState) (disk disk' : D) (c c' : Volu
           ))
       make_dir_answered Device (job_is, early, absent, fits) fails done =
           in_state d c failed jobs (λ old. (new : Service) × Serves d' c' failed' jobs' new
-          × Answers (pack_one d) old (Calls n (MakeDir e) moment) Device new) serves
+          × Answers (pack_of d) old (Calls n (MakeDir e) moment) Device new) serves
           (λ s state. (Broken, fails.1 refl, (refl, undecided honest s state early, refl)))
       make_dir_answered (Value word) wrong fails done = absurd wrong
       make_dir_answered (Stopped status) wrong fails done = absurd wrong

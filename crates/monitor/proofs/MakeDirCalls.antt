@@ -17,10 +17,10 @@ use Rattle.meaning.specs.Runs.{is_plain}
 use Rattle.meaning.specs.declared.call.Reply.{Reply}
 use Rattle.meaning.specs.declared.call.Reply.TheVariants.{Done, Refused, AddressCheck}
 use Rattle.alloctab.specs.TableState.{space}
+use Rattle.meaning.specs.Layouts.{pack_of}
 use Rattle.volume.specs.Live.{VolumeCore, IsWholeCore}
 use Rattle.volume.proofs.Answering.{Holds}
 use Rattle.monitor.specs.DirectoryRows.{asked_owner, early_answer, IsAbsent, IsCrowded, IsRefusedBy}
-use Rattle.monitor.specs.Serving.{pack_one}
 use Rattle.monitor.specs.Sides.{UnderKeys, job_of, state_of}
 use Rattle.monitor.specs.declared.job.Job.{Job}
 use Rattle.monitor.proofs.Growths.{count_is}
@@ -74,14 +74,14 @@ module _ (d : DiskState) (c : VolumeCore) (files : Files Version) (w : UnderKeys
       (not ((job.ppn == system) || (job.ppn == owner))) reply
 
   abbrev crowded : Bool
-  crowded = exceeds_room (pack_one d) t (1 + growth (size files))
+  crowded = exceeds_room (pack_of d) t (1 + growth (size files))
 
   pub decided : (reply : Reply) → early_answer job.ppn job.core e ≡ reply → (reply ≡ Done → ⊥)
-      → make_answer (pack_one d) t (job_of w job) e owner ≡ reply
+      → make_answer (pack_of d) t (job_of w job) e owner ≡ reply
   decided reply is other = pick_other (lies_outside job.core e 2) ((left owner == 0) || (right owner == 0))
       (not ((job.ppn == system) || (job.ppn == owner))) (rest (is_some (get files owner)) crowded) reply is other
 
-  undecided : early_answer job.ppn job.core e ≡ Done → make_answer (pack_one d) t (job_of w job) e owner
+  undecided : early_answer job.ppn job.core e ≡ Done → make_answer (pack_of d) t (job_of w job) e owner
       ≡ rest (is_some (get files owner)) crowded
   undecided is = pick_done (lies_outside job.core e 2) ((left owner == 0) || (right owner == 0))
       (not ((job.ppn == system) || (job.ppn == owner))) (rest (is_some (get files owner)) crowded) is
@@ -95,7 +95,7 @@ module _ (d : DiskState) (c : VolumeCore) (files : Files Version) (w : UnderKeys
       ∙ ap (λ n. nat_lt (space d.size) (c.known.table.booked + (1 + n))) (sym grows)
 
   pub refused_by : (code : ℕ) → early_answer job.ppn job.core e ≡ Done → IsRefusedBy d.size c owner code
-      → make_answer (pack_one d) t (job_of w job) e owner ≡ Refused code
+      → make_answer (pack_of d) t (job_of w job) e owner ≡ Refused code
   refused_by code is (inl (four, present)) = undecided is
       ∙ ap (λ b. rest b crowded) (one_there d c files holds owner present) ∙ ap Refused (sym four)
   refused_by code is (inr (full, absent, past)) =
@@ -103,13 +103,13 @@ module _ (d : DiskState) (c : VolumeCore) (files : Files Version) (w : UnderKeys
       ∙ ap (rest false) (test_is ∙ after (space d.size) _ (omega (arith, past))) ∙ ap Refused (sym full)
 
   pub may_make : early_answer job.ppn job.core e ≡ Done → IsAbsent c owner → (IsCrowded d.size c → ⊥)
-      → make_answer (pack_one d) t (job_of w job) e owner ≡ Done
+      → make_answer (pack_of d) t (job_of w job) e owner ≡ Done
   may_make is absent fits =
       undecided is ∙ ap (λ o. rest (is_some o) crowded) (none_there d c files holds owner absent)
       ∙ ap (rest false) (test_is ∙ not_after (space d.size) _ (λ past. fits (omega (arith, past))))
 
   -- where directories are looked at, the answer isn't one that is found before memory and the disk are needed
-  pub not_plain : early_answer job.ppn job.core e ≡ Done → is_plain (make_answer (pack_one d) t (job_of w job) e owner)
+  pub not_plain : early_answer job.ppn job.core e ≡ Done → is_plain (make_answer (pack_of d) t (job_of w job) e owner)
       ≡ false
   not_plain is = ap is_plain (undecided is) ∙ by (is_some (get files owner)) crowded
     where

@@ -16,12 +16,13 @@ use Rattle.meaning.specs.Published.{Version, without_serials, file_in, file_at}
 use Rattle.meaning.specs.Room.{booked}
 use Rattle.meaning.specs.Runs.{HaveDistinctSerials, is_plain}
 use Rattle.meaning.specs.Sound as meaning
-use Rattle.meaning.specs.Step.{step, of_files}
+use Rattle.meaning.specs.Step.{step, of_files, last_date}
 use Rattle.meaning.specs.declared.call.Call.TheVariants.{MakeDir}
 use Rattle.meaning.specs.declared.call.Event.TheVariants.{Call as Calls}
 use Rattle.meaning.specs.declared.call.Reply.{Reply}
 use Rattle.meaning.specs.declared.call.Reply.TheVariants.{Done, Refused}
 use Rattle.meaning.proofs.MapLaws.{same_or_other, get-empty, get-insert_same, get-insert_other}
+use Rattle.meaning.specs.Layouts.{pack_of}
 use Rattle.volume.specs.Live.{VolumeCore, pending_at, IsWholeCore}
 use Rattle.volume.specs.Making.{files_made}
 use Rattle.volume.specs.Places.{prime_at}
@@ -30,7 +31,7 @@ use Rattle.volume.specs.declared.pending.PendingVersion.{PendingVersion}
 use Rattle.volume.proofs.Answering.{Holds, rest_holds}
 use Rattle.monitor.specs.DirectoryRows.{asked_owner, directory_protection_asked, early_answer}
 use Rattle.monitor.specs.DirectoryRows.{IsAbsent, IsCrowded, IsRefusedBy}
-use Rattle.monitor.specs.Serving.{pack_one, AreKeyed, AreReading, IsState}
+use Rattle.monitor.specs.Serving.{AreKeyed, AreReading, IsState}
 use Rattle.monitor.specs.Sides.{UnderKeys, job_of, state_of}
 use Rattle.monitor.specs.declared.job.Job.{Job}
 use Rattle.monitor.proofs.Answering.{state_is, job_set, called, settled_with, settled_reply}
@@ -44,7 +45,8 @@ use Rattle.monitor.proofs.WrittenStays.{writing_stays}
 module _ (d : DiskState) (c : VolumeCore) (files : Files Version) (w : UnderKeys) (jobs : List (Option Job))
     (whole : IsWholeCore d.size c) (holds : Holds d c.known (without_serials files))
     (books : booked (state_of files w jobs) ≡ c.known.table.booked)
-    (n : ℕ) (job : Job) (there : slot jobs n ≡ Some job) (e : ℕ) (moment : Moment) (timely : moment.date ≤ 4095) where
+    (n : ℕ) (job : Job) (there : slot jobs n ≡ Some job) (e : ℕ) (moment : Moment)
+    (timely : moment.date ≤ last_date (pack_of d).layout) where
   abbrev t : State
   t = state_of files w jobs
 
@@ -57,14 +59,14 @@ module _ (d : DiskState) (c : VolumeCore) (files : Files Version) (w : UnderKeys
   by_answer reply = of_files t n (settled reply (job_of w job, made) (λ r. (refused_at (job_of w job) e r, files)))
 
   abbrev answer : Reply
-  answer = make_answer (pack_one d) t (job_of w job) e (asked_owner job.core e)
+  answer = make_answer (pack_of d) t (job_of w job) e (asked_owner job.core e)
 
-  asks : (serial : ℕ) → step (pack_one d) serial t (Calls n (MakeDir e) moment) ≡ by_answer answer
-  asks serial = called d jobs n (MakeDir e) moment serial files w timely job there
+  asks : (serial : ℕ) → step (pack_of d) serial t (Calls n (MakeDir e) moment) ≡ by_answer answer
+  asks serial = called (pack_of d) jobs n (MakeDir e) moment serial files w timely job there
 
   pub row_done : early_answer job.ppn job.core e ≡ Done → IsAbsent c (asked_owner job.core e) → (IsCrowded d.size c → ⊥)
       → (serial : ℕ)
-      → step (pack_one d) serial t (Calls n (MakeDir e) moment) ≡ (Done, state_of made w (slice_set jobs n (Some job)))
+      → step (pack_of d) serial t (Calls n (MakeDir e) moment) ≡ (Done, state_of made w (slice_set jobs n (Some job)))
   row_done early absent fits serial = asks serial
       ∙ ap by_answer (may_make d c files w jobs whole holds books job e early absent fits)
       ∙ ap (λ x. (Done, x)) (job_set made w jobs n job)
@@ -72,7 +74,7 @@ module _ (d : DiskState) (c : VolumeCore) (files : Files Version) (w : UnderKeys
   -- another answer
   row_kept : (reply : Reply) (job' : Job) → answer ≡ reply → (reply ≡ Done → ⊥)
       → refused_at (job_of w job) e reply ≡ job_of w job' → (serial : ℕ)
-      → step (pack_one d) serial t (Calls n (MakeDir e) moment)
+      → step (pack_of d) serial t (Calls n (MakeDir e) moment)
       ≡ (reply, state_of files w (slice_set jobs n (Some job')))
   row_kept reply job' is not_done left serial =
       asks serial ∙ ap by_answer is ∙ ap (of_files t n) (settled_with reply (job_of w job, made)
@@ -81,14 +83,14 @@ module _ (d : DiskState) (c : VolumeCore) (files : Files Version) (w : UnderKeys
 
   pub row_early : (reply : Reply) (job' : Job) → early_answer job.ppn job.core e ≡ reply → (reply ≡ Done → ⊥)
       → refused_at (job_of w job) e reply ≡ job_of w job' → (serial : ℕ)
-      → step (pack_one d) serial t (Calls n (MakeDir e) moment)
+      → step (pack_of d) serial t (Calls n (MakeDir e) moment)
       ≡ (reply, state_of files w (slice_set jobs n (Some job')))
   row_early reply job' early not_done = row_kept reply job'
       (decided d c files w jobs whole holds books job e reply early not_done) not_done
 
   pub row_refused : (code : ℕ) → early_answer job.ppn job.core e ≡ Done
       → IsRefusedBy d.size c (asked_owner job.core e) code → (serial : ℕ)
-      → step (pack_one d) serial t (Calls n (MakeDir e) moment)
+      → step (pack_of d) serial t (Calls n (MakeDir e) moment)
       ≡ (
         Refused code,
         state_of files w (slice_set jobs n (Some (record job { core = with_right job.core (e + 1) code }))),
@@ -98,7 +100,7 @@ module _ (d : DiskState) (c : VolumeCore) (files : Files Version) (w : UnderKeys
 
   -- it isn't decided before memory and the disk are needed
   pub row_undecided : early_answer job.ppn job.core e ≡ Done
-      → is_plain ((step (pack_one d) 0 t (Calls n (MakeDir e) moment)).0) ≡ false
+      → is_plain ((step (pack_of d) 0 t (Calls n (MakeDir e) moment)).0) ≡ false
   row_undecided early =
       ap (λ (r : Reply × State). is_plain r.0) (asks 0)
       ∙ ap is_plain (settled_reply answer (job_of w job, made) (λ r. (refused_at (job_of w job) e r, files)))

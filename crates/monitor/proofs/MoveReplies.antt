@@ -27,6 +27,7 @@ use Rattle.meaning.specs.declared.call.Reply.TheVariants as replies
 use Rattle.meaning.proofs.PlaceLaws.{directory_of_file}
 use Rattle.meaning.proofs.SoundLaws.{same_place-equal}
 use Rattle.alloctab.specs.TableState.{space}
+use Rattle.meaning.specs.Layouts.{pack_of}
 use Rattle.volume.specs.Beginning.{entries_with, IsDirectoryOf}
 use Rattle.volume.specs.Known.{KnownDirectory}
 use Rattle.volume.specs.Live.{VolumeCore}
@@ -38,7 +39,6 @@ use Rattle.volume.proofs.Answering.{Holds, rest_holds}
 use Rattle.monitor.specs.Arriving.{arrival_answer}
 use Rattle.monitor.specs.Changing.{change_answer}
 use Rattle.monitor.specs.Finding.{IsKnown}
-use Rattle.monitor.specs.Serving.{pack_one}
 use Rattle.monitor.proofs.Beginning.{IsHome, home, home_of, listed}
 use Rattle.monitor.proofs.ChangeAnswers.{rename_goes_on, changed_there}
 use Rattle.monitor.proofs.Entering.{less}
@@ -225,7 +225,7 @@ module _ (d : DiskState) (c : VolumeCore) (s : State) (known : IsKnown d c s) (s
   new = place_of to_ppn to
 
   abbrev pack : Pack
-  pack = pack_one d
+  pack = pack_of d
 
   holds : Holds d c.known (without_serials s.files)
   holds = rest_holds d c false sound honest refl (without_serials s.files) known.files

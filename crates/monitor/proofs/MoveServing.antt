@@ -47,7 +47,7 @@ use Rattle.monitor.specs.Finding.{IsKnown}
 use Rattle.monitor.specs.Promises.{IsAmong, IsServing, ServesAlways}
 use Rattle.monitor.specs.Readers.{readers_of}
 use Rattle.monitor.specs.Refusals.{with_code}
-use Rattle.monitor.specs.Serving.{pack_one, ArePlaced, IsState, Serves}
+use Rattle.monitor.specs.Serving.{ArePlaced, IsState, Serves, IsTimely}
 use Rattle.monitor.specs.Sides.{UnderKeys, job_of, state_of}
 use Rattle.monitor.specs.declared.channel.Channel.{Channel}
 use Rattle.monitor.specs.declared.input.Input.{Input}
@@ -154,7 +154,7 @@ module _ {D : Type 0} (state : D → DiskState) (only_now : (disk : D) (contents
   moves : (slice_index job.core e == 0) ≡ false
   moves = ne_eqb (slice_index job.core e) 0 named
 
-  module _ (moment : Moment) (timely : moment.date ≤ 4095) (jobs : List (Option Job)) (n : ℕ)
+  module _ (moment : Moment) (timely : IsTimely d moment) (jobs : List (Option Job)) (n : ℕ)
       (among : IsAmong core jobs n job) where
     abbrev moved_jobs : List (Option Job)
     moved_jobs = slice_set jobs n (Some (with_input_closed job number channel))
@@ -195,11 +195,12 @@ module _ {D : Type 0} (state : D → DiskState) (only_now : (disk : D) (contents
           ∙ (λ i. files_moved s.files old (sym (place w) i) (sym protects i) (from.1 i))
 
       row : (answer : Result (Unit {0}) CallError) → Says answer → (answer ≡ Err (Refused NoRoom) → ⊥) → (serial : ℕ)
-          → step (pack_one d) serial s (Calls n (Rename number e) moment) ≡ (replies.Done, state_of files' w moved_jobs)
+          → step (pack_of d) serial s (Calls n (Rename number e) moment) ≡ (replies.Done, state_of files' w moved_jobs)
       row answer says fits serial =
-          subst (λ y. step (pack_one d) serial y (Calls n (Rename number e) moment)
+          subst (λ y. step (pack_of d) serial y (Calls n (Rename number e) moment)
           ≡ (replies.Done, state_of files' w moved_jobs)) (sym before)
-          (row_done d s.files w jobs n job among.there number e moment timely channel is_open input side free inside
+          (row_done d s.files w jobs n job among.there number e moment (timely honest) channel is_open input side free
+          inside
           (moves_done d core t here sound honest (job_of w job) e input.ppn input.file to_ppn to (place w) moves
           (changes honest t here w) (comes honest t here w) answer says.answers fits) serial
           ∙ ap (λ fs. (replies.Done, state_of fs w moved_jobs)) files_are)
@@ -237,10 +238,10 @@ module _ {D : Type 0} (state : D → DiskState) (only_now : (disk : D) (contents
 
       done_answered : d'.honest → (old' : Service) → Serves d core false jobs old' → (new' : Service)
           × Serves d' core' failed' moved_jobs new'
-          × Answers (pack_one d) old' (Calls n (Rename number e) moment) replies.Done new'
+          × Answers (pack_of d) old' (Calls n (Rename number e) moment) replies.Done new'
       done_answered honest' = in_state d core false jobs
           (λ old'. (new' : Service) × Serves d' core' failed' moved_jobs new'
-          × Answers (pack_one d) old' (Calls n (Rename number e) moment) replies.Done new') refl
+          × Answers (pack_of d) old' (Calls n (Rename number e) moment) replies.Done new') refl
           (λ s is.
           let honest = says.same.was_honest honest' in
           let w' = with_protected is.under made.key protection in
@@ -248,7 +249,7 @@ module _ {D : Type 0} (state : D → DiskState) (only_now : (disk : D) (contents
           let t' = state_of moved w' moved_jobs in
           let moved_from = from honest s is in
           let moved_home = home honest s is in
-          goes_on d' core' failed' moved_jobs (pack_one d) (Calls n (Rename number e) moment) replies.Done s t' works
+          goes_on d' core' failed' moved_jobs (pack_of d) (Calls n (Rename number e) moment) replies.Done s t' works
           is.sound (λ serial. row honest s is (Ok x) says (λ e. cc e) serial
           ∙ ap (λ js. (replies.Done, record { files = moved; jobs = js }))
           (sym (protected_jobs is.under made.key protection moved_jobs)))
@@ -299,13 +300,14 @@ module _ {D : Type 0} (state : D → DiskState) (only_now : (disk : D) (contents
           others = λ m other. slot-set_other jobs n m (Some job) other;
           answered = λ honest'. in_state d core false jobs
               (λ old'. (new' : Service) × Serves d' b failed' (slice_set jobs n (Some job)) new'
-              × Answers (pack_one d) old' (Calls n (Rename number e) moment) replies.Device new') refl
+              × Answers (pack_of d) old' (Calls n (Rename number e) moment) replies.Device new') refl
               (λ s at. (
                 Broken,
                 is,
                 (
                   refl,
-                  rename_undecided d core jobs s at n job among.there number e moment timely channel is_open input
+                  rename_undecided d core jobs s at n job among.there number e moment
+                      (timely (says.same.was_honest honest')) channel is_open input
                       side free
                       inside,
                   refl,

@@ -15,13 +15,14 @@ use Rattle.meaning.specs.declared.call.Reply.{Reply}
 use Rattle.meaning.specs.declared.call.Reply.TheVariants.{Done, Value, Refused, Stopped, NoChannel, AddressCheck, NoJob}
 use Rattle.meaning.specs.declared.call.Reply.TheVariants.{NoMemory, Device, Failed, DateRange}
 use Rattle.meaning.proofs.SlotLaws.{set-slot}
+use Rattle.meaning.specs.Layouts.{pack_of}
 use Rattle.volume.specs.Live.{VolumeCore, pending_at}
 use Rattle.volume.specs.Rest.{IsSoundCore, RestsAt, KeepsRead}
 use Rattle.volume.specs.declared.pending.PendingVersion.{PendingVersion}
 use Rattle.monitor.specs.Putting.{IsOut, IsOther, IsOtherSide, HasOutgoing}
 use Rattle.monitor.specs.Putting as putting
 use Rattle.monitor.specs.Rows.{IsRow, KeepsSides, KeepsReading}
-use Rattle.monitor.specs.Serving.{pack_one, AreKeyed, AreReading, IsState, Serves}
+use Rattle.monitor.specs.Serving.{AreKeyed, AreReading, IsState, Serves, IsTimely}
 use Rattle.monitor.specs.declared.channel.Channel.{Channel}
 use Rattle.monitor.specs.declared.output.Output.{Output}
 use Rattle.monitor.specs.declared.job.Job.{Job}
@@ -52,7 +53,7 @@ alive_after true reply exact device failed = by (exact.0 refl)
 module _ {D : Type 0} (state_in : D → DiskState) (disk disk' : D) (map map' : VolumeCore) (failed failed' : Bool)
     (jobs jobs' : List (Option Job)) (n : ℕ) (job job' : Job) (ch a : ℕ) (moment : Moment)
     (there : slot jobs n ≡ Some job) (set : jobs' ≡ slice_set jobs n (Some job')) (serves : failed
-    ≡ false) (timely : moment.date ≤ 4095) (keyed : AreKeyed map.pending jobs)
+    ≡ false) (timely : IsTimely (state_in disk) moment) (keyed : AreKeyed map.pending jobs)
     (reading : AreReading map.live jobs) (keeps : failed' ≡ false
     → KeepsSides map.pending map'.pending job job') (reads : failed' ≡ false
     → KeepsReading map.live map'.live job job') (sound : IsSoundCore (state_in disk) map false) where
@@ -64,7 +65,7 @@ module _ {D : Type 0} (state_in : D → DiskState) (disk disk' : D) (map map' : 
 
   abbrev Leads : Reply → Type 0
   Leads reply = (old : Service) → Serves d map failed jobs old → (new : Service)
-      × Serves (state_in disk') map' failed' jobs' new × Answers (pack_one d) old (Calls n (Out ch a) moment) reply new
+      × Serves (state_in disk') map' failed' jobs' new × Answers (pack_of d) old (Calls n (Out ch a) moment) reply new
 
   pub out_keyed : failed' ≡ false → AreKeyed map'.pending jobs'
   out_keyed alive = subst (AreKeyed map'.pending) (sym set)
@@ -77,26 +78,27 @@ module _ {D : Type 0} (state_in : D → DiskState) (disk disk' : D) (map map' : 
   -- disk and volume are as they were
   unmoved : (reply : Reply) → Same → failed' ≡ false
       → ((old : Service) → Serves d map failed jobs old → (new : Service) × Serves d map failed jobs' new
-      × Answers (pack_one d) old (Calls n (Out ch a) moment) reply new) → Leads reply
+      × Answers (pack_of d) old (Calls n (Out ch a) moment) reply new) → Leads reply
   unmoved reply same alive by old stands =
-      on_disk state_in disk disk' failed failed' map' jobs' (Answers (pack_one d) old (Calls n (Out ch a) moment) reply)
+      on_disk state_in disk disk' failed failed' map' jobs' (Answers (pack_of d) old (Calls n (Out ch a) moment) reply)
       (same.0, alive ∙ sym serves)
       (subst (λ m. (new : Service) × Serves d m failed jobs' new
-      × Answers (pack_one d) old (Calls n (Out ch a) moment) reply new) (sym same.1) (by old stands))
+      × Answers (pack_of d) old (Calls n (Out ch a) moment) reply new) (sym same.1) (by old stands))
 
   -- a row that needs neither memory nor the disk
-  plain : (reply : Reply) → job' ≡ job → Same → failed' ≡ false → IsRow job job (Out ch a) reply → Leads reply
-  plain reply is same alive row =
-      unmoved reply same alive (alone d map failed jobs n (Out ch a) moment serves timely jobs' job job
+  plain : d.honest → (reply : Reply) → job' ≡ job → Same → failed' ≡ false → IsRow job job (Out ch a) reply → Leads
+      reply
+  plain honest reply is same alive row =
+      unmoved reply same alive (alone d map failed jobs n (Out ch a) moment serves timely honest jobs' job job
       reply keyed reading there (set ∙ ap (λ j. slice_set jobs n (Some j)) is) (keeps_same map.pending job)
       (reads_core map.live map.live job refl job.core) row)
 
-  undecided_in : HasOutgoing job ch a → (s : State) → IsState d map jobs s
-      → is_plain ((step (pack_one d) 0 s (Calls n (Out ch a) moment)).0) ≡ false
-  undecided_in out s state =
-      ap (λ y. is_plain ((step (pack_one d) 0 y (Calls n (Out ch a) moment)).0))
+  undecided_in : d.honest → HasOutgoing job ch a → (s : State) → IsState d map jobs s
+      → is_plain ((step (pack_of d) 0 s (Calls n (Out ch a) moment)).0) ≡ false
+  undecided_in honest out s state =
+      ap (λ y. is_plain ((step (pack_of d) 0 y (Calls n (Out ch a) moment)).0))
       (state_is s state.under jobs state.jobs_are)
-      ∙ undecided d map jobs n job there ch a moment timely 0 s.files state.under out.at out.found
+      ∙ undecided d map jobs n job there ch a moment (timely honest) 0 s.files state.under out.at out.found
 
   module _ (honest : d.honest) (later : (state_in disk').honest) (rests : (f : Files File) → RestsAt d f
       → RestsAt (state_in disk') f)
@@ -120,7 +122,7 @@ module _ {D : Type 0} (state_in : D → DiskState) (disk disk' : D) (map map' : 
         let alive = alive_after failed' Done fails (λ e. cc e) (λ e. cc e) in
         let p = version_of out in
         in_state d map failed jobs (λ old. (new : Service) × Serves (state_in disk') map' failed' jobs' new
-        × Answers (pack_one d) old (Calls n (Out ch a) moment) Done new) serves
+        × Answers (pack_of d) old (Calls n (Out ch a) moment) Done new) serves
         (λ s state. put_leads d (state_in disk') map map' jobs jobs' n job there ch a moment timely out (set
         ∙ ap (λ j. slice_set jobs n (Some j)) job_is) keyed (out_keyed alive) sound honest later p.0 p.1 (put p.0 p.1)
         (λ k apart. others k (other_side (slot job.channels ch) out.at.channel out.at.output k out.at.there
@@ -132,25 +134,25 @@ module _ {D : Type 0} (state_in : D → DiskState) (disk disk' : D) (map map' : 
         let alive = alive_after failed' (Stopped status) fails (λ e. cc e) (λ e. cc e) in
         let p = version_of out in
         unmoved (Stopped status) same alive (in_state d map failed jobs (λ old. (new : Service)
-        × Serves d map failed jobs' new × Answers (pack_one d) old (Calls n (Out ch a) moment) (Stopped status) new)
+        × Serves d map failed jobs' new × Answers (pack_of d) old (Calls n (Out ch a) moment) (Stopped status) new)
         serves
         (λ s state. stopped_leads d map failed jobs jobs' n job there ch a moment timely out status is (set
         ∙ ap (λ j. slice_set jobs n (Some j)) job_is) (subst (λ m. AreKeyed m.pending jobs') same.1 (out_keyed alive))
         (subst (λ m. AreReading m.live jobs') same.1 (out_reading alive)) sound honest p.0 p.1
         (none p.0 p.1) s state serves))
     out_answered (Refused code) (is, job_is, same, c, at, why) fails =
-        plain (Refused code) job_is same (alive_after failed' (Refused code) fails (λ e. cc e) (λ e. cc e))
+        plain honest (Refused code) job_is same (alive_after failed' (Refused code) fails (λ e. cc e) (λ e. cc e))
         (subst (λ k. IsRow job job (Out ch a) (Refused k)) (sym is) (out_refused job ch a c at why))
     out_answered NoChannel (job_is, same, none) fails =
-        plain NoChannel job_is same (alive_after failed' NoChannel fails (λ e. cc e) (λ e. cc e))
+        plain honest NoChannel job_is same (alive_after failed' NoChannel fails (λ e. cc e) (λ e. cc e))
         (out_none job ch a none)
     out_answered AddressCheck (job_is, same, at, none) fails =
-        plain AddressCheck job_is same (alive_after failed' AddressCheck fails (λ e. cc e) (λ e. cc e))
+        plain honest AddressCheck job_is same (alive_after failed' AddressCheck fails (λ e. cc e) (λ e. cc e))
         (out_unlisted job ch a at none)
     out_answered NoMemory (job_is, same, out) fails =
         unmoved NoMemory same (alive_after failed' NoMemory fails (λ e. cc e) (λ e. cc e))
         (in_state d map failed jobs (λ old. (new : Service) × Serves d map failed jobs' new
-        × Answers (pack_one d) old (Calls n (Out ch a) moment) NoMemory new) serves
+        × Answers (pack_of d) old (Calls n (Out ch a) moment) NoMemory new) serves
         (λ s state. (
           Serving s,
           (
@@ -158,12 +160,12 @@ module _ {D : Type 0} (state_in : D → DiskState) (disk disk' : D) (map map' : 
             subst (λ js. IsState d map js s) (sym (set ∙ ap (λ j. slice_set jobs n (Some j)) job_is
                 ∙ set-slot jobs n job there)) state,
           ),
-          inr (refl, refl, undecided_in out s state, refl),
+          inr (refl, refl, undecided_in honest out s state, refl),
         )))
     out_answered Device (job_is, out) fails =
         in_state d map failed jobs (λ old. (new : Service) × Serves (state_in disk') map' failed' jobs' new
-        × Answers (pack_one d) old (Calls n (Out ch a) moment) Device new) serves
-        (λ s state. (Broken, fails.1 (inl refl), (refl, undecided_in out s state, refl)))
+        × Answers (pack_of d) old (Calls n (Out ch a) moment) Device new) serves
+        (λ s state. (Broken, fails.1 (inl refl), (refl, undecided_in honest out s state, refl)))
     out_answered Failed lies fails = absurd (lies later)
     out_answered (Value word) wrong fails = absurd wrong
     out_answered NoJob wrong fails = absurd wrong

@@ -15,7 +15,7 @@ use Rattle.meaning.specs.Published.{Version, without_serials, file_at}
 use Rattle.meaning.specs.Room.{Pack, booked}
 use Rattle.meaning.specs.Runs.{Service, Serving, Answers, is_plain}
 use Rattle.meaning.specs.Splices.{length_after}
-use Rattle.meaning.specs.Step.{step, on_channel, of_job}
+use Rattle.meaning.specs.Step.{step, on_channel, of_job, last_date}
 use Rattle.meaning.specs.declared.call.Call.TheVariants.{Out}
 use Rattle.meaning.specs.declared.call.Event.TheVariants.{Call as Calls}
 use Rattle.meaning.specs.declared.call.Reply.{Reply}
@@ -23,6 +23,7 @@ use Rattle.meaning.specs.declared.call.Reply.TheVariants.{Done, Refused, Stopped
 use Rattle.meaning.proofs.MapLaws.{some_same}
 use Rattle.meaning.proofs.SlotLaws.{none_some}
 use Rattle.meaning.proofs.SpliceLaws.{length-splice}
+use Rattle.meaning.specs.Layouts.{pack_of}
 use Rattle.retrieval.specs.Modes.{mode_number}
 use Rattle.volume.specs.Live.{VolumeCore, pending_at, is_creation}
 use Rattle.volume.specs.Places.{prime_at}
@@ -31,7 +32,7 @@ use Rattle.volume.specs.declared.pending.PendingVersion.{PendingVersion}
 use Rattle.monitor.specs.Putting.{Puts, outgoing_at, moved, FindsNone, IsAtOutput}
 use Rattle.monitor.specs.Putting as putting
 use Rattle.monitor.specs.Rows.{IsRow}
-use Rattle.monitor.specs.Serving.{pack_one, AreKeyed, AreReading, IsWriting, IsState, Serves}
+use Rattle.monitor.specs.Serving.{AreKeyed, AreReading, IsWriting, IsState, Serves, IsTimely}
 use Rattle.monitor.specs.Sides.{Writing, UnderKeys, output_of, channel_of, job_of, state_of}
 use Rattle.monitor.specs.declared.channel.Channel.{Channel}
 use Rattle.monitor.specs.declared.output.Output.{Output}
@@ -95,20 +96,21 @@ module _ (job : Job) (ch a : ℕ) where
 
 -- An output side, and words for it.
 module _ (d : DiskState) (map : VolumeCore) (jobs : List (Option Job)) (n : ℕ) (job : Job) (there : slot jobs n
-    ≡ Some job) (ch a : ℕ) (moment : Moment) (timely : moment.date ≤ 4095) (serial : ℕ) (files : Files Version)
+    ≡ Some job) (ch a : ℕ) (moment : Moment)
+    (timely : moment.date ≤ last_date (pack_of d).layout) (serial : ℕ) (files : Files Version)
     (w : UnderKeys) (at : IsAtOutput job ch) where
   abbrev t : State
   t = state_of files w jobs
 
   abbrev row_with : Option Outgoing → Reply × State
-  row_with found = of_job t n (by_header job ch a at.channel (pack_one d) t w at.output false found)
+  row_with found = of_job t n (by_header job ch a at.channel (pack_of d) t w at.output false found)
 
-  finds : step (pack_one d) serial t (Calls n (Out ch a) moment) ≡ row_with (outgoing_at job.core at.channel a)
+  finds : step (pack_of d) serial t (Calls n (Out ch a) moment) ≡ row_with (outgoing_at job.core at.channel a)
   finds =
-      called d jobs n (Out ch a) moment serial files w timely job there
-      ∙ ap (λ x. on_channel t x (λ y. of_job t n (puts (pack_one d) t (job_of w job) ch y a)))
+      called (pack_of d) jobs n (Out ch a) moment serial files w timely job there
+      ∙ ap (λ x. on_channel t x (λ y. of_job t n (puts (pack_of d) t (job_of w job) ch y a)))
       (channel_is w job ch (Some at.channel) at.there)
-      ∙ ap (of_job t n) (row_found job ch a at (pack_one d) t w)
+      ∙ ap (of_job t n) (row_found job ch a at (pack_of d) t w)
 
   abbrev by_place : Outgoing → Bool → Reply × State
   by_place found none = of_job t n (settled (if none then Stopped (cleared at.channel.status + block_too_large)
@@ -116,13 +118,13 @@ module _ (d : DiskState) (map : VolumeCore) (jobs : List (Option Job)) (n : ℕ)
       (stopped_in (job_of w job) ch (channel_of w at.channel)))
 
   pub row_by_place : (found : Outgoing) → outgoing_at job.core at.channel a ≡ Some found → (none : Bool)
-      → finds_no_place (pack_one d) t (output_of w at.output) (length found.words) ≡ none
-      → step (pack_one d) serial t (Calls n (Out ch a) moment) ≡ by_place found none
+      → finds_no_place (pack_of d) t (output_of w at.output) (length found.words) ≡ none
+      → step (pack_of d) serial t (Calls n (Out ch a) moment) ≡ by_place found none
   row_by_place found is none full = finds ∙ ap row_with is ∙ ap (by_place found) full
 
   -- it isn't decided before memory and the disk are needed
   pub undecided : (outgoing_at job.core at.channel a ≡ None → ⊥)
-      → is_plain ((step (pack_one d) serial t (Calls n (Out ch a) moment)).0) ≡ false
+      → is_plain ((step (pack_of d) serial t (Calls n (Out ch a) moment)).0) ≡ false
   undecided there = ap (λ r. is_plain r.0) finds ∙ by (outgoing_at job.core at.channel a) there
     where
       stops : (none : Bool) (found : Outgoing) → is_plain ((by_place found none).0) ≡ false
@@ -132,12 +134,12 @@ module _ (d : DiskState) (map : VolumeCore) (jobs : List (Option Job)) (n : ℕ)
       by : (was : Option Outgoing) → (was ≡ None → ⊥) → is_plain ((row_with was).0) ≡ false
       by None some = absurd (some refl)
       by (Some found) some =
-          stops (finds_no_place (pack_one d) t (output_of w at.output) (length found.words)) found
+          stops (finds_no_place (pack_of d) t (output_of w at.output) (length found.words)) found
 
 -- The words are put.
 module _ (d d' : DiskState) (map map' : VolumeCore) (jobs jobs' : List (Option Job)) (n : ℕ) (job : Job)
-    (there : slot jobs n ≡ Some job) (ch a : ℕ) (moment : Moment) (timely : moment.date
-    ≤ 4095) (out : putting.OutgoingSide job ch a)
+    (there : slot jobs n ≡ Some job) (ch a : ℕ) (moment : Moment)
+    (timely : IsTimely d moment) (out : putting.OutgoingSide job ch a)
     (set : jobs' ≡ slice_set jobs n (Some
     (record job {
       core = out.core;
@@ -205,10 +207,10 @@ module _ (d d' : DiskState) (map map' : VolumeCore) (jobs jobs' : List (Option J
       (λ apart. ap (λ (y : Writing). file_at s.files y.place) (with_other state.under key x k apart)
       ∙ state.absent k q (sym (others k apart) ∙ is) is_new)
 
-  row_put : (serial : ℕ) → step (pack_one d) serial (state_of s.files state.under jobs) (Calls n (Out ch a) moment)
+  row_put : (serial : ℕ) → step (pack_of d) serial (state_of s.files state.under jobs) (Calls n (Out ch a) moment)
       ≡ (Done, state_of s.files w jobs')
   row_put serial =
-      row_by_place d map jobs n job there ch a moment timely serial s.files state.under out.at
+      row_by_place d map jobs n job there ch a moment (timely honest) serial s.files state.under out.at
       (record { words = out.words; core = out.core }) out.found false
       (place_found d map (state_of s.files state.under jobs) state.under out.at.output p (state.versions key p at)
       (subst (λ y. booked y ≡ map.known.table.booked) s_is (known d map jobs s state sound honest).booked_is)
@@ -226,11 +228,11 @@ module _ (d d' : DiskState) (map map' : VolumeCore) (jobs jobs' : List (Option J
       out.at.side keyed state.under out.words out.core s.files jobs' set)
 
   pub put_leads : (failed' : Bool) → failed' ≡ false → (new : Service) × Serves d' map' failed' jobs' new
-      × Answers (pack_one d) (Serving s) (Calls n (Out ch a) moment) Done new
+      × Answers (pack_of d) (Serving s) (Calls n (Out ch a) moment) Done new
   put_leads failed' serves =
-      goes_on d' map' failed' jobs' (pack_one d) (Calls n (Out ch a) moment) Done s
+      goes_on d' map' failed' jobs' (pack_of d) (Calls n (Out ch a) moment) Done s
       (state_of s.files w jobs') serves state.sound
-      (λ serial. subst (λ y. step (pack_one d) serial y (Calls n (Out ch a) moment) ≡ (Done, state_of s.files w jobs'))
+      (λ serial. subst (λ y. step (pack_of d) serial y (Calls n (Out ch a) moment) ≡ (Done, state_of s.files w jobs'))
       (sym s_is) (row_put serial))
       (λ still. record {
         files = rests (without_serials s.files) state.files;
@@ -248,7 +250,7 @@ module _ (d d' : DiskState) (map map' : VolumeCore) (jobs jobs' : List (Option J
 
 -- They find no place.
 module _ (d : DiskState) (map : VolumeCore) (failed : Bool) (jobs jobs' : List (Option Job)) (n : ℕ) (job : Job)
-    (there : slot jobs n ≡ Some job) (ch a : ℕ) (moment : Moment) (timely : moment.date ≤ 4095)
+    (there : slot jobs n ≡ Some job) (ch a : ℕ) (moment : Moment) (timely : IsTimely d moment)
     (out : putting.OutgoingSide job ch a) (status : ℕ) (is : status ≡ cleared out.at.channel.status + block_too_large)
     (set : jobs' ≡ slice_set jobs n
     (Some (record job { channels = slice_set job.channels ch (Some (record out.at.channel { status = status })) })))
@@ -259,10 +261,10 @@ module _ (d : DiskState) (map : VolumeCore) (failed : Bool) (jobs jobs' : List (
   before_is : s ≡ state_of s.files state.under jobs
   before_is = state_is s state.under jobs state.jobs_are
 
-  row_stopped : (serial : ℕ) → step (pack_one d) serial (state_of s.files state.under jobs) (Calls n (Out ch a) moment)
+  row_stopped : (serial : ℕ) → step (pack_of d) serial (state_of s.files state.under jobs) (Calls n (Out ch a) moment)
       ≡ (Stopped status, state_of s.files state.under jobs')
   row_stopped serial =
-      row_by_place d map jobs n job there ch a moment timely serial s.files state.under out.at
+      row_by_place d map jobs n job there ch a moment (timely honest) serial s.files state.under out.at
       (record { words = out.words; core = out.core }) out.found true
       (none_found d map (state_of s.files state.under jobs) state.under out.at.output p
       (state.versions out.at.output.pending.key p at) (subst (λ y. booked y ≡ map.known.table.booked) before_is
@@ -280,10 +282,10 @@ module _ (d : DiskState) (map : VolumeCore) (failed : Bool) (jobs jobs' : List (
       ∙ ap (state_of s.files state.under) (sym set))
 
   pub stopped_leads : failed ≡ false → (new : Service) × Serves d map failed jobs' new
-      × Answers (pack_one d) (Serving s) (Calls n (Out ch a) moment) (Stopped status) new
+      × Answers (pack_of d) (Serving s) (Calls n (Out ch a) moment) (Stopped status) new
   stopped_leads serves =
-      goes_on d map failed jobs' (pack_one d) (Calls n (Out ch a) moment) (Stopped status) s
+      goes_on d map failed jobs' (pack_of d) (Calls n (Out ch a) moment) (Stopped status) s
       (state_of s.files state.under jobs') serves state.sound
-      (λ serial. subst (λ y. step (pack_one d) serial y (Calls n (Out ch a) moment)
+      (λ serial. subst (λ y. step (pack_of d) serial y (Calls n (Out ch a) moment)
       ≡ (Stopped status, state_of s.files state.under jobs')) (sym before_is) (row_stopped serial))
       (same_files d map map failed jobs jobs' keyed' reading' (leaves_none map) s state)

@@ -15,10 +15,11 @@ use Rattle.meaning.specs.Room.{booked}
 use Rattle.meaning.specs.Splices.{splice, length_after}
 use Rattle.meaning.proofs.MapSums.{times_head}
 use Rattle.alloctab.specs.TableState.{space}
+use Rattle.meaning.specs.Layouts.{pack_of}
 use Rattle.volume.specs.Live.{VolumeCore, pending_at}
 use Rattle.volume.specs.declared.pending.PendingVersion.{PendingVersion}
 use Rattle.monitor.specs.Putting.{FindsNone, moved}
-use Rattle.monitor.specs.Serving.{pack_one, present, AreKeyed, IsWriting}
+use Rattle.monitor.specs.Serving.{present, AreKeyed, IsWriting}
 use Rattle.monitor.specs.Sides.{Writing, UnderKeys, side_of, sides_in, sides, kind_of, output_of, channel_of, job_of}
 use Rattle.monitor.specs.Sides.{jobs_of, state_of}
 use Rattle.monitor.specs.declared.channel.Channel.{Channel}
@@ -85,7 +86,7 @@ free n long size blocks before not_so =
 
 module _ (d : DiskState) (map : VolumeCore) (s : State) (w : UnderKeys) (o : Output) (p : PendingVersion)
     (is : IsWriting d p (w.written o.pending.key)) (books : booked s ≡ map.known.table.booked) (n : ℕ) where
-  test_is : finds_no_place (pack_one d) s (output_of w o) n
+  test_is : finds_no_place (pack_of d) s (output_of w o) n
       ≡ crowds n (length_after p.version.words o.next n) (space d.size) (map.known.table.booked
       + (version_cost (length_after p.version.words o.next n) - version_cost p.version.words))
       (is_before_end (kind_of o.kind) o.next)
@@ -93,10 +94,10 @@ module _ (d : DiskState) (map : VolumeCore) (s : State) (w : UnderKeys) (o : Out
       + (version_cost (length_after (is.words i) o.next n) - version_cost (is.words i)))
       (is_before_end (kind_of o.kind) o.next)
 
-  pub none_found : FindsNone d.size map p o n → finds_no_place (pack_one d) s (output_of w o) n ≡ true
+  pub none_found : FindsNone d.size map p o n → finds_no_place (pack_of d) s (output_of w o) n ≡ true
   none_found why = test_is ∙ crowded n _ (space d.size) _ (is_before_end (kind_of o.kind) o.next) why
 
-  pub place_found : (FindsNone d.size map p o n → ⊥) → finds_no_place (pack_one d) s (output_of w o) n ≡ false
+  pub place_found : (FindsNone d.size map p o n → ⊥) → finds_no_place (pack_of d) s (output_of w o) n ≡ false
   place_found why_not = test_is ∙ free n _ (space d.size) _ (is_before_end (kind_of o.kind) o.next) why_not
 
 -- The state in which the words are put.

@@ -11,6 +11,7 @@ use Rattle.meaning.specs.declared.call.Event.TheVariants.{Call as Calls}
 use Rattle.meaning.specs.declared.call.Reply.{Reply}
 use Rattle.meaning.specs.declared.call.Reply.TheVariants.{Done, NoJob, NoMemory, Device, Failed, Refused}
 use Rattle.meaning.proofs.SlotLaws.{slot-set_other}
+use Rattle.meaning.specs.Layouts.{pack_of}
 use Rattle.volume.specs.Live.{VolumeCore}
 use Rattle.volume.specs.declared.live.LiveVersion.{LiveVersion}
 use Rattle.volume.specs.declared.pending.PendingVersion.{PendingVersion}
@@ -22,7 +23,7 @@ use Rattle.monitor.specs.Publishing.{PublishesBy, IsPublishRow, CrashesAsRow, St
 use Rattle.monitor.specs.Promises.{IsAmong, IsServing, ServesJob}
 use Rattle.monitor.specs.Refusals.{refused_with}
 use Rattle.monitor.specs.Rows.{IsRow, KeepsSides, KeepsReading, ClosesSide, publishes_at}
-use Rattle.monitor.specs.Serving.{pack_one, Serves, AreKeyed, ArePlaced, AreReading}
+use Rattle.monitor.specs.Serving.{Serves, AreKeyed, ArePlaced, AreReading, IsTimely}
 use Rattle.monitor.specs.declared.channel.Channel.{Channel}
 use Rattle.monitor.specs.declared.output.Output.{Output}
 use Rattle.monitor.specs.declared.job.Job.{Job}
@@ -70,7 +71,7 @@ module _ {D : Type 0} (state : D → DiskState) (only_now : (disk : D) (contents
     pub quiet_serves : AreKeyed core'.pending jobs' → AreReading core'.live jobs'
         → ((state disk').honest → (old : Service) → Serves (state disk) core false jobs old
         → (new : Service) × Serves (state disk) core' false jobs' new
-        × Answers (pack_one (state disk)) old (Calls n call moment) reply new)
+        × Answers (pack_of (state disk)) old (Calls n call moment) reply new)
         → IsServing state disk disk' core core' failed' jobs jobs' n call moment reply
     quiet_serves keyed reading answered = record {
       keyed = λ serves. keyed;
@@ -79,7 +80,7 @@ module _ {D : Type 0} (state : D → DiskState) (only_now : (disk : D) (contents
       others = λ m other. slot-set_other jobs n m (Some job') other;
       answered = λ honest old serves.
           on_disk state disk disk' false failed' core' jobs'
-          (Answers (pack_one (state disk)) old (Calls n call moment) reply) (untouched.0, untouched.1 ∙ alive)
+          (Answers (pack_of (state disk)) old (Calls n call moment) reply) (untouched.0, untouched.1 ∙ alive)
           (answered honest old serves);
       crash = untouched_crashes state only_now disk disk' untouched.0 core jobs n call moment;
       idle = λ idle. untouched.0;
@@ -108,7 +109,7 @@ module _ {D : Type 0} (state : D → DiskState) (only_now : (disk : D) (contents
 
   -- A call that has to do with its job alone.
   pub alone_serves : (disk : D) (core : VolumeCore) (failed : Bool) (job job' : Job) (call : Call) (moment : Moment)
-      (reply : Reply) → failed ≡ false → ArePlaced core → moment.date ≤ 4095
+      (reply : Reply) → failed ≡ false → ArePlaced core → IsTimely (state disk) moment
       → IsRow job job' call reply
       → ((pending : List (Option PendingVersion)) → KeepsSides pending pending job job')
       → ((live : List (Option LiveVersion)) → KeepsReading live live job job') → (reply ≡ Failed → ⊥)
@@ -125,13 +126,14 @@ module _ {D : Type 0} (state : D → DiskState) (only_now : (disk : D) (contents
       (keeps core.pending))
       (alone_reading (state disk) core false jobs n call moment refl timely set job job' among.reading among.there refl
       (reads core.live))
-      (λ honest. alone (state disk) core false jobs n call moment refl timely set job job' reply
+      (λ honest. alone (state disk) core false jobs n call moment refl timely honest set job job' reply
       among.keyed among.reading among.there refl (keeps core.pending) (reads core.live) row)
 
   -- A call by which versions are dropped or let go, and which asks for nothing else.
   pub dropping_serves : (disk disk' : D) (core core' : VolumeCore) (failed failed' : Bool) (job job' : Job)
       (call : Call) (moment : Moment) (reply : Reply) → failed ≡ false → (disk' ≡ disk) × (failed' ≡ failed)
-      → ArePlaced core → moment.date ≤ 4095 → IsRow job job' call reply → KeepsSides core.pending core'.pending job job'
+      → ArePlaced core → IsTimely (state disk) moment → IsRow job job' call reply → KeepsSides core.pending
+      core'.pending job job'
       → KeepsReading core.live core'.live job job'
       → OnlyDrops core core' → (reply ≡ Failed → ⊥) × (reply ≡ Device → ⊥) × (reply ≡ NoMemory → ⊥)
       → ((code : ℕ) → reply ≡ Refused code → ⊥) → (IsDecided reply → (core' ≡ core) × (job' ≡ job))
@@ -148,11 +150,12 @@ module _ {D : Type 0} (state : D → DiskState) (only_now : (disk : D) (contents
       (dropping_reading (state disk) core core' false jobs set n job job' call moment refl timely among.there
       refl keeps reads among.reading)
       (λ honest old serves. dropping_answered (state disk) core core' false jobs set n job job'
-      call moment refl timely among.there refl keeps reads reply among.keyed among.reading leaves row old serves)
+      call moment refl timely among.there refl keeps reads
+      (subst (λ x. (state x).honest) untouched.0 honest) reply among.keyed among.reading leaves row old serves)
 
   -- Nobody is logged in by that number.
   pub nobody_serves : (disk : D) (core : VolumeCore) (failed : Bool) (jobs jobs' : List (Option Job)) (n : ℕ)
-      (call : Call) (moment : Moment) → failed ≡ false → moment.date ≤ 4095
+      (call : Call) (moment : Moment) → failed ≡ false → IsTimely (state disk) moment
       → AreKeyed core.pending jobs → ArePlaced core → AreReading core.live jobs → slot jobs n ≡ None → jobs' ≡ jobs
       → IsServing state disk disk core core failed jobs jobs' n call moment NoJob
   nobody_serves disk core failed jobs jobs' n call moment alive timely keyed placed reading none same = record {
@@ -161,10 +164,10 @@ module _ {D : Type 0} (state : D → DiskState) (only_now : (disk : D) (contents
     reading = λ serves. subst (AreReading core.live) (sym same) reading;
     others = λ m other. ap (λ js. slot js m) same;
     answered = λ honest old serves.
-        on_disk state disk disk false failed core jobs' (Answers (pack_one (state disk)) old
+        on_disk state disk disk false failed core jobs' (Answers (pack_of (state disk)) old
         (Calls n call moment) NoJob)
         (refl, alive)
-        (nobody (state disk) core false jobs n call moment refl timely jobs' keyed reading none same old serves);
+        (nobody (state disk) core false jobs n call moment refl timely honest jobs' keyed reading none same old serves);
     crash = untouched_crashes state only_now disk disk refl core jobs n call moment;
     idle = λ idle. refl;
     light = λ light. (λ e. cc e, refl);
@@ -191,7 +194,7 @@ module _ {D : Type 0} (state : D → DiskState) (only_now : (disk : D) (contents
   -- A call that publishes what the output side of a channel has written.
   pub publishing_serves : (disk disk' : D) (core between core' : VolumeCore) (failed failed' : Bool)
       (channel : Channel) (o : Output) (last : Option (List ℕ)) (job job' : Job) (number : ℕ) (call : Call)
-      (moment : Moment) (reply : Reply) → failed ≡ false → ArePlaced core → moment.date ≤ 4095
+      (moment : Moment) (reply : Reply) → failed ≡ false → ArePlaced core → IsTimely (state disk) moment
       → PublishesBy (state disk) (state disk') core between failed failed' channel o last reply
       → (IsIdle reply → (disk' ≡ disk) × (core' ≡ core) × (failed' ≡ failed))
       → ((reply ≡ Done → ⊥) → job' ≡ left_open job number channel reply) → StillStands core core' failed' job job'

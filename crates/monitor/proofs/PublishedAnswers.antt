@@ -36,7 +36,7 @@ use Rattle.monitor.specs.Publishing.{last_at, MayPublish, HasPublished, IsPublis
 use Rattle.monitor.specs.Putting.{FindsNone}
 use Rattle.monitor.specs.Readers.{AreRead}
 use Rattle.monitor.specs.Rows.{KeepsSides, KeepsReading}
-use Rattle.monitor.specs.Serving.{IsSide, AreKeyed, ArePlaced, AreReading, pack_one, IsState, Serves}
+use Rattle.monitor.specs.Serving.{IsSide, AreKeyed, ArePlaced, AreReading, IsState, Serves}
 use Rattle.monitor.specs.Sides.{UnderKeys, side_of, reader_of, output_of, state_of}
 use Rattle.monitor.specs.declared.channel.Channel.{Channel}
 use Rattle.monitor.specs.declared.job.Job.{Job}
@@ -152,13 +152,13 @@ module _ {d d' : DiskState} {c b : VolumeCore} {failed failed' : Bool} {reply : 
 
   pub has_place : (last : List ℕ) → ((p : PendingVersion) → pending_at c.pending key ≡ Some p
       → FindsNone d.size c p o (length last) → ⊥)
-      → finds_no_place (pack_one d) before (output_of w o) (length last) ≡ false
+      → finds_no_place (pack_of d) before (output_of w o) (length last) ≡ false
   has_place last fits = let p = some_is (pending_at c.pending key) live in
       place_found d c before w o p.0 (state.versions key p.0 p.1) books (length last) (fits p.0 p.1)
 
   has_none : (last : List ℕ) → ((p : PendingVersion) → pending_at c.pending key ≡ Some p
       → FindsNone d.size c p o (length last))
-      → finds_no_place (pack_one d) before (output_of w o) (length last) ≡ true
+      → finds_no_place (pack_of d) before (output_of w o) (length last) ≡ true
   has_none last lacks = let p = some_is (pending_at c.pending key) live in
       none_found d c before w o p.0 (state.versions key p.0 p.1) books (length last) (lacks p.0 p.1)
 
@@ -167,15 +167,15 @@ module _ {d d' : DiskState} {c b : VolumeCore} {failed failed' : Bool} {reply : 
   abbrev Crashes : Type 0
   Crashes = LeavesOnly d d' (λ contents. StandsOn (pack_of d) contents (without_serials s.files)
       ⊎ ((serial : ℕ)
-      × StandsOn (pack_of d) contents (without_serials ((step (pack_one d) serial s (Calls n call moment)).1.files))))
+      × StandsOn (pack_of d) contents (without_serials ((step (pack_of d) serial s (Calls n call moment)).1.files))))
 
   crash_put : (last : List ℕ) → last_at job.core channel ≡ Some last
-      → finds_no_place (pack_one d) before (output_of w o) (length last) ≡ false → Crashes
+      → finds_no_place (pack_of d) before (output_of w o) (length last) ≡ false → Crashes
   crash_put last found place =
       let p = some_is (pending_at c.pending key) live in
       let is = state.versions key p.0 p.1 in
-      let stepped : (step (pack_one d) 0 s (Calls n call moment)).1.files ≡ files' last 0 =
-      subst (λ t. (step (pack_one d) 0 t (Calls n call moment)).1.files ≡ files' last 0) (sym same)
+      let stepped : (step (pack_of d) 0 s (Calls n call moment)).1.files ≡ files' last 0 =
+      subst (λ t. (step (pack_of d) 0 t (Calls n call moment)).1.files ≡ files' last 0) (sym same)
       ((rows.done s.files w 0 last found place).1) in
       leaves_weaker d d' (StandsForOneOf (pack_of d) (without_serials s.files) _) _
       ((by.whatever last found).crash honest (without_serials s.files) state.files p.0 p.1 (w.written key).file.body
@@ -213,14 +213,14 @@ module _ {d d' : DiskState} {c b : VolumeCore} {failed failed' : Bool} {reply : 
   -- What a call leaves that is done: the machine goes on to this state, with whichever serial.
   abbrev pub GoesOn : VolumeCore → Job → List ℕ → ℕ → Type 0
   GoesOn c' job' last serial = (read : ℕ → Version) × AreRead d' c' (files' last serial) read
-      × (step (pack_one d) serial s (Calls n call moment)
+      × (step (pack_of d) serial s (Calls n call moment)
       ≡ (Done, state_of (files' last serial) (record w { read = read }) (slice_set jobs n (Some job'))))
 
   module _ (c' : VolumeCore) (job' : Job) (placed : ArePlaced c)
       (kept : (reply ≡ Done → ⊥) → job' ≡ left_open job number channel reply)
       (behind : reply ≡ Done → IsBehind c b c' job job')
       (goes : reply ≡ Done → (last : List ℕ) → last_at job.core channel ≡ Some last
-      → finds_no_place (pack_one d) before (output_of w o) (length last) ≡ false → HasPublished d d' c b o last
+      → finds_no_place (pack_of d) before (output_of w o) (length last) ≡ false → HasPublished d d' c b o last
       → (serial : ℕ) → IsFresh s serial
       → RestsAt d' (without_serials (files' last serial)) → HaveDistinctSerials (versions_in (files' last serial))
       → AreRead d' b (files' last serial) w.read → GoesOn c' job' last serial)
@@ -229,8 +229,8 @@ module _ {d d' : DiskState} {c b : VolumeCore} {failed failed' : Bool} {reply : 
     jobs' = slice_set jobs n (Some job')
 
     plainly : (last : List ℕ) → last_at job.core channel ≡ Some last
-        → is_plain ((step (pack_one d) 0 s (Calls n call moment)).0) ≡ false
-    plainly last found = ap (λ t. is_plain ((step (pack_one d) 0 t (Calls n call moment)).0)) same
+        → is_plain ((step (pack_of d) 0 s (Calls n call moment)).0) ≡ false
+    plainly last found = ap (λ t. is_plain ((step (pack_of d) 0 t (Calls n call moment)).0)) same
         ∙ undecided rows s.files w last found
 
     weighs : not (is_light s n call) ≡ true
@@ -238,7 +238,7 @@ module _ {d d' : DiskState} {c b : VolumeCore} {failed failed' : Bool} {reply : 
 
     abbrev Leads : Type 0
     Leads = (new : Service) × Serves d' c' failed' jobs' new
-        × Answers (pack_one d) (Serving s) (Calls n call moment) reply new
+        × Answers (pack_of d) (Serving s) (Calls n call moment) reply new
 
     -- It is done.
     leads_done : reply ≡ Done → (last : List ℕ) → last_at job.core channel ≡ Some last → HasPublished d d' c b o last
@@ -256,7 +256,7 @@ module _ {d d' : DiskState} {c b : VolumeCore} {failed failed' : Bool} {reply : 
         serial fresh sound.whole) in
         let after : State = state_of (files' last serial) (record w { read = left.0 }) jobs' in
         let still = subst (λ (r : Reply × State). IsSound r.1) left.2
-        (sound_step (pack_one d) serial s (Calls n call moment) fresh state.sound) in
+        (sound_step (pack_of d) serial s (Calls n call moment) fresh state.sound) in
         let published = published_state d d' c b c' jobs n job job' o last there whatever has (behind is) live
         honest s state placed serial fresh left.0 left.1 still in
         (Serving after, (serves, published), inl (serial, fresh, left.2 ∙ ap (λ (r : Reply). (r, after)) (sym is)))
@@ -271,8 +271,8 @@ module _ {d d' : DiskState} {c b : VolumeCore} {failed failed' : Bool} {reply : 
         let job_is : job' ≡ left_open job number channel (Stopped (cleared channel.status + block_too_large)) =
         left ∙ ap (left_open job number channel) stopped in
         let after : State = state_of s.files w jobs' in
-        goes_on d' c' failed' jobs' (pack_one d) (Calls n call moment) reply s after serves state.sound
-        (λ serial. subst (λ t. step (pack_one d) serial t (Calls n call moment) ≡ (reply, after)) (sym same)
+        goes_on d' c' failed' jobs' (pack_of d) (Calls n call moment) reply s after serves state.sound
+        (λ serial. subst (λ t. step (pack_of d) serial t (Calls n call moment) ≡ (reply, after)) (sym same)
         (rows.crowded s.files w serial last found (has_none last lacks)
         ∙ (λ i. (sym stopped i, state_of s.files w (slice_set jobs n (Some (sym job_is i)))))))
         (λ still. unchanged (subst IsIdle (sym is) tt) jobs' after
@@ -298,8 +298,8 @@ module _ {d d' : DiskState} {c b : VolumeCore} {failed failed' : Bool} {reply : 
     by_reply AddressCheck is answer = (
       Serving s,
       (answer.2, stays AddressCheck is tt (λ e. cc e) refl),
-      inl (steps_on (pack_one d) s (Calls n call moment) reply s
-          (λ serial. subst (λ t. step (pack_one d) serial t (Calls n call moment) ≡ (reply, t)) (sym same)
+      inl (steps_on (pack_of d) s (Calls n call moment) reply s
+          (λ serial. subst (λ t. step (pack_of d) serial t (Calls n call moment) ≡ (reply, t)) (sym same)
           (rows.unread s.files w serial answer.0 ∙ ap (λ (r : Reply). (r, before)) (sym is)))),
     )
     by_reply NoMemory is answer = (

@@ -17,7 +17,7 @@ use Rattle.meaning.specs.Room.{Pack}
 use Rattle.meaning.specs.Runs.{is_light, is_plain, publishes_on, channel_of as channel_at_job}
 use Rattle.meaning.specs.Splices.{splice}
 use Rattle.meaning.specs.Stands.{place_of}
-use Rattle.meaning.specs.Step.{step, on_channel, of_files}
+use Rattle.meaning.specs.Step.{step, on_channel, of_files, last_date}
 use Rattle.meaning.specs.declared.call.Call.{Call}
 use Rattle.meaning.specs.declared.call.Call.TheVariants.{Close, Releas}
 use Rattle.meaning.specs.declared.call.Event.TheVariants.{Call as Calls}
@@ -25,9 +25,9 @@ use Rattle.meaning.specs.declared.call.Reply.{Reply}
 use Rattle.meaning.specs.declared.call.Reply.TheVariants.{Done, Stopped, AddressCheck}
 use Rattle.meaning.proofs.MapLaws.{some_none}
 use Rattle.meaning.proofs.SlotLaws.{set-slot}
+use Rattle.meaning.specs.Layouts.{pack_of}
 use Rattle.monitor.specs.Closing.{both_closed, output_closed, rings_closed, closed_in, left_open}
 use Rattle.monitor.specs.Publishing.{last_at}
-use Rattle.monitor.specs.Serving.{pack_one}
 use Rattle.monitor.specs.Sides.{Writing, UnderKeys, input_of, output_of, channel_of, job_of, jobs_of, state_of}
 use Rattle.monitor.specs.declared.channel.Channel.{Channel}
 use Rattle.monitor.specs.declared.input.Input.{Input}
@@ -127,11 +127,11 @@ pub record PublishRows (d : DiskState) (call : Call) (jobs : List (Option Job)) 
   pub heavy : (files : Files Version) (w : UnderKeys) → is_light (state_of files w jobs) n call ≡ false
   -- the last buffer isn't as it should be
   pub unread : (files : Files Version) (w : UnderKeys) (serial : ℕ) → last_at job.core c ≡ None
-      → step (pack_one d) serial (state_of files w jobs) (Calls n call moment) ≡ (AddressCheck, state_of files w jobs)
+      → step (pack_of d) serial (state_of files w jobs) (Calls n call moment) ≡ (AddressCheck, state_of files w jobs)
   -- its words find no place
   pub crowded : (files : Files Version) (w : UnderKeys) (serial : ℕ) (last : List ℕ) → last_at job.core c ≡ Some last
-      → finds_no_place (pack_one d) (state_of files w jobs) (output_of w o) (length last) ≡ true
-      → step (pack_one d) serial (state_of files w jobs) (Calls n call moment)
+      → finds_no_place (pack_of d) (state_of files w jobs) (output_of w o) (length last) ≡ true
+      → step (pack_of d) serial (state_of files w jobs) (Calls n call moment)
       ≡ (
         Stopped (cleared c.status + block_too_large),
         state_of files w (slice_set jobs n
@@ -139,27 +139,28 @@ pub record PublishRows (d : DiskState) (call : Call) (jobs : List (Option Job)) 
       )
   -- they find one
   pub done : (files : Files Version) (w : UnderKeys) (serial : ℕ) (last : List ℕ) → last_at job.core c ≡ Some last
-      → finds_no_place (pack_one d) (state_of files w jobs) (output_of w o) (length last) ≡ false
-      → ((step (pack_one d) serial (state_of files w jobs) (Calls n call moment)).0 ≡ Done)
-      × ((step (pack_one d) serial (state_of files w jobs) (Calls n call moment)).1.files
+      → finds_no_place (pack_of d) (state_of files w jobs) (output_of w o) (length last) ≡ false
+      → ((step (pack_of d) serial (state_of files w jobs) (Calls n call moment)).0 ≡ Done)
+      × ((step (pack_of d) serial (state_of files w jobs) (Calls n call moment)).1.files
       ≡ with_file files (w.written o.pending.key).place (version_with (w.written o.pending.key) o.next last serial))
 
 -- it isn't decided before memory and the disk are needed
 pub undecided : {d : DiskState} {call : Call} {jobs : List (Option Job)} {n : ℕ} {moment : Moment} {job : Job}
     {number : ℕ} {c : Channel} {o : Output} → PublishRows d call jobs n moment job number c o → (files : Files Version)
     (w : UnderKeys) (last : List ℕ) → last_at job.core c ≡ Some last
-    → is_plain ((step (pack_one d) 0 (state_of files w jobs) (Calls n call moment)).0) ≡ false
+    → is_plain ((step (pack_of d) 0 (state_of files w jobs) (Calls n call moment)).0) ≡ false
 undecided {d} {call} {jobs} {n} {moment} {job} {number} {c} {o} rows files w last found =
-    by (finds_no_place (pack_one d) (state_of files w jobs) (output_of w o) (length last)) refl
+    by (finds_no_place (pack_of d) (state_of files w jobs) (output_of w o) (length last)) refl
   where
-    by : (none : Bool) → finds_no_place (pack_one d) (state_of files w jobs) (output_of w o) (length last) ≡ none
-        → is_plain ((step (pack_one d) 0 (state_of files w jobs) (Calls n call moment)).0) ≡ false
+    by : (none : Bool) → finds_no_place (pack_of d) (state_of files w jobs) (output_of w o) (length last) ≡ none
+        → is_plain ((step (pack_of d) 0 (state_of files w jobs) (Calls n call moment)).0) ≡ false
     by true is = ap (λ (r : Reply × State). is_plain r.0) (rows.crowded files w 0 last found is)
     by false is = ap is_plain ((rows.done files w 0 last found is).0)
 
 -- The events.
 
-module _ (d : DiskState) (jobs : List (Option Job)) (n : ℕ) (moment : Moment) (timely : moment.date ≤ 4095)
+module _ (d : DiskState) (jobs : List (Option Job)) (n : ℕ) (moment : Moment)
+    (timely : moment.date ≤ last_date (pack_of d).layout)
     (job : Job) (there : slot jobs n ≡ Some job) (number : ℕ) (c : Channel)
     (is_open : slot job.channels number ≡ Some c) (o : Output) (side : c.output ≡ Some o) where
   -- the row of a call that leaves this job where it is done, by its answer
@@ -173,23 +174,23 @@ module _ (d : DiskState) (jobs : List (Option Job)) (n : ℕ) (moment : Moment) 
       (after : UnderKeys → ℕ → machine.Job)
       (heavy : (files : Files Version) (w : UnderKeys) → is_light (state_of files w jobs) n call ≡ false)
       (rows : (files : Files Version) (w : UnderKeys) (serial : ℕ)
-      → step (pack_one d) serial (state_of files w jobs) (Calls n call moment)
+      → step (pack_of d) serial (state_of files w jobs) (Calls n call moment)
       ≡ row_by files w serial bits (after w serial)
-      (close_answer (pack_one d) (state_of files w jobs) (job_of w job) (channel_of w c) bits)) where
+      (close_answer (pack_of d) (state_of files w jobs) (job_of w job) (channel_of w c) bits)) where
     -- the row, by what the last buffer has
     row_by_last : (files : Files Version) (w : UnderKeys) (serial : ℕ) (last : Option (List ℕ))
-        → last_at job.core c ≡ last → step (pack_one d) serial (state_of files w jobs) (Calls n call moment)
+        → last_at job.core c ≡ last → step (pack_of d) serial (state_of files w jobs) (Calls n call moment)
         ≡ row_by files w serial bits (after w serial)
-        (last_answer (pack_one d) (state_of files w jobs) (channel_of w c) (Some (output_of w o)) last)
+        (last_answer (pack_of d) (state_of files w jobs) (channel_of w c) (Some (output_of w o)) last)
     row_by_last files w serial last is = rows files w serial
         ∙ ap (row_by files w serial bits (after w serial))
-        (answer_by_last w c o bits side drops publishes_it serial job (pack_one d) (state_of files w jobs) last is)
+        (answer_by_last w c o bits side drops publishes_it serial job (pack_of d) (state_of files w jobs) last is)
 
     -- and by whether its words find a place
     row_by_place : (files : Files Version) (w : UnderKeys) (serial : ℕ) (last : List ℕ)
         → last_at job.core c ≡ Some last → (none : Bool)
-        → finds_no_place (pack_one d) (state_of files w jobs) (output_of w o) (length last) ≡ none
-        → step (pack_one d) serial (state_of files w jobs) (Calls n call moment)
+        → finds_no_place (pack_of d) (state_of files w jobs) (output_of w o) (length last) ≡ none
+        → step (pack_of d) serial (state_of files w jobs) (Calls n call moment)
         ≡ row_by files w serial bits (after w serial)
         (if none then reports (channel_of w c) block_too_large else Done)
     row_by_place files w serial last found none is = row_by_last files w serial (Some last) found
@@ -220,13 +221,13 @@ module _ (d : DiskState) (jobs : List (Option Job)) (n : ℕ) (moment : Moment) 
     -- what is done leaves this job
     module _ (files : Files Version) (w : UnderKeys) (serial : ℕ) (last : List ℕ)
         (found : last_at job.core c ≡ Some last)
-        (place : finds_no_place (pack_one d) (state_of files w jobs) (output_of w o) (length last) ≡ false) where
+        (place : finds_no_place (pack_of d) (state_of files w jobs) (output_of w o) (length last) ≡ false) where
       abbrev files' : Files Version
       files' = with_file files (w.written o.pending.key).place
           (version_with (w.written o.pending.key) o.next last serial)
 
       pub row_done : (job' x : Job) → after w serial ≡ job_of w x → job' ≡ x
-          → step (pack_one d) serial (state_of files w jobs) (Calls n call moment)
+          → step (pack_of d) serial (state_of files w jobs) (Calls n call moment)
           ≡ (Done, state_of files' w (slice_set jobs n (Some job')))
       row_done job' x is set =
           row_by_place files w serial last found false place
@@ -259,13 +260,13 @@ module _ (d : DiskState) (jobs : List (Option Job)) (n : ℕ) (moment : Moment) 
     close_heavy files w = weighs files w bits ∙ ap not (machine_publishes w c o bits side drops publishes_it)
 
     close_row_is : (files : Files Version) (w : UnderKeys) (serial : ℕ)
-        → step (pack_one d) serial (state_of files w jobs) (Calls n (Close number bits) moment)
+        → step (pack_of d) serial (state_of files w jobs) (Calls n (Close number bits) moment)
         ≡ row_by files w serial bits (close_after w serial)
-        (close_answer (pack_one d) (state_of files w jobs) (job_of w job) (channel_of w c) bits)
+        (close_answer (pack_of d) (state_of files w jobs) (job_of w job) (channel_of w c) bits)
     close_row_is files w serial =
-        called d jobs n (Close number bits) moment serial files w timely job there
+        called (pack_of d) jobs n (Close number bits) moment serial files w timely job there
         ∙ ap (λ x. on_channel (state_of files w jobs) x (λ x. of_files (state_of files w jobs) n
-        (closes (pack_one d) serial (state_of files w jobs) (job_of w job) number x bits)))
+        (closes (pack_of d) serial (state_of files w jobs) (job_of w job) number x bits)))
         (channel_is w job number (Some c) is_open)
 
     pub close_rows : PublishRows d (Close number bits) jobs n moment job number c o
@@ -274,12 +275,12 @@ module _ (d : DiskState) (jobs : List (Option Job)) (n : ℕ) (moment : Moment) 
     -- where the channel has become this one
     pub close_step : (files : Files Version) (w : UnderKeys) (serial : ℕ) (last : List ℕ)
         → last_at job.core c ≡ Some last
-        → finds_no_place (pack_one d) (state_of files w jobs) (output_of w o) (length last) ≡ false
+        → finds_no_place (pack_of d) (state_of files w jobs) (output_of w o) (length last) ≡ false
         → (x : Channel) (closes_output closes_input : Bool)
         → channel_closed serial (job_of w job) (channel_of w c) bits ≡ channel_of w x
         → core_closed job.core (channel_of w c) bits ≡ rings_closed job.core c closes_output closes_input
         → (job' : Job) → job' ≡ closed_in job number c closes_output closes_input (Some x)
-        → step (pack_one d) serial (state_of files w jobs) (Calls n (Close number bits) moment)
+        → step (pack_of d) serial (state_of files w jobs) (Calls n (Close number bits) moment)
         ≡ (
           Done,
           state_of (with_file files (w.written o.pending.key).place
@@ -302,13 +303,13 @@ module _ (d : DiskState) (jobs : List (Option Job)) (n : ℕ) (moment : Moment) 
   release_heavy files w = weighs files w 0 ∙ ap not (machine_publishes w c o 0 side refl refl)
 
   release_row_is : (files : Files Version) (w : UnderKeys) (serial : ℕ)
-      → step (pack_one d) serial (state_of files w jobs) (Calls n (Releas number) moment)
+      → step (pack_of d) serial (state_of files w jobs) (Calls n (Releas number) moment)
       ≡ row_by files w serial 0 (release_after w serial)
-      (close_answer (pack_one d) (state_of files w jobs) (job_of w job) (channel_of w c) 0)
+      (close_answer (pack_of d) (state_of files w jobs) (job_of w job) (channel_of w c) 0)
   release_row_is files w serial =
-      called d jobs n (Releas number) moment serial files w timely job there
+      called (pack_of d) jobs n (Releas number) moment serial files w timely job there
       ∙ ap (λ x. on_channel (state_of files w jobs) x (λ x. of_files (state_of files w jobs) n
-      (releases (pack_one d) serial (state_of files w jobs) (job_of w job) number x)))
+      (releases (pack_of d) serial (state_of files w jobs) (job_of w job) number x)))
       (channel_is w job number (Some c) is_open)
 
   pub release_rows : PublishRows d (Releas number) jobs n moment job number c o
@@ -316,11 +317,11 @@ module _ (d : DiskState) (jobs : List (Option Job)) (n : ℕ) (moment : Moment) 
 
   pub release_step : (files : Files Version) (w : UnderKeys) (serial : ℕ) (last : List ℕ)
       → last_at job.core c ≡ Some last
-      → finds_no_place (pack_one d) (state_of files w jobs) (output_of w o) (length last) ≡ false
+      → finds_no_place (pack_of d) (state_of files w jobs) (output_of w o) (length last) ≡ false
       → (closes_output closes_input : Bool)
       → core_closed job.core (channel_of w c) 0 ≡ rings_closed job.core c closes_output closes_input
       → (job' : Job) → job' ≡ closed_in job number c closes_output closes_input None
-      → step (pack_one d) serial (state_of files w jobs) (Calls n (Releas number) moment)
+      → step (pack_of d) serial (state_of files w jobs) (Calls n (Releas number) moment)
       ≡ (
         Done,
         state_of (with_file files (w.written o.pending.key).place

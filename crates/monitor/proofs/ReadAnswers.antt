@@ -27,7 +27,7 @@ use Rattle.volume.specs.Pins.{IsVersionOf, version_under}
 use Rattle.volume.specs.Rest.{RestsAt}
 use Rattle.monitor.specs.Reading.{handle_read, IsIn, IsAtInput, Ingoing}
 use Rattle.monitor.specs.Rows.{IsRow}
-use Rattle.monitor.specs.Serving.{pack_one, IsState, Serves, AreKeyed, AreReading}
+use Rattle.monitor.specs.Serving.{IsState, Serves, AreKeyed, AreReading, IsTimely}
 use Rattle.monitor.specs.Sides.{input_of, output_of, job_of, state_of}
 use Rattle.monitor.specs.declared.job.Job.{Job}
 use Rattle.monitor.specs.declared.output.Output.{Output}
@@ -92,7 +92,7 @@ alive_after true reply exact device failed = by (exact.0 refl)
     by (inr is) = absurd (failed is)
 
 module _ (d d' : DiskState) (map : VolumeCore) (failed : Bool) (jobs : List (Option Job)) (n ch a : ℕ)
-    (moment : Moment) (serves : failed ≡ false) (timely : moment.date ≤ 4095) (keyed : AreKeyed map.pending jobs)
+    (moment : Moment) (serves : failed ≡ false) (timely : IsTimely d moment) (keyed : AreKeyed map.pending jobs)
     (reading : AreReading map.live jobs) where
   module _ (job job' : Job) (there : slot jobs n ≡ Some job) (jobs' : List (Option Job)) (set : jobs'
       ≡ slice_set jobs n (Some job')) where
@@ -108,18 +108,18 @@ module _ (d d' : DiskState) (map : VolumeCore) (failed : Bool) (jobs : List (Opt
     -- the disk as it was before, in core as it is after
     abbrev Leads : Reply → Type 0
     Leads reply = (old : Service) → Serves d map failed jobs old → (new : Service) × Serves d map failed jobs' new
-        × Answers (pack_one d) old (Calls n (In ch a) moment) reply new
+        × Answers (pack_of d) old (Calls n (In ch a) moment) reply new
 
     -- a row that needs neither memory nor the disk
-    plain : (reply : Reply) → IsIn d d' map job job' ch a reply → job' ≡ job → IsRow job job (In ch a) reply
+    plain : d.honest → (reply : Reply) → IsIn d d' map job job' ch a reply → job' ≡ job → IsRow job job (In ch a) reply
         → Leads reply
-    plain reply is same here =
-        row d map map failed jobs jobs' (in_keyed reply is) (in_reading reply is) (leaves_none map) (pack_one d)
+    plain before reply is same here =
+        row d map map failed jobs jobs' (in_keyed reply is) (in_reading reply is) (leaves_none map) (pack_of d)
         (Calls n (In ch a) moment) reply
-        (row_is d map failed jobs n (In ch a) moment serves timely jobs' job job reply there (set
+        (row_is d map failed jobs n (In ch a) moment serves timely before jobs' job job reply there (set
         ∙ ap (λ j. slice_set jobs n (Some j)) same) here) serves
 
-    module _ (honest : d'.honest) where
+    module _ (honest : d'.honest) (before : d.honest) where
       -- What a channel reads stands on the disk, as the version that it writes or as the one that is held for it.
       module _ (at : IsAtInput job ch) (s : State) (state : IsState d map jobs s) where
         abbrev body_of : Option Output → List ℕ
@@ -146,31 +146,31 @@ module _ (d d' : DiskState) (map : VolumeCore) (failed : Bool) (jobs : List (Opt
 
       -- a call that the machine goes on from, in the same files
       goes : (reply : Reply) (is : IsIn d d' map job job' ch a reply) (s : State) (state : IsState d map jobs s)
-          → ((serial : ℕ) → step (pack_one d) serial (state_of s.files state.under jobs) (Calls n (In ch a) moment)
+          → ((serial : ℕ) → step (pack_of d) serial (state_of s.files state.under jobs) (Calls n (In ch a) moment)
           ≡ (reply, state_of s.files state.under jobs'))
           → (new : Service) × Serves d map failed jobs' new
-          × Answers (pack_one d) (Serving s) (Calls n (In ch a) moment) reply new
+          × Answers (pack_of d) (Serving s) (Calls n (In ch a) moment) reply new
       goes reply is s state steps =
-          goes_on d map failed jobs' (pack_one d) (Calls n (In ch a) moment) reply s
+          goes_on d map failed jobs' (pack_of d) (Calls n (In ch a) moment) reply s
           (state_of s.files state.under jobs') serves state.sound
-          (λ serial. subst (λ y. step (pack_one d) serial y (Calls n (In ch a) moment)
+          (λ serial. subst (λ y. step (pack_of d) serial y (Calls n (In ch a) moment)
           ≡ (reply, state_of s.files state.under jobs')) (sym (state_is s state.under jobs state.jobs_are))
           (steps serial))
           (same_files d map map failed jobs jobs' (in_keyed reply is) (in_reading reply is) (leaves_none map) s state)
 
       pub undecided_in : Ingoing job ch a → (s : State) → IsState d map jobs s
-          → is_plain ((step (pack_one d) 0 s (Calls n (In ch a) moment)).0) ≡ false
+          → is_plain ((step (pack_of d) 0 s (Calls n (In ch a) moment)).0) ≡ false
       undecided_in read s state =
-          ap (λ y. is_plain ((step (pack_one d) 0 y (Calls n (In ch a) moment)).0))
+          ap (λ y. is_plain ((step (pack_of d) 0 y (Calls n (In ch a) moment)).0))
           (state_is s state.under jobs state.jobs_are)
           ∙ undecided job ch a read.at.channel read.at.there read.at.input read.at.side read.at.has
-          read.asked read.found state.under d jobs n there moment timely 0 s.files
+          read.asked read.found state.under d jobs n there moment (timely before) 0 s.files
 
       -- what leaves the service serving
       in_leads : (reply : Reply) → IsIn d d' map job job' ch a reply → (reply ≡ Device → ⊥) → (reply ≡ Failed → ⊥)
           → Leads reply
       in_leads Done is device lies = in_state d map failed jobs (λ old. (new : Service) × Serves d map failed jobs' new
-          × Answers (pack_one d) old (Calls n (In ch a) moment) Done new) serves (λ s state.
+          × Answers (pack_of d) old (Calls n (In ch a) moment) Done new) serves (λ s state.
           let read = is.0 in
           let moves = is.4 in
           let at = read.at in
@@ -178,12 +178,12 @@ module _ (d d' : DiskState) (map : VolumeCore) (failed : Bool) (jobs : List (Opt
           let has = has_words at s state in
           goes Done is s state (λ serial.
           row_goes job ch a at.channel at.there at.input at.side at.has read.asked read.found state.under
-          d jobs n there moment timely serial s.files job' Done jobs' set
+          d jobs n there moment (timely before) serial s.files job' Done jobs' set
           (row_read job ch a at.channel at.there at.input at.side at.has read.asked read.found state.under
           is.1 is.2 moves.some (moves.many has.0 has.1 body has.2) (moves.words honest has.0 has.1 body has.2 has.3)
           ∙ ap (λ j. (Done, job_of state.under j)) (sym is.3))))
       in_leads (Stopped status) is device lies = in_state d map failed jobs (λ old. (new : Service)
-          × Serves d map failed jobs' new × Answers (pack_one d) old (Calls n (In ch a) moment) (Stopped status) new)
+          × Serves d map failed jobs' new × Answers (pack_of d) old (Calls n (In ch a) moment) (Stopped status) new)
           serves (λ s state.
           let read = is.0 in
           let at = read.at in
@@ -192,18 +192,18 @@ module _ (d d' : DiskState) (map : VolumeCore) (failed : Bool) (jobs : List (Opt
           let ends = is.3 has.0 has.1 body has.2 in
           goes (Stopped status) is s state (λ serial.
           row_goes job ch a at.channel at.there at.input at.side at.has read.asked read.found state.under
-          d jobs n there moment timely serial s.files job' (Stopped status) jobs' set
+          d jobs n there moment (timely before) serial s.files job' (Stopped status) jobs' set
           (row_ended job ch a at.channel at.there at.input at.side at.has read.asked read.found state.under
           ends.0 ends.1 status is.1
           ∙ ap (λ j. (Stopped status, job_of state.under j)) (sym is.2))))
       in_leads (Refused code) is device lies =
-          plain (Refused code) is is.0 (subst (λ k. IsRow job job (In ch a) (Refused k)) (sym is.1)
+          plain before (Refused code) is is.0 (subst (λ k. IsRow job job (In ch a) (Refused k)) (sym is.1)
           (in_refused job ch a is.2 is.3 is.4))
-      in_leads NoChannel is device lies = plain NoChannel is is.0 (in_none job ch a is.1)
-      in_leads AddressCheck is device lies = plain AddressCheck is is.0
+      in_leads NoChannel is device lies = plain before NoChannel is is.0 (in_none job ch a is.1)
+      in_leads AddressCheck is device lies = plain before AddressCheck is is.0
           (in_unlisted job ch a is.1.channel is.1.there is.1.input is.1.side is.1.has is.2)
       in_leads NoMemory is device lies = in_state d map failed jobs (λ old. (new : Service)
-          × Serves d map failed jobs' new × Answers (pack_one d) old (Calls n (In ch a) moment) NoMemory new) serves
+          × Serves d map failed jobs' new × Answers (pack_of d) old (Calls n (In ch a) moment) NoMemory new) serves
           (λ s state. (
             Serving s,
             (
@@ -224,7 +224,7 @@ module _ (d d' : DiskState) (map : VolumeCore) (failed : Bool) (jobs : List (Opt
           (rests : (f : Files File) → RestsAt d f → RestsAt d' f) where
         abbrev Answered : Reply → Service → Type 0
         Answered reply old = (new : Service) × Serves d' map' failed' jobs' new
-            × Answers (pack_one d) old (Calls n (In ch a) moment) reply new
+            × Answers (pack_of d) old (Calls n (In ch a) moment) reply new
 
         serves_on : failed' ≡ false → (new : Service) → Serves d map failed jobs' new → Serves d' map' failed' jobs' new
         serves_on alive Broken broken = absurd (contrary serves broken)

@@ -12,11 +12,12 @@ use Rattle.meaning.specs.Inputs.{reads, words_ahead, is_empty, dump_in_answer, r
 use Rattle.meaning.specs.Inputs.{buffer_filled, lacks_header, moved_on}
 use Rattle.meaning.specs.Jobs as machine
 use Rattle.meaning.specs.Jobs.{State, slot, with_channel, cleared, end_of_file}
+use Rattle.meaning.specs.Layouts.{pack_of}
 use Rattle.meaning.specs.Outcomes.{settled, clean, stopped_in}
 use Rattle.meaning.specs.Published.{Version}
 use Rattle.meaning.specs.Rings.{is_buffered, byte_size, data_words, in_ready}
 use Rattle.meaning.specs.Runs.{is_plain}
-use Rattle.meaning.specs.Step.{step, on_channel, of_job}
+use Rattle.meaning.specs.Step.{step, on_channel, of_job, last_date}
 use Rattle.meaning.specs.declared.area.Area.{Area}
 use Rattle.meaning.specs.declared.call.Call.TheVariants.{In}
 use Rattle.meaning.specs.declared.call.Event.TheVariants.{Call as Calls}
@@ -25,7 +26,6 @@ use Rattle.meaning.specs.declared.call.Reply.TheVariants.{Done, Refused, Stopped
 use Rattle.retrieval.specs.Modes.{mode_number}
 use Rattle.monitor.specs.Reading.{Asked, areas_asked, buffer_asked, names_none, asked_at, read_on}
 use Rattle.monitor.specs.Rows.{IsRow}
-use Rattle.monitor.specs.Serving.{pack_one}
 use Rattle.monitor.specs.Sides.{UnderKeys, input_of, output_of, channel_of, job_of, state_of}
 use Rattle.monitor.specs.declared.channel.Channel.{Channel}
 use Rattle.monitor.specs.declared.input.Input.{Input}
@@ -233,22 +233,22 @@ module _ (job : Job) (ch a : ℕ) where
             ∙ answer_undecided (channel_of w c) k.none ahead
 
         module _ (d : DiskState) (jobs : List (Option Job)) (n : ℕ) (here : slot jobs n ≡ Some job) (moment : Moment)
-            (timely : moment.date ≤ 4095) (serial : ℕ) (files : Files Version) where
+            (timely : moment.date ≤ last_date (pack_of d).layout) (serial : ℕ) (files : Files Version) where
           abbrev t : State
           t = state_of files w jobs
 
           -- it isn't decided before memory and the disk are needed
-          pub undecided : is_plain ((step (pack_one d) serial t (Calls n (In ch a) moment)).0) ≡ false
+          pub undecided : is_plain ((step (pack_of d) serial t (Calls n (In ch a) moment)).0) ≡ false
           undecided =
-              ap (λ r. is_plain r.0) (called d jobs n (In ch a) moment serial files w timely job here
+              ap (λ r. is_plain r.0) (called (pack_of d) jobs n (In ch a) moment serial files w timely job here
               ∙ ap (λ o. on_channel t o (λ x. of_job t n (reads (job_of w job) ch x a)))
               (channel_is w job ch (Some c) there))
               ∙ row_undecided
 
           pub row_goes : (job' : Job) (reply : Reply) (jobs' : List (Option Job)) → jobs' ≡ slice_set jobs n (Some job')
               → reads (job_of w job) ch (channel_of w c) a ≡ (reply, job_of w job')
-              → step (pack_one d) serial t (Calls n (In ch a) moment) ≡ (reply, state_of files w jobs')
+              → step (pack_of d) serial t (Calls n (In ch a) moment) ≡ (reply, state_of files w jobs')
           row_goes job' reply jobs' set is =
-              called d jobs n (In ch a) moment serial files w timely job here
+              called (pack_of d) jobs n (In ch a) moment serial files w timely job here
               ∙ on_row t n w job job' ch c reply (λ x. reads (job_of w job) ch x a) there is
               ∙ ap (λ s. (reply, s)) (job_set files w jobs n job' ∙ ap (state_of files w) (sym set))

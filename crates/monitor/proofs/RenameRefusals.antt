@@ -10,6 +10,7 @@ use Rattle.meaning.specs.declared.code.ErrorCode.{ErrorCode}
 use Rattle.meaning.specs.Codes.{number_of}
 use Rattle.meaning.specs.Cores.{lies_outside}
 use Rattle.meaning.specs.Jobs.{State, slot}
+use Rattle.meaning.specs.Layouts.{pack_of}
 use Rattle.meaning.specs.Renaming.{protection_at, rename_from}
 use Rattle.meaning.specs.Runs.{Service, Answers}
 use Rattle.meaning.specs.Stands.{place_of}
@@ -28,7 +29,7 @@ use Rattle.monitor.specs.Promises.{IsAmong, IsServing, ServesJob}
 use Rattle.monitor.specs.Readers.{readers_of}
 use Rattle.monitor.specs.Refusals.{with_code}
 use Rattle.monitor.specs.Rows.{IsRow}
-use Rattle.monitor.specs.Serving.{pack_one, AreKeyed, ArePlaced, AreReading, IsState, Serves}
+use Rattle.monitor.specs.Serving.{AreKeyed, ArePlaced, AreReading, IsState, Serves, IsTimely}
 use Rattle.monitor.specs.Sides.{UnderKeys, sides_in, job_of, state_of}
 use Rattle.monitor.specs.declared.channel.Channel.{Channel}
 use Rattle.monitor.specs.declared.input.Input.{Input}
@@ -77,8 +78,8 @@ module _ {D : Type 0} (state : D → DiskState) (only_now : (disk : D) (contents
     (side : channel.input ≡ Some input) (free : channel.output ≡ None) (inside : lies_outside job.core e 4 ≡ false)
     (sound : IsSoundCore (state disk) c false) (placed : ArePlaced c) (code : ErrorCode)
     (refuses : (state disk).honest → (s : State) → IsKnown (state disk) c s → (w : UnderKeys)
-    → rename_from (pack_one (state disk)) s (job_of w job) e (place_of input.ppn input.file) ≡ Refused (number_of code))
-    (moment : Moment) (timely : moment.date ≤ 4095) (jobs : List (Option Job)) (n : ℕ)
+    → rename_from (pack_of (state disk)) s (job_of w job) e (place_of input.ppn input.file) ≡ Refused (number_of code))
+    (moment : Moment) (timely : IsTimely (state disk) moment) (jobs : List (Option Job)) (n : ℕ)
     (among : IsAmong c jobs n job) where
   abbrev d : DiskState
   d = state disk
@@ -96,16 +97,17 @@ module _ {D : Type 0} (state : D → DiskState) (only_now : (disk : D) (contents
   reading = keeps_reading c.live c.live jobs n job job' among.reading among.there (reading_same c c job job' refl refl)
 
   step_refused : d.honest → (s : State) (state_s : IsState d c jobs s) (serial : ℕ)
-      → step (pack_one d) serial s (Calls n (Rename number e) moment)
+      → step (pack_of d) serial s (Calls n (Rename number e) moment)
       ≡ (Refused (number_of code), state_of s.files state_s.under jobs')
   step_refused honest s state_s serial =
       let w = state_s.under in
       let before_is = state_is s w jobs state_s.jobs_are in
       let place = place_of input.ppn input.file in
-      subst (λ t. step (pack_one d) serial t (Calls n (Rename number e) moment)
+      subst (λ t. step (pack_of d) serial t (Calls n (Rename number e) moment)
       ≡ (Refused (number_of code), state_of s.files w jobs')) (sym before_is)
-      (row_refused d s.files w jobs n job among.there number e moment timely channel is_open input side free inside
-      (number_of code) (subst (λ t. rename_from (pack_one d) t (job_of w job) e place ≡ Refused (number_of code))
+      (row_refused d s.files w jobs n job among.there number e moment (timely honest) channel is_open input side free
+      inside
+      (number_of code) (subst (λ t. rename_from (pack_of d) t (job_of w job) e place ≡ Refused (number_of code))
       before_is (refuses honest s (known d c jobs s state_s sound honest) w)) serial)
 
   serves_refused : IsServing state disk disk c c failed jobs jobs' n (Rename number e) moment
@@ -116,8 +118,8 @@ module _ {D : Type 0} (state : D → DiskState) (only_now : (disk : D) (contents
       (λ kept. absurd kept) (λ none. cc none) (λ k at. ap (with_code job e) (same_code at)) (λ is. absurd is)
       jobs n among keyed reading
       (λ honest. in_state d c false jobs (λ old. (new : Service) × Serves d c false jobs' new
-      × Answers (pack_one d) old (Calls n (Rename number e) moment) (Refused (number_of code)) new) refl
-      (λ s state_s. goes_on d c false jobs' (pack_one d) (Calls n (Rename number e) moment) (Refused (number_of code)) s
+      × Answers (pack_of d) old (Calls n (Rename number e) moment) (Refused (number_of code)) new) refl
+      (λ s state_s. goes_on d c false jobs' (pack_of d) (Calls n (Rename number e) moment) (Refused (number_of code)) s
       (state_of s.files state_s.under jobs') refl state_s.sound (step_refused honest s state_s)
       (same_files d c c false jobs jobs' keyed reading (leaves_none c) s state_s)))
 
@@ -134,7 +136,8 @@ module _ {D : Type 0} (state : D → DiskState) (only_now : (disk : D) (contents
 pub out_of_order : {D : Type 0} (state : D → DiskState) → ((disk : D) (contents : Contents) → (state disk).honest
     → (state disk).left_since (state disk).clock contents → MayLeave (state disk) contents)
     → (disk : D) (c : VolumeCore) (failed : Bool) (job after : Job) (number e : ℕ) (moment : Moment) (reply : Reply)
-    → failed ≡ false → ArePlaced c → moment.date ≤ 4095 → IsRow job (with_code job e 5) (Rename number e) (Refused 5)
+    → failed ≡ false → ArePlaced c → IsTimely (state disk) moment
+    → IsRow job (with_code job e 5) (Rename number e) (Refused 5)
     → after ≡ with_code job e 5 → reply ≡ Refused 5
     → ServesJob state disk disk c c failed job after (Rename number e) moment reply
 out_of_order state only_now disk c failed job after number e moment reply alive placed timely row job_is answer_is =

@@ -7,12 +7,13 @@ use Rattle.meaning.specs.Cores.{lies_outside}
 use Rattle.meaning.specs.Files.{Files, Place}
 use Rattle.meaning.specs.Jobs as machine
 use Rattle.meaning.specs.Jobs.{State, slot}
+use Rattle.meaning.specs.Layouts.{pack_of}
 use Rattle.meaning.specs.Outcomes.{settled, refused_at}
 use Rattle.meaning.specs.Published.{Version}
 use Rattle.meaning.specs.Renaming.{rename_from, rename_sides, rename_done, files_from, files_renamed, renames}
 use Rattle.meaning.specs.Room.{Pack}
 use Rattle.meaning.specs.Stands.{place_of}
-use Rattle.meaning.specs.Step.{step, on_channel, of_files}
+use Rattle.meaning.specs.Step.{step, on_channel, of_files, last_date}
 use Rattle.meaning.specs.declared.call.Call.TheVariants.{Rename}
 use Rattle.meaning.specs.declared.call.Event.TheVariants.{Call as Calls}
 use Rattle.meaning.specs.declared.call.Reply.{Reply}
@@ -20,7 +21,6 @@ use Rattle.meaning.specs.declared.call.Reply.TheVariants.{Done, Refused, Address
 use Rattle.monitor.specs.Changing.{input_closed, with_input_closed}
 use Rattle.monitor.specs.Refusals.{with_code}
 use Rattle.monitor.specs.Rows.{IsRow}
-use Rattle.monitor.specs.Serving.{pack_one}
 use Rattle.monitor.specs.Sides.{UnderKeys, input_of, output_of, channel_of, job_of, state_of}
 use Rattle.monitor.specs.declared.channel.Channel.{Channel}
 use Rattle.monitor.specs.declared.input.Input.{Input}
@@ -30,7 +30,8 @@ use Rattle.monitor.proofs.Answering.{called, job_set, settled_reply}
 use Rattle.monitor.proofs.Calling.{channel_is, channel_set}
 
 module _ (d : DiskState) (files : Files Version) (w : UnderKeys) (jobs : List (Option Job)) (n : ℕ) (job : Job)
-    (there : slot jobs n ≡ Some job) (number e : ℕ) (moment : Moment) (timely : moment.date ≤ 4095)
+    (there : slot jobs n ≡ Some job) (number e : ℕ) (moment : Moment)
+    (timely : moment.date ≤ last_date (pack_of d).layout)
     (channel : Channel) (is_open : slot job.channels number ≡ Some channel) (input : Input)
     (side : channel.input ≡ Some input) (free : channel.output ≡ None)
     (inside : lies_outside job.core e 4 ≡ false) where
@@ -47,7 +48,7 @@ module _ (d : DiskState) (files : Files Version) (w : UnderKeys) (jobs : List (O
   -- the row, by its sides and by what it answers
   abbrev by_sides : Bool → Option Input → Option Output → Reply × (machine.Job × Files Version)
   by_sides outside i o = settled
-      (if outside then AddressCheck else rename_sides (pack_one d) t j e (option_map (input_of w) i)
+      (if outside then AddressCheck else rename_sides (pack_of d) t j e (option_map (input_of w) i)
       (option_map (output_of w) o))
       (rename_done j number (channel_of w channel), files_renamed files j e (option_map (input_of w) i))
       (λ reply. (refused_at j e reply, files))
@@ -56,16 +57,16 @@ module _ (d : DiskState) (files : Files Version) (w : UnderKeys) (jobs : List (O
   by_answer reply = settled reply (rename_done j number (channel_of w channel), files_from files j e old)
       (λ r. (refused_at j e r, files))
 
-  asks : (serial : ℕ) → step (pack_one d) serial t (Calls n (Rename number e) moment)
-      ≡ of_files t n (by_answer (rename_from (pack_one d) t j e old))
+  asks : (serial : ℕ) → step (pack_of d) serial t (Calls n (Rename number e) moment)
+      ≡ of_files t n (by_answer (rename_from (pack_of d) t j e old))
   asks serial =
-      called d jobs n (Rename number e) moment serial files w timely job there
-      ∙ ap (λ o. on_channel t o (λ c. of_files t n (renames (pack_one d) t j number c e)))
+      called (pack_of d) jobs n (Rename number e) moment serial files w timely job there
+      ∙ ap (λ o. on_channel t o (λ c. of_files t n (renames (pack_of d) t j number c e)))
       (channel_is w job number (Some channel) is_open)
       ∙ (λ i. of_files t n (by_sides (inside i) (side i) (free i)))
 
-  pub row_done : rename_from (pack_one d) t j e old ≡ Done → (serial : ℕ)
-      → step (pack_one d) serial t (Calls n (Rename number e) moment)
+  pub row_done : rename_from (pack_of d) t j e old ≡ Done → (serial : ℕ)
+      → step (pack_of d) serial t (Calls n (Rename number e) moment)
       ≡ (Done, state_of (files_from files j e old) w (slice_set jobs n (Some (with_input_closed job number channel))))
   row_done done serial =
       asks serial ∙ ap (λ r. of_files t n (by_answer r)) done
@@ -73,18 +74,18 @@ module _ (d : DiskState) (files : Files Version) (w : UnderKeys) (jobs : List (O
       (channel_set w job number (Some (input_closed channel)))
       ∙ ap (λ x. (Done, x)) (job_set (files_from files j e old) w jobs n (with_input_closed job number channel))
 
-  pub row_refused : (code : ℕ) → rename_from (pack_one d) t j e old ≡ Refused code → (serial : ℕ)
-      → step (pack_one d) serial t (Calls n (Rename number e) moment)
+  pub row_refused : (code : ℕ) → rename_from (pack_of d) t j e old ≡ Refused code → (serial : ℕ)
+      → step (pack_of d) serial t (Calls n (Rename number e) moment)
       ≡ (Refused code, state_of files w (slice_set jobs n (Some (with_code job e code))))
   row_refused code refused serial =
       asks serial ∙ ap (λ r. of_files t n (by_answer r)) refused
       ∙ ap (λ x. (Refused code, x)) (job_set files w jobs n (with_code job e code))
 
   -- what is answered is what is answered of the place
-  pub row_answers : (step (pack_one d) 0 t (Calls n (Rename number e) moment)).0 ≡ rename_from (pack_one d) t j e old
+  pub row_answers : (step (pack_of d) 0 t (Calls n (Rename number e) moment)).0 ≡ rename_from (pack_of d) t j e old
   row_answers =
       ap (λ (r : Reply × State). r.0) (asks 0)
-      ∙ settled_reply (rename_from (pack_one d) t j e old)
+      ∙ settled_reply (rename_from (pack_of d) t j e old)
       (rename_done j number (channel_of w channel), files_from files j e old) (λ r. (refused_at j e r, files))
 
 -- A channel that writes, too, is out of order.

@@ -7,17 +7,18 @@ use Rattle.meaning.specs.Cores.{lies_outside}
 use Rattle.meaning.specs.Jobs.{State, slot}
 use Rattle.meaning.specs.Runs.{Service, Serving, Answers, is_plain}
 use Rattle.meaning.specs.Stands.{place_of}
-use Rattle.meaning.specs.Step.{step}
+use Rattle.meaning.specs.Step.{step, last_date}
 use Rattle.meaning.specs.declared.call.Call.{Call}
 use Rattle.meaning.specs.declared.call.Call.TheVariants.{Rename}
 use Rattle.meaning.specs.declared.call.Event.TheVariants.{Call as Calls}
 use Rattle.meaning.specs.declared.call.Reply.{Reply}
 use Rattle.meaning.specs.declared.call.Reply.TheVariants as replies
 use Rattle.meaning.proofs.SlotLaws.{set-slot}
+use Rattle.meaning.specs.Layouts.{pack_of}
 use Rattle.volume.specs.Live.{VolumeCore}
 use Rattle.volume.specs.Rest.{IsSoundCore}
 use Rattle.monitor.specs.Promises.{IsServing, ServesAlways}
-use Rattle.monitor.specs.Serving.{pack_one, ArePlaced, IsState, Serves}
+use Rattle.monitor.specs.Serving.{ArePlaced, IsState, Serves}
 use Rattle.monitor.specs.Sides.{job_of, state_of}
 use Rattle.monitor.specs.declared.channel.Channel.{Channel}
 use Rattle.monitor.specs.declared.input.Input.{Input}
@@ -32,16 +33,17 @@ use Rattle.monitor.proofs.Serving.{alone_keyed, alone_reading}
 -- it is decided only after memory and the disk are needed
 pub rename_undecided : (d : DiskState) (c : VolumeCore) (jobs : List (Option Job)) (s : State)
     (state : IsState d c jobs s)
-    (n : ℕ) (job : Job) → slot jobs n ≡ Some job → (number e : ℕ) (moment : Moment) → moment.date ≤ 4095
+    (n : ℕ) (job : Job) → slot jobs n ≡ Some job → (number e : ℕ) (moment : Moment)
+    → moment.date ≤ last_date (pack_of d).layout
     → (channel : Channel) → slot job.channels number ≡ Some channel → (input : Input) → channel.input ≡ Some input
     → channel.output ≡ None → lies_outside job.core e 4 ≡ false
-    → is_plain ((step (pack_one d) 0 s (Calls n (Rename number e) moment)).0) ≡ false
+    → is_plain ((step (pack_of d) 0 s (Calls n (Rename number e) moment)).0) ≡ false
 rename_undecided d c jobs s state n job there number e moment timely channel is_open input side free inside =
-    subst (λ y. is_plain ((step (pack_one d) 0 y (Calls n (Rename number e) moment)).0) ≡ false)
+    subst (λ y. is_plain ((step (pack_of d) 0 y (Calls n (Rename number e) moment)).0) ≡ false)
     (sym (state_is s state.under jobs state.jobs_are))
     (ap is_plain (row_answers d s.files state.under jobs n job there number e moment timely channel is_open input side
     free inside)
-    ∙ rename_late (pack_one d) (state_of s.files state.under jobs) (job_of state.under job) e
+    ∙ rename_late (pack_of d) (state_of s.files state.under jobs) (job_of state.under job) e
     (place_of input.ppn input.file))
 
 -- the same where disk, core and job are these, and this is answered
@@ -81,14 +83,15 @@ module _ {D : Type 0} (state : D → DiskState) (only_now : (disk : D) (contents
       (λ x. cc x, λ x. cc x) placed (λ light. absurd light) (λ kept. absurd kept) (λ none. (refl, refl))
       (λ k same. cc same) (λ is. absurd is) jobs n among keyed reading
       (λ honest. in_state d core false jobs (λ old. (new : Service) × Serves d core false set new
-      × Answers (pack_one d) old (Calls n call moment) replies.NoMemory new) refl
+      × Answers (pack_of d) old (Calls n call moment) replies.NoMemory new) refl
       (λ s is. (
         Serving s,
         (refl, subst (λ js. IsState d core js s) (sym (set-slot jobs n job among.there)) is),
         inr (
           refl,
           refl,
-          rename_undecided d core jobs s is n job among.there number e moment timely channel is_open input side free
+          rename_undecided d core jobs s is n job among.there number e moment (timely honest) channel is_open input
+              side free
               inside,
           refl,
         ),

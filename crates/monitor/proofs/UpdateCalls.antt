@@ -27,6 +27,7 @@ use Rattle.meaning.specs.declared.call.Reply.TheVariants.{Done}
 use Rattle.meaning.proofs.MapLaws.{some_same}
 use Rattle.meaning.proofs.MapSums.{times_head, times_other}
 use Rattle.meaning.proofs.SlotLaws.{none_some}
+use Rattle.meaning.specs.Layouts.{pack_of}
 use Rattle.retrieval.specs.declared.prime.Prime.{Prime}
 use Rattle.volume.specs.Beginning.{begun, is_update}
 use Rattle.volume.specs.Known.{Before}
@@ -42,7 +43,7 @@ use Rattle.monitor.specs.Finding.{IsKnown, file_begun}
 use Rattle.monitor.specs.Inputs.{named_in}
 use Rattle.monitor.specs.Readers.{AreRead, ArePinned}
 use Rattle.monitor.specs.Rows.{KeepsSides, KeepsReading}
-use Rattle.monitor.specs.Serving.{pack_one, present, IsSide, AreKeyed, IsWriting, AreReading, IsState, Serves}
+use Rattle.monitor.specs.Serving.{present, IsSide, AreKeyed, IsWriting, AreReading, IsState, Serves, IsTimely}
 use Rattle.monitor.specs.Sides.{Writing, UnderKeys, side_of, kind_of, input_of, output_of, channel_of, job_of}
 use Rattle.monitor.specs.Sides.{state_of, pins_of, readers}
 use Rattle.monitor.specs.Updating.{update_kind, updating_kind, first_block, updating_side, updating, IsUpdating}
@@ -63,6 +64,7 @@ use Rattle.monitor.proofs.ReadStays.{reads_kept}
 use Rattle.monitor.proofs.ReadingJobs.{keeps_reading}
 use Rattle.monitor.proofs.ReadsPinned.{with_read_same}
 use Rattle.monitor.proofs.Renewals.{renewed_pending, renewed_reading, renewed_reads, renewed_jobs}
+use Rattle.monitor.proofs.Dates.{attributes_in, version_dated}
 use Rattle.monitor.proofs.SideLists.{count, count-channel, each-channel}
 
 -- a version that begins with a file is no new name
@@ -197,17 +199,17 @@ module _ (d : DiskState) (map map' : VolumeCore) (jobs jobs' : List (Option Job)
       there
       (subst (KeepsReading map.live map'.live job) (sym is.job_is)
       (subst (λ vs. KeepsReading vs map'.live job (record job {
-        core = with_attributes 1 job.core e (file_begun is.version.prime);
+        core = with_attributes 2 job.core e (file_begun is.version.prime);
         channels = slice_set job.channels ch (Some now);
       })) is.begun.live
       (renewed_reading is.between map' input is.renewed input.ppn input.file is.version.prime.protection is.renews job
       ch now c
-      (with_attributes 1 job.core e (file_begun is.version.prime)) is.there is.side refl))))
+      (with_attributes 2 job.core e (file_begun is.version.prime)) is.there is.side refl))))
 
-  module _ (sound : IsSoundCore d map false) (honest : d.honest) (timely : moment.date ≤ 4095)
+  module _ (sound : IsSoundCore d map false) (honest : d.honest) (timely : IsTimely d moment)
       (whole : IsWholeCore d.size is.between)
       (row : (s : State) → IsKnown d map s → (w : UnderKeys)
-      → IsEnterAnswer (pack_one d) s (job_of w job) (job_of w job') (channel_at (job_of w job) ch) e Done)
+      → IsEnterAnswer (pack_of d) s (job_of w job) (job_of w job') (channel_at (job_of w job) ch) e Done)
       (updates : (files : Files File) → RestsAt d files
       → IsUpdateOf d.contents job input is.kind is.version is.renews.between is.renewed files) where
     module _ (s : State) (state : IsState d map jobs s) where
@@ -261,9 +263,9 @@ module _ (d : DiskState) (map map' : VolumeCore) (jobs jobs' : List (Option Job)
       t_known : IsKnown d map t
       t_known = subst (IsKnown d map) t_is (known d map jobs s state sound honest)
 
-      answer : enter_answer (pack_one d) t (job_of w job) (channel_of w c) e (place_at (job_of w job) e) ≡ Done
+      answer : enter_answer (pack_of d) t (job_of w job) (channel_of w c) e (place_at (job_of w job) e) ≡ Done
       answer = ⊎_elim (λ none. absurd (cc none.0)) (λ a. a.0)
-          (subst (λ o. IsEnterAnswer (pack_one d) t (job_of w job) (job_of w job') o e Done)
+          (subst (λ o. IsEnterAnswer (pack_of d) t (job_of w job) (job_of w job') o e Done)
           (channel_is w job ch (Some c) is.there) (row t t_known w))
 
       -- where the version is, in either state
@@ -314,12 +316,14 @@ module _ (d : DiskState) (map map' : VolumeCore) (jobs jobs' : List (Option Job)
           }) (sym same)
 
       -- what is put into the words
-      attributes_are : with_attributes 1 job.core e version.file
-          ≡ with_attributes 1 job.core e (file_begun is.version.prime)
-      attributes_are = ap (with_attributes 1 job.core e) found.2
+      attributes_are : with_attributes (pack_of d).layout job.core e version.file
+          ≡ with_attributes 2 job.core e (file_begun is.version.prime)
+      attributes_are = sym (attributes_in (pack_of d).layout job.core e version.file
+          (version_dated d s.files state.files place version found.1))
+          ∙ ap (with_attributes 2 job.core e) found.2
           ∙ (let p = sym of_file.begins.protection in let m = sym of_file.begins.mode in
           let a = sym of_file.begins.time in let b = sym of_file.begins.date in
-          λ i. with_attributes 1 job.core e (record of_file.file {
+          λ i. with_attributes 2 job.core e (record of_file.file {
             protection = p i;
             mode = m i;
             time = a i;
@@ -327,18 +331,18 @@ module _ (d : DiskState) (map map' : VolumeCore) (jobs jobs' : List (Option Job)
           }))
 
       -- the row
-      row_is : (serial : ℕ) → step (pack_one d) serial t (Calls n (Enter ch e) moment)
+      row_is : (serial : ℕ) → step (pack_of d) serial t (Calls n (Enter ch e) moment)
           ≡ (Done, state_of s.files w jobs')
       row_is serial =
-          called d jobs n (Enter ch e) moment serial s.files w timely job there
-          ∙ ap (λ o. on_channel t o (λ y. of_job t n (enter (pack_one d) t (job_of w job) ch y e moment)))
+          called (pack_of d) jobs n (Enter ch e) moment serial s.files w (timely honest) job there
+          ∙ ap (λ o. on_channel t o (λ y. of_job t n (enter (pack_of d) t (job_of w job) ch y e moment)))
           (channel_is w job ch (Some c) is.there)
           ∙ ap (of_job t n)
-          (ap (λ r. settled r (enter_done (pack_one d) t (job_of w job) ch (channel_of w c) e moment
+          (ap (λ r. settled r (enter_done (pack_of d) t (job_of w job) ch (channel_of w c) e moment
           (place_at (job_of w job) e)) (refused_at (job_of w job) e)) answer
           ∙ ap (λ o. (
             Done,
-            entered (pack_one d) (job_of w job) ch (channel_of w c) e
+            entered (pack_of d) (job_of w job) ch (channel_of w c) e
                 (input_updating o (file_at s.files (place_at (job_of w job) e)))
                 (output_opened (job_of w job) (channel_of w c) e moment (place_at (job_of w job) e)
                 (digit_at t (job_of w job) (place_at (job_of w job) e)) o
@@ -346,27 +350,28 @@ module _ (d : DiskState) (map map' : VolumeCore) (jobs jobs' : List (Option Job)
           )) (ap (option_map (input_of w)) is.side)
           ∙ ap (λ o. (
             Done,
-            entered (pack_one d) (job_of w job) ch (channel_of w c) e (input_updating (Some (input_of w input)) o)
+            entered (pack_of d) (job_of w job) ch (channel_of w c) e (input_updating (Some (input_of w input)) o)
                 (output_opened (job_of w job) (channel_of w c) e moment (place_at (job_of w job) e)
                 (digit_at t (job_of w job) (place_at (job_of w job) e)) (Some (input_of w input)) o),
           )) found_at
           ∙ ap (λ i. (
             Done,
-            entered (pack_one d) (job_of w job) ch (channel_of w c) e (Some i)
+            entered (pack_of d) (job_of w job) ch (channel_of w c) e (Some i)
                 (output_updating (digit_at t (job_of w job) (place_at (job_of w job) e)) (place_at (job_of w job) e)
                 version),
           )) input_is
           ∙ ap (λ o. (
             Done,
-            entered (pack_one d) (job_of w job) ch (channel_of w c) e (Some (input_of w is.renewed)) o,
+            entered (pack_of d) (job_of w job) ch (channel_of w c) e (Some (input_of w is.renewed)) o,
           )) opens
           ∙ ap (λ core. (
             Done,
             with_channel (record (job_of w job) { core = core }) ch (Some (channel_of w now)),
-          )) (ap (λ (x : Writing). with_attributes 1 job.core e x.file) (with_same state.under key new_writing)
+          )) (ap (λ (x : Writing). with_attributes (pack_of d).layout job.core e x.file)
+          (with_same state.under key new_writing)
           ∙ attributes_are)
           ∙ ap (λ j. (Done, j))
-          (channel_set w (record job { core = with_attributes 1 job.core e (file_begun is.version.prime) })
+          (channel_set w (record job { core = with_attributes 2 job.core e (file_begun is.version.prime) })
           ch (Some now) ∙ ap (job_of w) (sym is.job_is)))
           ∙ ap (λ y. (Done, y)) (job_set s.files w jobs n job' ∙ ap (state_of s.files w) (sym set))
 
@@ -401,11 +406,11 @@ module _ (d : DiskState) (map map' : VolumeCore) (jobs jobs' : List (Option Job)
           absurd (let wrong = sym is_new ∙ old in cc wrong)
 
       pub updating_leads : (failed : Bool) → failed ≡ false → (new : Service) × Serves d map' failed jobs' new
-          × Answers (pack_one d) (Serving s) (Calls n (Enter ch e) moment) Done new
+          × Answers (pack_of d) (Serving s) (Calls n (Enter ch e) moment) Done new
       updating_leads failed serves =
-          goes_on d map' failed jobs' (pack_one d) (Calls n (Enter ch e) moment) Done s
+          goes_on d map' failed jobs' (pack_of d) (Calls n (Enter ch e) moment) Done s
           (state_of s.files w jobs') serves state.sound
-          (λ serial. subst (λ x. step (pack_one d) serial x (Calls n (Enter ch e) moment)
+          (λ serial. subst (λ x. step (pack_of d) serial x (Calls n (Enter ch e) moment)
           ≡ (Done, state_of s.files w jobs')) (sym t_is) (row_is serial))
           (λ still. record {
             files = state.files;

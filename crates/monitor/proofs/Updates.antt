@@ -26,6 +26,7 @@ use Rattle.meaning.specs.declared.call.Reply.TheVariants.{Done, Refused}
 use Rattle.meaning.proofs.MapLists.{get-map_values}
 use Rattle.meaning.proofs.Names.{name_total}
 use Rattle.alloctab.specs.TableState.{space}
+use Rattle.meaning.specs.Layouts.{pack_of}
 use Rattle.volume.specs.Beginning.{is_absent, is_update, IsBeginRefusal, IsDirectoryOf}
 use Rattle.volume.specs.Claims.{claims}
 use Rattle.volume.specs.Known.{KnownDirectory}
@@ -38,7 +39,6 @@ use Rattle.volume.specs.declared.pending.Kind.TheVariants.{Create, Supersede, Up
 use Rattle.volume.proofs.Answering.{Holds, rest_holds}
 use Rattle.monitor.specs.Finding.{IsKnown, IsAnswer, found_file, found_in, begun_as}
 use Rattle.monitor.specs.Inputs.{named_in, digit_for}
-use Rattle.monitor.specs.Serving.{pack_one}
 use Rattle.monitor.specs.Sides.{UnderKeys, job_of}
 use Rattle.monitor.specs.Updating.{allowed_update, update_kind, update_answer_at}
 use Rattle.monitor.specs.declared.found.Found.{Found}
@@ -157,8 +157,8 @@ module _ (d : DiskState) (map : VolumeCore) (s : State) (known : IsKnown d map s
       (place.name.name == 0) (claims map.pending place)
 
   reply_is : (w : UnderKeys) (job : Job) (place : Place)
-      → update_answer_at (pack_one d) s (job_of w job) place
-      ≡ update_reply (may job.ppn place) (exceeds_room (pack_one d) s (present_cost (file_at s.files place)))
+      → update_answer_at (pack_of d) s (job_of w job) place
+      ≡ update_reply (may job.ppn place) (exceeds_room (pack_of d) s (present_cost (file_at s.files place)))
   reply_is w job place =
       (λ i. if is_none (get s.files place.ppn) then Refused 1
       else if place.name.name == 0 then Refused 0
@@ -166,18 +166,18 @@ module _ (d : DiskState) (map : VolumeCore) (s : State) (known : IsKnown d map s
       else if not (may_look (digit_for_directory (job_of w job) place.ppn (get s.files place.ppn)))
       || not (may_append (digit_for_version (job_of w job) place.ppn (file_at s.files place))) then Refused 2
       else if known.claimed place i then Refused 3
-      else if exceeds_room (pack_one d) s (present_cost (file_at s.files place)) then Refused 0o14
+      else if exceeds_room (pack_of d) s (present_cost (file_at s.files place)) then Refused 0o14
       else Done)
       ∙ update_is place.name place.ppn (job_of w job) (get s.files place.ppn) (place.name.name == 0)
-      (claims map.pending place) (exceeds_room (pack_one d) s (present_cost (file_at s.files place)))
+      (claims map.pending place) (exceeds_room (pack_of d) s (present_cost (file_at s.files place)))
       ∙ (let plain = sym (shown_at s.files place.ppn) in
       λ i. update_reply (allowed_update (found_in (plain i) place.name) job.ppn place.ppn (place.name.name == 0)
-      (claims map.pending place)) (exceeds_room (pack_one d) s (present_cost (file_at s.files place))))
+      (claims map.pending place)) (exceeds_room (pack_of d) s (present_cost (file_at s.files place))))
 
   pub refused : (w : UnderKeys) (job : Job) (place : Place) (code : ErrorCode) → may job.ppn place ≡ Err code
-      → update_answer_at (pack_one d) s (job_of w job) place ≡ Refused (number_of code)
+      → update_answer_at (pack_of d) s (job_of w job) place ≡ Refused (number_of code)
   refused w job place code is = reply_is w job place
-      ∙ ap (λ r. update_reply r (exceeds_room (pack_one d) s (present_cost (file_at s.files place)))) is
+      ∙ ap (λ r. update_reply r (exceeds_room (pack_of d) s (present_cost (file_at s.files place)))) is
 
   -- a file of so many words doesn't fit
   abbrev full : File → Bool
@@ -194,7 +194,7 @@ module _ (d : DiskState) (map : VolumeCore) (s : State) (known : IsKnown d map s
     pub there : IsDirectoryOf map place.ppn home
     pub found : find nat_cmp place.ppn map.known.master.entries ≡ None → ⊥
     pub present : is_absent place.name home ≡ false
-    pub answer : update_answer_at (pack_one d) s (job_of w job) place ≡ (if full file then Refused 0o14 else Done)
+    pub answer : update_answer_at (pack_of d) s (job_of w job) place ≡ (if full file then Refused 0o14 else Done)
 
   pub update_at_file : (w : UnderKeys) (job : Job) (place : Place) (kind : Kind) → may job.ppn place ≡ Ok kind
       → Updates w job place
@@ -221,7 +221,7 @@ module _ (d : DiskState) (map : VolumeCore) (s : State) (known : IsKnown d map s
             found = listed d map s.files holds sound.whole.map place.ppn D at;
             present = h.absent ∙ ap is_none name;
             answer = reply_is w job place
-                ∙ ap (λ r. update_reply r (exceeds_room (pack_one d) s (present_cost (file_at s.files place)))) is
+                ∙ ap (λ r. update_reply r (exceeds_room (pack_of d) s (present_cost (file_at s.files place)))) is
                 ∙ (λ i. if nat_lt (space d.size) (known.booked_is i + present_cost (here i)) then Refused 0o14
                 else Done);
           }
@@ -249,7 +249,7 @@ module _ (d : DiskState) (map : VolumeCore) (s : State) (known : IsKnown d map s
         ↔ (space d.size < map.known.table.booked + version_cost (length u.file.body))
     room_here = room u.directory u.directory_at u.file u.file_at
 
-    pub begun : (x : X) → result ≡ Ok x → update_answer_at (pack_one d) s (job_of w job) place ≡ Done
+    pub begun : (x : X) → result ≡ Ok x → update_answer_at (pack_of d) s (job_of w job) place ≡ Done
     begun x is = u.answer ∙ ap (λ t. if t then Refused 0o14 else Done)
         (not_less _ _ (λ many. let no = room_here.1 many in cc (is, no)))
 
@@ -265,7 +265,7 @@ module _ (d : DiskState) (map : VolumeCore) (s : State) (known : IsKnown d map s
         ↔ ((is_create kind ≡ false) × (is_absent place.name x ≡ true))))
         → ((code : ErrorCode) → result ≡ Err (errors.Refused code) → IsBeginRefusal code)
         → (result ≡ Err errors.Device → ⊥) → (result ≡ Err errors.Failed → ⊥)
-        → IsAnswer {X = Y} (Err error) (update_answer_at (pack_one d) s (job_of w job) place)
+        → IsAnswer {X = Y} (Err error) (update_answer_at (pack_of d) s (job_of w job) place)
     not_begun Y (errors.Refused code) is with_file gone exists none codes device failed = ⊎_elim
         (λ e. absurd (u.found (gone (is ∙ ap (λ c. Err (errors.Refused c)) e))))
         (⊎_elim (λ e. let said = (exists u.home u.there).0 (is ∙ ap (λ c. Err (errors.Refused c)) e) in

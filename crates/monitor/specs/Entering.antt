@@ -45,7 +45,7 @@ pub record IsEntering (c c' : VolumeCore) (job job' : Job) (number address : ℕ
   pub kind : Kind
   pub kind_is : kind ≡ entered_kind (is_none begun.old)
   pub job_is : job' ≡ record job {
-    core = with_attributes 1 job.core address (file_begun prime);
+    core = with_attributes 2 job.core address (file_begun prime);
     channels = slice_set job.channels number (Some (side_entered channel key kind));
   }
 

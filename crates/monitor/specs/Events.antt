@@ -12,7 +12,7 @@ use Rattle.meaning.specs.declared.call.Reply.{Reply}
 use Rattle.meaning.specs.declared.call.Reply.TheVariants.{Done, Value, Refused, Stopped, NoChannel, AddressCheck, NoJob}
 use Rattle.meaning.specs.declared.call.Reply.TheVariants.{NoMemory, Device, Failed, DateRange}
 use Rattle.volume.specs.Live.{VolumeCore}
-use Rattle.monitor.specs.Serving.{pack_one, IsState}
+use Rattle.monitor.specs.Serving.{IsState}
 use Rattle.monitor.specs.declared.job.Job.{Job}
 use Rattle.monitor.specs.Calls.{IsLight}
 use Rattle.meaning.specs.declared.call.Event.{Event}
@@ -24,7 +24,7 @@ CallCrashes d d' c jobs n call moment =
     d'.honest → (s : State) → IsState d c jobs s
     → LeavesOnly d d' (λ contents. StandsOn (pack_of d) contents (without_serials s.files)
     ⊎ ((serial : ℕ)
-    × StandsOn (pack_of d) contents (without_serials ((step (pack_one d) serial s (Calls n call moment)).1.files))))
+    × StandsOn (pack_of d) contents (without_serials ((step (pack_of d) serial s (Calls n call moment)).1.files))))
 
 -- an answer with which the disk isn't touched
 abbrev pub IsIdle : Reply → Type 0

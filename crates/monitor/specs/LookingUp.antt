@@ -54,7 +54,7 @@ pub record IsLookedUp (contents : Contents) (live : List (Option LiveVersion)) (
   pub protection : input.protection ≡ version.file.protection
   pub held : (v : LiveVersion) × (version_at live input.pin.key ≡ Some v)
       × IsVersionOf contents (as_known v) version.file
-  pub core : job'.core ≡ after_writes (with_attributes 1 job.core address version.file)
+  pub core : job'.core ≡ after_writes (with_attributes 2 job.core address version.file)
       ((address + 3, size_word (length version.file.body)) ∷ [])
 
 -- What is answered on this channel, and what every answer but Done leaves of the job.

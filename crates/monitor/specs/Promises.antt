@@ -3,6 +3,7 @@ use Rattle.std.specs.Prelude.{◌≡◌, ◌⊎◌, ◌↔◌, ◌≤◌, ℕ, B
 use Rattle.words36.specs.declared.moment.Moment.{Moment}
 use Rattle.blockdisk.specs.Disk.{DiskState, SameDisk, one_more}
 use Rattle.meaning.specs.Jobs.{slot}
+use Rattle.meaning.specs.Layouts.{pack_of}
 use Rattle.meaning.specs.Runs.{Service, Answers}
 use Rattle.meaning.specs.declared.call.Call.{Call}
 use Rattle.meaning.specs.declared.call.Event.TheVariants.{Call as Calls}
@@ -13,7 +14,7 @@ use Rattle.volume.specs.Rest.{IsSoundCore}
 use Rattle.monitor.specs.Calls.{IsLight, KeepsCore}
 use Rattle.monitor.specs.Events.{CallCrashes, IsIdle, IsDecided}
 use Rattle.monitor.specs.Refusals.{IsRefused}
-use Rattle.monitor.specs.Serving.{pack_one, Serves, AreKeyed, ArePlaced, AreReading}
+use Rattle.monitor.specs.Serving.{IsTimely, Serves, AreKeyed, ArePlaced, AreReading}
 use Rattle.monitor.specs.declared.job.Job.{Job}
 
 -- The job of number n among these is this one, and what they write and read is what the volume has.
@@ -45,7 +46,7 @@ pub record IsServing {D : Type 0} (state : D → DiskState) (disk disk' : D) (co
   -- those.
   pub answered : (state disk').honest → (old : Service) → Serves (state disk) core false jobs old
       → (new : Service) × Serves (state disk') core' failed' jobs' new
-      × Answers (pack_one (state disk)) old (Calls n call moment) reply new
+      × Answers (pack_of (state disk)) old (Calls n call moment) reply new
   pub crash : CallCrashes (state disk) (state disk') core jobs n call moment
   -- Which answers, and which calls, leave the disk and the rest alone, on every disk.
   pub idle : IsIdle reply → disk' ≡ disk
@@ -72,4 +73,5 @@ ServesJob state disk disk' core core' failed' job job' call moment reply =
 abbrev pub ServesAlways : {D : Type 0} → (D → DiskState) → (disk disk' : D) → (core core' : VolumeCore)
     → (failed' : Bool) → (job job' : Job) → Call → Reply → Type 0
 ServesAlways state disk disk' core core' failed' job job' call reply =
-    (moment : Moment) → moment.date ≤ 4095 → ServesJob state disk disk' core core' failed' job job' call moment reply
+    (moment : Moment) → IsTimely (state disk) moment → ServesJob state disk disk' core core' failed' job job' call
+    moment reply

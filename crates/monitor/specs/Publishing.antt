@@ -25,7 +25,7 @@ use Rattle.volume.specs.Rest.{RestsAt, StandsForOneOf, KeepsRead, KeepsWritten}
 use Rattle.volume.specs.declared.live.LiveVersion.{LiveVersion}
 use Rattle.volume.specs.declared.pending.PendingVersion.{PendingVersion}
 use Rattle.monitor.specs.Putting.{FindsNone}
-use Rattle.monitor.specs.Serving.{AreKeyed, ArePlaced, AreReading, pack_one, IsState, Serves}
+use Rattle.monitor.specs.Serving.{AreKeyed, ArePlaced, AreReading, IsState, IsTimely, Serves}
 use Rattle.monitor.specs.declared.channel.Channel.{Channel}
 use Rattle.monitor.specs.declared.job.Job.{Job}
 use Rattle.monitor.specs.declared.output.Output.{Output}
@@ -98,18 +98,18 @@ pub record PublishesBy (d d' : DiskState) (c between : VolumeCore) (failed faile
 abbrev pub IsPublishRow : (d d' : DiskState) (c c' : VolumeCore) (failed' : Bool) → Job → Job → Call → Reply → Type 0
 IsPublishRow d d' c c' failed' job job' call reply =
     d'.honest → ArePlaced c → (jobs : List (Option Job)) (n : ℕ) (moment : Moment) → machine.slot jobs n ≡ Some job
-    → moment.date ≤ 4095 → (s : State) → IsState d c jobs s
+    → IsTimely d moment → (s : State) → IsState d c jobs s
     → (new : Service) × Serves d' c' failed' (slice_set jobs n (Some job')) new
-    × Answers (pack_one d) (Serving s) (Calls n call moment) reply new
+    × Answers (pack_of d) (Serving s) (Calls n call moment) reply new
 
 -- A crash leaves the files from before, or those of the machine's row.
 abbrev pub CrashesAsRow : (d d' : DiskState) (c : VolumeCore) → Job → Call → Type 0
 CrashesAsRow d d' c job call =
     d'.honest → (jobs : List (Option Job)) (n : ℕ) (moment : Moment) → machine.slot jobs n ≡ Some job
-    → moment.date ≤ 4095 → (s : State) → IsState d c jobs s
+    → IsTimely d moment → (s : State) → IsState d c jobs s
     → LeavesOnly d d' (λ contents. StandsOn (pack_of d) contents (without_serials s.files)
     ⊎ ((serial : ℕ)
-    × StandsOn (pack_of d) contents (without_serials ((step (pack_one d) serial s (Calls n call moment)).1.files))))
+    × StandsOn (pack_of d) contents (without_serials ((step (pack_of d) serial s (Calls n call moment)).1.files))))
 
 -- Where the volume hasn't failed, the sides of all jobs are still those of the versions that are being written and
 -- read, and each that is written may be published.

@@ -1,6 +1,7 @@
 -- What events are answered with, whatever the disk does.
 use Rattle.std.specs.Prelude.{◌≡◌, ◌⊎◌, ℕ, nat_lt, if◌then◌else◌, length, Option, None, Some, slice_index}
 use Rattle.monitor.specs.declared.job.Job.{Job}
+use Rattle.meaning.specs.Step.{last_date}
 use Rattle.meaning.specs.declared.call.Reply.{Reply}
 use Rattle.meaning.specs.declared.call.Reply.TheVariants.{Done, Value, Refused, Stopped, NoChannel, AddressCheck, NoJob}
 use Rattle.meaning.specs.declared.call.Reply.TheVariants.{NoMemory, Device, Failed, DateRange}
@@ -24,9 +25,9 @@ abbrev pub reset_of : Option Job → Reply
 reset_of None = NoJob
 reset_of (Some job) = Done
 
--- the same at a date
-abbrev pub reset_answer : ℕ → Option Job → Reply
-reset_answer date job = if nat_lt 4095 date then DateRange else reset_of job
+-- the same at a date, on a disk of this layout
+abbrev pub reset_answer : (layout date : ℕ) → Option Job → Reply
+reset_answer layout date job = if nat_lt (last_date layout) date then DateRange else reset_of job
 
 -- a word that is put into the core of a job that there is, or of none
 abbrev pub deposit_of : ℕ → Option Job → Reply

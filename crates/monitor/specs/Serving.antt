@@ -1,16 +1,18 @@
 -- How a monitor stands for a state of the file machine.
-use Rattle.std.specs.Prelude.{◌≡◌, ℕ, ◌<◌, Bool, true, false, List, length, Option, None, Some}
+use Rattle.std.specs.Prelude.{◌≡◌, ℕ, ◌<◌, ◌≤◌, Bool, true, false, List, length, Option, None, Some}
 use Rattle.std.specs.List.{AllByRecursion}
+use Rattle.words36.specs.declared.moment.Moment.{Moment}
 use Rattle.blockdisk.specs.Disk.{DiskState}
 use Rattle.meaning.specs.Jobs.{State, is_create, slot}
-use Rattle.meaning.specs.Layouts.{pack_in}
+use Rattle.meaning.specs.Layouts.{pack_of}
 use Rattle.meaning.specs.Maps.{times}
 use Rattle.meaning.specs.Published.{file_at, without_serials}
 use Rattle.meaning.specs.Retrieval.{HasBody}
-use Rattle.meaning.specs.Room.{Pack, current_versions}
+use Rattle.meaning.specs.Room.{current_versions}
 use Rattle.meaning.specs.Runs.{Service, Serving, Broken, HaveDistinctSerials}
 use Rattle.meaning.specs.Sound.{IsSound}
 use Rattle.meaning.specs.Stands.{place_of}
+use Rattle.meaning.specs.Step.{last_date}
 use Rattle.retrieval.specs.Modes.{mode_number}
 use Rattle.volume.specs.Live.{VolumeCore, pending_at, is_creation}
 use Rattle.volume.specs.Publishing.{IsPlaced}
@@ -24,9 +26,9 @@ use Rattle.monitor.specs.declared.input.Input.{Input}
 use Rattle.monitor.specs.declared.job.Job.{Job}
 use Rattle.monitor.specs.declared.output.Output.{Output}
 
--- the pack of every disk that is served so far
-abbrev pub pack_one : DiskState → Pack
-pack_one d = pack_in 1 d.size
+-- The disk can hold the date of a moment.
+abbrev pub IsTimely : DiskState → Moment → Type 0
+IsTimely d moment = d.honest → moment.date ≤ last_date (pack_of d).layout
 
 -- What core keeps, whatever the disk does.
 

@@ -1,5 +1,6 @@
--- A monitor as a value: its disk, what it knows of it, whether it has failed, and the jobs.
+-- A monitor as a value: its disk, what it knows of it, whether it has failed, the jobs, and the layout of the disk.
 use Rattle.std.specs.Prelude.{Bool, List, Option}
+use Rattle.meaning.specs.declared.layout.Layout.{Layout}
 use Rattle.monitor.specs.declared.job.Job.{Job}
 use Rattle.volume.specs.Live.{VolumeCore}
 
@@ -8,3 +9,4 @@ pub record MonitorState (D : Type 0) : Type 0 where
   pub map : VolumeCore
   pub failed : Bool
   pub jobs : List (Option Job)
+  pub layout : Layout

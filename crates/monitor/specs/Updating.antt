@@ -99,7 +99,7 @@ pub record IsUpdating (c c' : VolumeCore) (job job' : Job) (number address : ℕ
   pub renewed : Input
   pub renews : Renews between c' input renewed input.ppn input.file version.prime.protection
   pub job_is : job' ≡ record job {
-    core = with_attributes 1 job.core address (file_begun version.prime);
+    core = with_attributes 2 job.core address (file_begun version.prime);
     channels = slice_set job.channels number
         (Some (updating channel renewed (updating_side key kind version.kept_blocks)));
   }

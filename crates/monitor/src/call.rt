@@ -3,8 +3,9 @@ ghost use Rattle.blockdisk.specs.Disk.{SameDisk, LeavesOnly, one_more};
 ghost use Rattle.meaning.specs.Crashes.{StandsForEither};
 ghost use Rattle.meaning.specs.Jobs.{State, slot, job_at};
 ghost use Rattle.meaning.specs.Jobs.{Job as MachineJob};
-ghost use Rattle.meaning.specs.Layouts.{pack_of};
+ghost use Rattle.meaning.specs.Layouts.{layout_number, pack_of};
 ghost use Rattle.meaning.specs.Runs.{Service, Serving, Answers};
+ghost use Rattle.meaning.specs.Step.{last_date};
 ghost use Rattle.meaning.specs.declared.call.Call.TheVariants.{In};
 ghost use Rattle.meaning.specs.declared.call.Event.TheVariants.{Call as Calls};
 ghost use Rattle.meaning.specs.declared.call.Reply.TheVariants.{NoMemory, Failed, Device, DateRange, Refused};
@@ -13,7 +14,7 @@ ghost use Rattle.monitor.specs.Events.{IsIdle, IsDecided};
 ghost use Rattle.monitor.specs.Moments.{read_of};
 ghost use Rattle.monitor.specs.Promises.{IsCallReady, IsServing, ServesJob};
 ghost use Rattle.monitor.specs.Refusals.{IsRefused};
-ghost use Rattle.monitor.specs.Serving.{Serves, AreKeyed, ArePlaced, AreReading};
+ghost use Rattle.monitor.specs.Serving.{IsTimely, Serves, AreKeyed, ArePlaced, AreReading};
 ghost use Rattle.monitor.specs.declared.job.Job.{Job as JobRecord};
 ghost use Rattle.volume.specs.Rest.{IsSoundCore};
 
@@ -41,9 +42,6 @@ use std::alloc::Global;
 use volume::Volume;
 use words36::Moment;
 
-/// The last date that layout 1 holds: 4-Jan-75.
-pub const LAST_DATE: u32 = 4095;
-
 /// A call of a job that is logged in: the table of the calls. Each row is the file of its name.
 fn answer<D: Disk>(
     alloc: Global,
@@ -53,9 +51,10 @@ fn answer<D: Disk>(
     moment: Moment,
 ) -> Reply
     requires ready { IsCallReady (D.state volume.old.disk) volume.old.core volume.old.failed job.old }
-    requires timely { moment.date ≤ 4095 }
+    requires timely { IsTimely (D.state volume.old.disk) moment }
     ensures serving { ServesJob D.state volume.old.disk volume.new.disk volume.old.core volume.new.core
         volume.new.failed job.old job.new call.now moment result }
+    ensures layout { volume.new.layout ≡ volume.old.layout }
 {
     match *call {
         Call::Open(channel, address) => open(job, channel, address),
@@ -91,9 +90,10 @@ fn serve<D: Disk>(
     requires placed { ArePlaced volume.old.core }
     requires reading { AreReading volume.old.core.live jobs.old }
     requires alive { volume.old.failed ≡ false }
-    requires timely { moment.date ≤ 4095 }
+    requires timely { IsTimely (D.state volume.old.disk) moment }
     ensures serving { IsServing D.state volume.old.disk volume.new.disk volume.old.core volume.new.core
         volume.new.failed jobs.old jobs.new number call.now moment result }
+    ensures layout { volume.new.layout ≡ volume.old.layout }
 {
     if number as usize >= jobs.slots.len() {
         return Reply::NoJob;
@@ -107,11 +107,11 @@ fn serve<D: Disk>(
 impl<D: Disk> Monitor<D> {
     /// A call of a job, at a moment.
     ///
-    /// The answer is that of the call; `DateRange` where the moment's date is above 4095, which layout 1 can't hold;
-    /// `NoJob` where no job of that number is logged in; `NoChannel` where the channel isn't open, or where OPEN
-    /// names one above 15; `AddressCheck` if core lacks an address that it needs; `NoMemory` if core can't grow. After
-    /// each of these everything is as before. `Device` if the device failed, and then `Failed` to every call. A later
-    /// start finds the files from before the call or those after it.
+    /// The answer is that of the call; `DateRange` for a date that the layout of the disk can't hold; `NoJob` where no job
+    /// of that number is logged in; `NoChannel` where the channel isn't open, or where OPEN names one above 15;
+    /// `AddressCheck` if core lacks an address that it needs; `NoMemory` if core can't grow. After each of these everything
+    /// is as before. `Device` if the device failed, and then `Failed` to every call. A later start finds the files from
+    /// before the call or those after it.
     #[inline(never)] // words that are put and looked at don't pay for its place on the stack
     pub fn call(&mut self, alloc: Global, job: u32, call: &Call, moment: Moment) -> Reply
         ensures answered { (D.state self.new.disk).honest → (old : Service)
@@ -121,7 +121,7 @@ impl<D: Disk> Monitor<D> {
         // Reading holds still: what an IN answers and leaves is told by its own job's record, which no call of another
         // job changes.
         ensures still { (D.state self.new.disk).honest → (channel address : ℕ) → call.now ≡ In channel address
-            → moment.date ≤ 4095 → (s : State)
+            → moment.date ≤ last_date (layout_number self.old.layout) → (s : State)
             → Serves (D.state self.old.disk) self.old.map self.old.failed self.old.jobs (Serving s)
             → (own : MachineJob) → job_at s job ≡ Some own → (result ≡ NoMemory → ⊥) → (result ≡ Device → ⊥)
             → (after : State)
@@ -157,15 +157,18 @@ impl<D: Disk> Monitor<D> {
             ≡ one_more (D.state self.old.disk).failures }
         ensures served { (result ≡ Device → ⊥) → (D.state self.new.disk).failures ≡ (D.state self.old.disk).failures }
         ensures same { SameDisk (D.state self.old.disk) (D.state self.new.disk) }
-        // A date that the disk can't hold.
-        ensures late { self.old.failed ≡ false → 4095 < moment.date → (result ≡ DateRange) × (self.new ≡ self.old) }
+        // A date that the layout of the disk can't hold: on every disk.
+        ensures late { self.old.failed ≡ false → last_date (layout_number self.old.layout) < moment.date
+            → (result ≡ DateRange) × (self.new ≡ self.old) }
         // Which calls leave what is known of the disk.
         ensures kept { KeepsCore call.now → self.new.map ≡ self.old.map }
+        ensures layout { self.new.layout ≡ self.old.layout }
     {
         if self.volume.has_failed() {
             return Reply::Failed;
         }
-        if moment.date > LAST_DATE {
+        let layout = self.volume.layout();
+        if moment.date > layout.last_date() {
             return Reply::DateRange;
         }
         serve(alloc, &mut self.volume, &mut self.jobs, job, call, moment)

@@ -44,6 +44,7 @@ pub fn serve_close<D: Disk>(
     requires ready { IsCallReady (D.state volume.old.disk) volume.old.core volume.old.failed job.old }
     ensures serving { ServesAlways D.state volume.old.disk volume.new.disk volume.old.core volume.new.core
         volume.new.failed job.old job.new (Close channel bits) result }
+    ensures layout { volume.new.layout ≡ volume.old.layout }
 {
     let Some((open, output)) = closed_side(job, channel, bits) else {
         return close(volume, job, channel, bits);
@@ -133,6 +134,7 @@ fn close<D: Disk>(volume: &mut Volume<D>, job: &mut Job, number: u32, bits: u32)
         ≤ readers_of (version_at volume.old.core.live key) }
     requires unpublished { publishes_at (slot job.old.channels number) bits ≡ false }
     ensures untouched { (volume.new.disk ≡ volume.old.disk) × (volume.new.failed ≡ volume.old.failed) }
+    ensures layout { volume.new.layout ≡ volume.old.layout }
     ensures row { IsRow job.old job.new (Close number bits) result }
     ensures keeps { KeepsSides volume.old.core.pending volume.new.core.pending job.old job.new }
     ensures reads { KeepsReading volume.old.core.live volume.new.core.live job.old job.new }
@@ -200,6 +202,7 @@ pub fn close_both<D: Disk>(
     ensures closed { result ≡ Done → job.new ≡ closed_in job.old number channel true (is_some channel.input)
         (if stays_open then Some (both_closed channel) else None) }
     ensures kept { (result ≡ Done → ⊥) → job.new ≡ left_open job.old number channel result }
+    ensures layout { volume.new.layout ≡ volume.old.layout }
 {
     let reply = publish_output(alloc, volume, &job.core, &channel, output);
     if reply == Reply::Done {
@@ -237,6 +240,7 @@ fn close_and_hold<D: Disk>(
     ensures idle { IsIdle result → (volume.new.disk ≡ volume.old.disk) × (volume.new.core ≡ volume.old.core)
         × (volume.new.failed ≡ volume.old.failed) }
     ensures kept { (result ≡ Done → ⊥) → job.new ≡ left_open job.old number channel result }
+    ensures layout { volume.new.layout ≡ volume.old.layout }
 {
     let prime = prime_of(volume, output.pending);
     let reply = publish_output(alloc, volume, &job.core, &channel, output);

@@ -29,6 +29,7 @@ pub fn serve_delete_dir<D: Disk>(volume: &mut Volume<D>, job: &mut Job, address:
     requires ready { IsCallReady (D.state volume.old.disk) volume.old.core volume.old.failed job.old }
     ensures serving { ServesAlways D.state volume.old.disk volume.new.disk volume.old.core volume.new.core
         volume.new.failed job.old job.new (DeleteDir address) result }
+    ensures layout { volume.new.layout ≡ volume.old.layout }
 {
     delete_dir(volume, job, address)
 }
@@ -68,6 +69,7 @@ fn delete_dir<D: Disk>(volume: &mut Volume<D>, job: &mut Job, address: u32) -> R
         ≡ one_more (D.state volume.old.disk).failures }
     ensures served { (result ≡ Device → ⊥) → (D.state volume.new.disk).failures ≡ (D.state volume.old.disk).failures }
     ensures same { SameDisk (D.state volume.old.disk) (D.state volume.new.disk) }
+    ensures layout { volume.new.layout ≡ volume.old.layout }
 {
     if lies_outside(&job.core, address, 2) {
         return Reply::AddressCheck;

@@ -40,6 +40,7 @@ pub fn drop_output<D: Disk>(volume: &mut Volume<D>, output: Option<Output>)
         ≤ present (pending_at volume.old.core.pending key) }
     ensures closed { Closes volume.old.core volume.new.core (keys_of (option_to_list output)) [] }
     ensures untouched { (volume.new.disk ≡ volume.old.disk) × (volume.new.failed ≡ volume.old.failed) }
+    ensures layout { volume.new.layout ≡ volume.old.layout }
 {
     if let Some(output) = output {
         volume.discard(output.pending);
@@ -53,6 +54,7 @@ pub fn release_input<D: Disk>(volume: &mut Volume<D>, input: Option<Input>)
     ensures closed { Closes volume.old.core volume.new.core [] (pins_of (option_to_list input)) }
     ensures pending { volume.new.core.pending ≡ volume.old.core.pending }
     ensures untouched { (volume.new.disk ≡ volume.old.disk) × (volume.new.failed ≡ volume.old.failed) }
+    ensures layout { volume.new.layout ≡ volume.old.layout }
 {
     if let Some(input) = input {
         volume.unpin(input.pin);
@@ -68,6 +70,7 @@ fn close_sides<D: Disk>(volume: &mut Volume<D>, channel: &Option<Channel>)
     ensures closed { Closes volume.old.core volume.new.core (keys_of (option_to_list (side_of channel.now)))
         (pins_of (option_to_list (reader_of channel.now))) }
     ensures untouched { (volume.new.disk ≡ volume.old.disk) × (volume.new.failed ≡ volume.old.failed) }
+    ensures layout { volume.new.layout ≡ volume.old.layout }
 {
     drop_output(volume, side_of(channel));
     release_input(volume, reader_of(channel));
@@ -82,6 +85,7 @@ pub fn close_channels<D: Disk>(volume: &mut Volume<D>, channels: &[Option<Channe
     ensures closed { Closes volume.old.core volume.new.core (keys_of (filter_map side_of channels.now))
         (pins_of (filter_map reader_of channels.now)) }
     ensures untouched { (volume.new.disk ≡ volume.old.disk) × (volume.new.failed ≡ volume.old.failed) }
+    ensures layout { volume.new.layout ≡ volume.old.layout }
 {
     for channel in channels {
         close_sides(volume, channel);
@@ -95,6 +99,7 @@ pub fn close_job<D: Disk>(volume: &mut Volume<D>, jobs: &Jobs, number: u32)
     ensures closed { Closes volume.old.core volume.new.core (keys_of (sides_in (slot jobs.now number)))
         (pins_of (readers_in (slot jobs.now number))) }
     ensures untouched { (volume.new.disk ≡ volume.old.disk) × (volume.new.failed ≡ volume.old.failed) }
+    ensures layout { volume.new.layout ≡ volume.old.layout }
 {
     if let Some(job) = jobs.job(number) {
         close_channels(volume, &job.channels);

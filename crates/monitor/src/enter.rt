@@ -5,7 +5,8 @@ ghost use Rattle.meaning.specs.Cores.{lies_outside};
 ghost use Rattle.meaning.specs.Entering.{protection_or, enter_answer, output_opened};
 ghost use Rattle.meaning.specs.Files.{File, Files};
 ghost use Rattle.meaning.specs.Jobs.{State, slot, channel_at};
-ghost use Rattle.meaning.specs.Looking.{own_if_zero, place_at, with_attributes};
+ghost use Rattle.meaning.specs.Layouts.{pack_of};
+ghost use Rattle.meaning.specs.Looking.{high_date, own_if_zero, place_at, with_attributes};
 ghost use Rattle.meaning.specs.Maps.{get};
 ghost use Rattle.meaning.specs.Published.{file_at, attributes};
 ghost use Rattle.meaning.specs.Rights.{directory_digit, file_digit, may_look, may_supersede};
@@ -23,7 +24,7 @@ ghost use Rattle.monitor.specs.Finding.{found_in, begun_as, allowed, kind_for, p
 ghost use Rattle.monitor.specs.Finding.{IsAnswer, IsPrimeAt, begin_answer_at};
 ghost use Rattle.monitor.specs.Entering.{entered_kind, IsEntering, IsEnterAnswer};
 ghost use Rattle.monitor.specs.Rows.{KeepsReading};
-ghost use Rattle.monitor.specs.Serving.{pack_one, ArePlaced};
+ghost use Rattle.monitor.specs.Serving.{ArePlaced, IsTimely};
 ghost use Rattle.monitor.specs.Sides.{UnderKeys, job_of, reader_of};
 ghost use Rattle.monitor.specs.Refusals.{with_code};
 ghost use Rattle.meaning.specs.declared.call.Call.TheVariants.{Enter};
@@ -56,9 +57,10 @@ pub fn serve_enter<D: Disk>(
     moment: Moment,
 ) -> Reply
     requires ready { IsCallReady (D.state volume.old.disk) volume.old.core volume.old.failed job.old }
-    requires timely { moment.date ≤ 4095 }
+    requires timely { IsTimely (D.state volume.old.disk) moment }
     ensures serving { ServesJob D.state volume.old.disk volume.new.disk volume.old.core volume.new.core
         volume.new.failed job.old job.new (Enter channel address) moment result }
+    ensures layout { volume.new.layout ≡ volume.old.layout }
 {
     match reading_side(job, channel) {
         Some((open, input)) => update(alloc, volume, job, channel, address, moment, open, input),
@@ -201,14 +203,14 @@ fn kind_of<D: Disk>(volume: &Volume<D>, pending: Pending) -> Kind
     }
 }
 
-/// Protection, mode, time and date of a version in one word.
+/// Protection, mode, time and the low twelve bits of the date of a version in one word.
 fn attributes(prime: &Prime) -> Word
     ensures { result ≡ attributes (file_begun prime.now) }
 {
     let protection = u64::from(prime.protection) << 27;
     let mode = prime.mode.number() << 23;
     let time = u64::from(prime.moment.minute) << 12;
-    Word::from_bits(protection + mode + time + u64::from(prime.moment.date))
+    Word::from_bits(protection + mode + time + u64::from(prime.moment.date % 4096))
 }
 
 /// What the prime block says of the version that an ENTER of the words at an address writes in a mode.
@@ -222,7 +224,6 @@ fn prime_for(
     moment: Moment,
 ) -> Prime
     requires there { address + 4 ≤ 0o400000 }
-    requires timely { moment.date ≤ 4095 }
     ensures ppn { result.ppn ≡ ppn }
     ensures file { result.file ≡ file }
     ensures mode { result.mode ≡ mode }
@@ -234,7 +235,7 @@ fn prime_for(
     let protection = protection_for(found, asked);
     match Prime::new(file, ppn, protection, mode, moment) {
         Some(prime) => prime,
-        None => unreachable!(), // it has three digits, and the date twelve bits
+        None => unreachable!(), // it has three digits
     }
 }
 
@@ -287,8 +288,9 @@ fn begin_at<D: Disk>(
 ) -> Result<(Pending, Prime), CallError>
     requires sound { IsSoundCore (D.state volume.old.disk) volume.old.core volume.old.failed }
     requires there { address + 4 ≤ 0o400000 }
-    requires timely { moment.date ≤ 4095 }
+    requires timely { IsTimely (D.state volume.old.disk) moment }
     ensures untouched { (volume.new.disk ≡ volume.old.disk) × (volume.new.failed ≡ volume.old.failed) }
+    ensures layout { volume.new.layout ≡ volume.old.layout }
     ensures begun { IfOk result (λ begun. (kind : VersionKind) × (is_update kind ≡ false)
         × IsBegun volume.old.core volume.new.core begun.0.key kind begun.1) }
     ensures free { IfOk result (λ begun. ((begun.1.file.name == 0) ≡ false)
@@ -302,7 +304,7 @@ fn begin_at<D: Disk>(
         (protection_or (slice_index job.now.core (address + 2)) 0o057)) }
     ensures answered { (D.state volume.new.disk).honest → volume.old.failed ≡ false → (s : State)
         → IsKnown (D.state volume.old.disk) volume.old.core s
-        → (under : UnderKeys) → IsAnswer result (begin_answer_at (pack_one (D.state volume.old.disk)) s
+        → (under : UnderKeys) → IsAnswer result (begin_answer_at (pack_of (D.state volume.old.disk)) s
         (job_of under job.now) (place_at (job_of under job.now) address)) }
 {
     let Some(ppn) = owner_at(job, address) else {
@@ -321,18 +323,31 @@ fn begin_at<D: Disk>(
     }
 }
 
-/// Puts the attributes of a version that is begun into the second and third of the words at an address.
+/// The three high bits of a date, in the highest bits of half a word. They come from the date alone: where a layout has
+/// no place for them no date sets one.
+pub fn high_date(moment: Moment) -> Half
+    ensures { result ≡ high_date 2 moment.date }
+{
+    Half::from_bits(moment.date / 4096 << 15)
+}
+
+/// Puts the attributes of a version that is begun into the second and third of the words at an address: the high bits
+/// of its date behind the extension.
 pub fn put_attributes(core: &mut Core, address: u32, prime: &Prime)
     requires { address + 4 ≤ 0o400000 }
-    ensures { core.new ≡ with_attributes 1 core.old address (file_begun prime.now) }
+    ensures { core.new ≡ with_attributes 2 core.old address (file_begun prime.now) }
 {
     let left = word_at(core, address + 1).left();
-    let _ = core.set_word(address + 1, Word::from_halves(left, Half::from_bits(0)));
+    let _ = core.set_word(
+        address + 1,
+        Word::from_halves(left, high_date(prime.moment)),
+    );
     let _ = core.set_word(address + 2, attributes(prime));
 }
 
 /// ENTER: opens an output side for the file that the four words at an address name: a new one, or one that will
-/// take the place of the file of that name. Its attributes are put into the words. The channel reads nothing.
+/// take the place of the file of that name. Its attributes are put into the words, with its whole date. The channel
+/// reads nothing.
 fn enter<D: Disk>(
     alloc: Global,
     volume: &mut Volume<D>,
@@ -343,11 +358,12 @@ fn enter<D: Disk>(
 ) -> Reply
     requires sound { IsSoundCore (D.state volume.old.disk) volume.old.core volume.old.failed }
     // The volume serves.
-    requires timely { moment.date ≤ 4095 }
+    requires timely { IsTimely (D.state volume.old.disk) moment }
     requires alive { volume.old.failed ≡ false }
     requires unread { reader_of (slot job.old.channels number) ≡ None }
     // The disk is left alone.
     ensures untouched { (volume.new.disk ≡ volume.old.disk) × (volume.new.failed ≡ volume.old.failed) }
+    ensures layout { volume.new.layout ≡ volume.old.layout }
     ensures only { (result ≡ Failed → ⊥) × (result ≡ Device → ⊥) }
     // What it leaves, by its answer.
     ensures begun { result ≡ Done → (channel : Channel) × (key : ℕ) × (prime : Prime)
@@ -362,7 +378,7 @@ fn enter<D: Disk>(
     ensures reads { KeepsReading volume.old.core.live volume.new.core.live job.old job.new }
     ensures row { (D.state volume.new.disk).honest → (s : State)
         → IsKnown (D.state volume.old.disk) volume.old.core s
-        → (under : UnderKeys) → IsEnterAnswer (pack_one (D.state volume.old.disk)) s (job_of under job.old)
+        → (under : UnderKeys) → IsEnterAnswer (pack_of (D.state volume.old.disk)) s (job_of under job.old)
         (job_of under job.new) (channel_at (job_of under job.old) number) address result }
     ensures refused { (code : ℕ) → result ≡ Refused code → job.new ≡ with_code job.old address code }
     ensures decided { IsDecided result → job.new ≡ job.old }

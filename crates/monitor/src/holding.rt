@@ -34,6 +34,7 @@ fn hold<D: Disk>(
     ensures value { (D.state volume.new.disk).honest → (files : Files File) → RestsAt (D.state volume.old.disk) files
         → IsPinAnswer (D.state volume.old.disk).contents volume.new.core.live file (Ok result.pin) (get files ppn) }
     ensures untouched { (volume.new.disk ≡ volume.old.disk) × (volume.new.failed ≡ volume.old.failed) }
+    ensures layout { volume.new.layout ≡ volume.old.layout }
 {
     match volume.pin(ppn, &file) {
         Ok(pin) => Input {
@@ -65,6 +66,7 @@ pub fn renew<D: Disk>(
         × ((D.state volume.new.disk).honest → (files : Files File) → RestsAt (D.state volume.old.disk) files
         → IsPinAnswer (D.state volume.old.disk).contents is.between.live file (Ok is.held.pin) (get files ppn)) }
     ensures untouched { (volume.new.disk ≡ volume.old.disk) × (volume.new.failed ≡ volume.old.failed) }
+    ensures layout { volume.new.layout ≡ volume.old.layout }
 {
     let held = hold(volume, ppn, file, protection, input.next);
     let renewed = Input {

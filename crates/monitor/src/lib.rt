@@ -7,8 +7,8 @@
 //!    (`started`, `refused`)
 //! 3. `login` and `reset` answer as the machine's rows do, or want memory where the machine may, and leave
 //!    the state of that row. Neither touches the disk. (`answered`, `kept`) On every disk their answers, and
-//!    the jobs that they leave, are functions of the jobs and of what was asked, but for want of memory.
-//!    (`value`, `done`, `refused`)
+//!    the jobs that they leave, are functions of the jobs, of the layout and of what was asked, but for want of
+//!    memory. (`value`, `done`, `refused`, `in_layout`)
 //! 4. `list` gives the list of a directory that the machine gives, by name and then by extension.
 //!    (`listed`) On every disk it is refused by few replies, and never by the device. (`nobody`, `only`)
 //! 5. `deposit` and `examine` put and show a word of a job's core as the machine does (`answered`, `value`), and
@@ -19,13 +19,15 @@
 //!    leaves the state of that row. (`answered`) What every call promises is one record. (`IsServing`) At any moment of
 //!    it a crash leaves the files from before, or those of that row where it is Done or met a fault of the device.
 //!    (`crash`) Which answers, and which calls, leave the disk alone is said beside. (`idle`, `light`) A refusal leaves
-//!    its code, and nothing else. (`refused`) DateRange, NoJob, NoChannel, AddressCheck and NoMemory leave everything as
-//!    it was, on every disk. (`decided`, `memory`)
+//!    its code, and nothing else. (`refused`) DateRange, NoJob, NoChannel, AddressCheck and NoMemory leave everything
+//!    as it was, on every disk. (`decided`, `memory`) A date that the layout of the disk can't hold is DateRange, on
+//!    every disk. (`late`)
 //! 7. Each version that the volume writes belongs to one output side of a job, and may be published under its
 //!    name; each version that is held is held once for each input side that reads it. (`AreKeyed`, `ArePlaced`,
 //!    `AreReading`) What an IN answers and leaves is told by its own job's record, which no other job changes.
 //!    (`still`, `apart`)
-//! 8. `room` and `blocks` are the volume's. `finish` gives the disk back as it stands.
+//! 8. `room`, `blocks` and `layout` are the volume's; nothing changes the layout. (`layout`) `finish` gives the disk
+//!    back as it stands.
 //! 9. A monitor that has failed answers Failed to every event and changes nothing. It fails with the device; on an
 //!    honest disk with nothing else. (`failed`, `broken`, `blamed`, `counted`, `served`)
 //! 10. `serve` serves any list of events, each of which is answered as the machine does; at the moment after each event

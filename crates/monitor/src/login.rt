@@ -38,6 +38,7 @@ fn log_in<D: Disk>(
     ensures reading { AreReading volume.new.core.live jobs.new }
     ensures leaves { OnlyDrops volume.old.core volume.new.core }
     ensures untouched { (volume.new.disk ≡ volume.old.disk) × (volume.new.failed ≡ volume.old.failed) }
+    ensures layout { volume.new.layout ≡ volume.old.layout }
     // The answer, and the jobs by it.
     ensures answered { (result ≡ login_answer number words)
         ⊎ ((result ≡ NoMemory) × (login_answer number words ≡ Done)) }
@@ -82,6 +83,7 @@ impl<D: Disk> Monitor<D> {
         ensures done { result ≡ Done → self.new.jobs ≡ slice_set self.old.jobs job (Some (new_job ppn words)) }
         ensures refused { (result ≡ Done → ⊥) → (self.new.jobs ≡ self.old.jobs) × (self.new.map ≡ self.old.map) }
         ensures others { (m : ℕ) → (m ≡ job → ⊥) → slot self.new.jobs m ≡ slot self.old.jobs m }
+        ensures layout { self.new.layout ≡ self.old.layout }
     {
         if self.volume.has_failed() {
             return Reply::Failed;

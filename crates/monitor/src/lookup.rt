@@ -30,7 +30,7 @@ ghost use Rattle.monitor.specs.Promises.{IsCallReady, ServesAlways};
 
 use crate::channel::Channel;
 use crate::dropping::release_input;
-use crate::enter::{name_at, owner_at};
+use crate::enter::{high_date, name_at, owner_at};
 use crate::input::Input;
 use crate::job::Job;
 use crate::open::{lies_outside, word_at};
@@ -58,6 +58,7 @@ pub fn serve_lookup<D: Disk>(
     requires ready { IsCallReady (D.state volume.old.disk) volume.old.core volume.old.failed job.old }
     ensures serving { ServesAlways D.state volume.old.disk volume.new.disk volume.old.core volume.new.core
         volume.new.failed job.old job.new (Lookup channel address) result }
+    ensures layout { volume.new.layout ≡ volume.old.layout }
 {
     lookup(volume, job, channel, address)
 }
@@ -117,6 +118,7 @@ pub fn find_input<D: Disk>(
     requires alive { volume.old.failed ≡ false }
     requires few { (key : ℕ) (v : LiveVersion) → slot volume.old.core.live key ≡ Some v → v.readers + 1 < 2 ^ 32 }
     ensures untouched { (volume.new.disk ≡ volume.old.disk) × (volume.new.failed ≡ volume.old.failed) }
+    ensures layout { volume.new.layout ≡ volume.old.layout }
     ensures same { OnErr result (volume.new.core ≡ volume.old.core) }
     ensures only { IfErr result IsLookupRefusal }
 
@@ -162,7 +164,7 @@ pub fn find_input<D: Disk>(
     }
 }
 
-/// Protection, mode, time and date of a file in one word.
+/// Protection, mode, time and the low twelve bits of the date of a file in one word.
 fn attributes_of(facts: &FileFacts) -> Word
     ensures { (file : File) → IsShown file facts.now → HasShortFacts file → result ≡ attributes file }
 {
@@ -184,16 +186,20 @@ fn size_of(facts: &FileFacts) -> Half
     }
 }
 
-/// Puts the attributes of a file and its size into the second, third and fourth of the words at an address.
+/// Puts the attributes of a file and its size into the second, third and fourth of the words at an address: the high
+/// bits of its date behind the extension.
 pub fn put_found(core: &mut Core, address: u32, facts: &FileFacts)
     requires { address + 4 ≤ 0o400000 }
     ensures { (file : File) → IsShown file facts.now → HasShortFacts file
-        → core.new ≡ after_writes (with_attributes 1 core.old address file) ((address + 3, size_word (length file.body))
+        → core.new ≡ after_writes (with_attributes 2 core.old address file) ((address + 3, size_word (length file.body))
         ∷ []) }
 {
     let left = word_at(core, address + 1).left();
     let zero = Half::from_bits(0);
-    let _ = core.set_word(address + 1, Word::from_halves(left, zero));
+    let _ = core.set_word(
+        address + 1,
+        Word::from_halves(left, high_date(facts.moment)),
+    );
     let _ = core.set_word(address + 2, attributes_of(facts));
     let _ = core.set_word(address + 3, Word::from_halves(size_of(facts), zero));
 }
@@ -210,6 +216,7 @@ fn lookup<D: Disk>(volume: &mut Volume<D>, job: &mut Job, number: u32, address: 
     requires few { (key : ℕ) (v : LiveVersion) → slot volume.old.core.live key ≡ Some v → v.readers + 1 < 2 ^ 32 }
     // The volume, and what the job reads.
     ensures untouched { (volume.new.disk ≡ volume.old.disk) × (volume.new.failed ≡ volume.old.failed) }
+    ensures layout { volume.new.layout ≡ volume.old.layout }
     ensures only { (result ≡ Failed → ⊥) × (result ≡ Device → ⊥) × (result ≡ NoMemory → ⊥) }
     ensures pending { volume.new.core.pending ≡ volume.old.core.pending }
     ensures known { volume.new.core.known ≡ record volume.old.core.known { table = volume.new.core.known.table } }

@@ -38,6 +38,7 @@ pub fn serve_make_dir<D: Disk>(
     requires ready { IsCallReady (D.state volume.old.disk) volume.old.core volume.old.failed job.old }
     ensures serving { ServesAlways D.state volume.old.disk volume.new.disk volume.old.core volume.new.core
         volume.new.failed job.old job.new (MakeDir address) result }
+    ensures layout { volume.new.layout ≡ volume.old.layout }
 {
     make_dir(alloc, volume, job, address)
 }
@@ -82,6 +83,7 @@ fn make_dir<D: Disk>(alloc: Global, volume: &mut Volume<D>, job: &mut Job, addre
         ≡ one_more (D.state volume.old.disk).failures }
     ensures served { (result ≡ Device → ⊥) → (D.state volume.new.disk).failures ≡ (D.state volume.old.disk).failures }
     ensures same { SameDisk (D.state volume.old.disk) (D.state volume.new.disk) }
+    ensures layout { volume.new.layout ≡ volume.old.layout }
 {
     if lies_outside(&job.core, address, 2) {
         return Reply::AddressCheck;

@@ -3,7 +3,7 @@ ghost use Rattle.blockdisk.specs.Disk.{NoneOpen, SameDisk, Still, one_more};
 ghost use Rattle.changeset.specs.Crashes.{IsRecovered, SyncsFirst};
 ghost use Rattle.meaning.specs.Files.{File, Files};
 ghost use Rattle.meaning.specs.Jobs.{State};
-ghost use Rattle.meaning.specs.Layouts.{StandsOn, pack_of};
+ghost use Rattle.meaning.specs.Layouts.{StandsOn, layout_number, pack_of};
 ghost use Rattle.meaning.specs.Published.{without_serials};
 ghost use Rattle.meaning.specs.Room.{room};
 ghost use Rattle.meaning.specs.Runs.{Service, Serving, IsStart};
@@ -18,11 +18,13 @@ ghost use Rattle.volume.specs.declared.error.VolumeError.TheVariants.{Device};
 use crate::StartError;
 use crate::job::Jobs;
 use blockdisk::{Disk, NoMemory};
+use meaning::layout::Layout;
 use std::alloc::Global;
 use std::marker::Model;
 use volume::Volume;
 
-/// A service over the files of one disk: a volume, and the jobs that are logged in.
+/// A service over the files of one disk: a volume, and the jobs that are logged in. Contracts see it as one value
+/// (`MonitorState`): the disk, what is known of it, whether it has failed, the jobs, and the layout of the disk.
 #[derive(Drop)]
 pub struct Monitor<D: Disk> {
     pub(crate) volume: Volume<D>,
@@ -36,7 +38,13 @@ impl<D: Disk> Model for Monitor<D> {
 
     ghost Value = { MonitorState D };
 
-    ghost view = { λ m. record { disk = m.volume.disk; map = m.volume.core; failed = m.volume.failed; jobs = m.jobs } };
+    ghost view = { λ m. record {
+      disk = m.volume.disk;
+      map = m.volume.core;
+      failed = m.volume.failed;
+      jobs = m.jobs;
+      layout = m.volume.layout;
+    } };
 
     // A publication that the device fails leaves core between the two.
     ghost invariant = { λ m. m.volume.failed ≡ false → AreKeyed m.volume.core.pending m.jobs × ArePlaced m.volume.core
@@ -66,6 +74,8 @@ impl<D: Disk> Monitor<D> {
         ensures crash { IfOk result (λ m. (D.state m.disk).honest → HasStarted (D.state disk) (D.state m.disk)) }
         ensures synced { IfOk result (λ m. (D.state m.disk).honest
             → SyncsFirst D.state disk m.disk ⊥ (StandsLike (D.state disk))) }
+        ensures layout { IfOk result (λ m. (D.state m.disk).honest
+            → layout_number m.layout ≡ (pack_of (D.state m.disk)).layout) }
 
         ensures refused { IfErr result (λ refused. (D.state refused.1).honest
             → Refuses (D.state disk).size (D.state refused.1).contents refused.0) }
@@ -88,10 +98,21 @@ impl<D: Disk> Monitor<D> {
             → (D.state refused.1).failures ≡ (D.state disk).failures) }
     {
         let volume = Volume::open(alloc, disk)?;
+        let _layout = volume.layout(); // which says that it is the disk's
         match Jobs::new(alloc) {
             Ok(jobs) => Ok(Monitor { volume, jobs }),
             Err(NoMemory) => Err((StartError::NoMemory, volume.into_disk())),
         }
+    }
+
+    /// The layout in which the disk was opened, which no event changes. While the disk is honest and the monitor hasn't
+    /// failed it is the disk's.
+    pub fn layout(&self) -> Layout
+        ensures value { result ≡ self.now.layout }
+        ensures disk { (D.state self.now.disk).honest → self.now.failed ≡ false
+            → layout_number result ≡ (pack_of (D.state self.now.disk)).layout }
+    {
+        self.volume.layout()
     }
 
     /// How many blocks the disk has, also where the monitor has failed.

@@ -45,6 +45,7 @@ pub fn serve_out<D: Disk>(
     requires ready { IsCallReady (D.state volume.old.disk) volume.old.core volume.old.failed job.old }
     ensures serving { ServesAlways D.state volume.old.disk volume.new.disk volume.old.core volume.new.core
         volume.new.failed job.old job.new (Out channel address) result }
+    ensures layout { volume.new.layout ≡ volume.old.layout }
 {
     out(alloc, volume, job, channel, address)
 }
@@ -182,6 +183,7 @@ fn out<D: Disk>(
         ≡ one_more (D.state volume.old.disk).failures }
     ensures served { (result ≡ Device → ⊥) → (D.state volume.new.disk).failures ≡ (D.state volume.old.disk).failures }
     ensures same { SameDisk (D.state volume.old.disk) (D.state volume.new.disk) }
+    ensures layout { volume.new.layout ≡ volume.old.layout }
 {
     let Some(channel) = job.channel(number) else {
         return Reply::NoChannel;

@@ -80,6 +80,7 @@ pub fn publish_output<D: Disk>(
     ensures idle { IsIdle result → (volume.new.disk ≡ volume.old.disk) × (volume.new.core ≡ volume.old.core)
         × (volume.new.failed ≡ volume.old.failed) }
     ensures same { SameDisk (D.state volume.old.disk) (D.state volume.new.disk) }
+    ensures layout { volume.new.layout ≡ volume.old.layout }
 {
     let Ok(words) = last_words(core, channel) else {
         return Reply::AddressCheck; // the only error

@@ -43,6 +43,7 @@ pub fn serve_in<D: Disk>(
     requires ready { IsCallReady (D.state volume.old.disk) volume.old.core volume.old.failed job.old }
     ensures serving { ServesAlways D.state volume.old.disk volume.new.disk volume.old.core volume.new.core
         volume.new.failed job.old job.new (In channel address) result }
+    ensures layout { volume.new.layout ≡ volume.old.layout }
 {
     read(alloc, volume, job, channel, address)
 }
@@ -115,6 +116,7 @@ fn read<D: Disk>(
     // Which answers leave all alone.
     ensures idle { IsIdle result → volume.new.disk ≡ volume.old.disk }
     ensures memory { result ≡ NoMemory → (volume.new.disk ≡ volume.old.disk) × (job.new ≡ job.old) }
+    ensures layout { volume.new.layout ≡ volume.old.layout }
 {
     let Some(channel) = job.channel(number) else {
         return Reply::NoChannel;

@@ -133,6 +133,7 @@ fn read_listed<D: Disk>(
         ≡ one_more (D.state volume.old.disk).failures }
     ensures served { (result ≡ Device → ⊥) → (D.state volume.new.disk).failures ≡ (D.state volume.old.disk).failures }
     ensures same { SameDisk (D.state volume.old.disk) (D.state volume.new.disk) }
+    ensures layout { volume.new.layout ≡ volume.old.layout }
 {
     let count = word_count(areas);
     if count == 0 {
@@ -196,6 +197,7 @@ fn read_areas<D: Disk>(
         ≡ one_more (D.state volume.old.disk).failures }
     ensures served { (result ≡ Device → ⊥) → (D.state volume.new.disk).failures ≡ (D.state volume.old.disk).failures }
     ensures same { SameDisk (D.state volume.old.disk) (D.state volume.new.disk) }
+    ensures layout { volume.new.layout ≡ volume.old.layout }
 {
     if let Some(area) = core.lone_area(address) {
         return read_listed(alloc, volume, core, handle, block, &[area]);
@@ -253,6 +255,7 @@ fn read_buffer<D: Disk>(
         ≡ one_more (D.state volume.old.disk).failures }
     ensures served { (result ≡ Device → ⊥) → (D.state volume.new.disk).failures ≡ (D.state volume.old.disk).failures }
     ensures same { SameDisk (D.state volume.old.disk) (D.state volume.new.disk) }
+    ensures layout { volume.new.layout ≡ volume.old.layout }
 {
     let (header, bytes) = (channel.input_header, channel.bytes());
     if core.ring_check(RingStep::In, header, bytes).is_err() {
@@ -317,6 +320,7 @@ pub fn read_in<D: Disk>(
         ≡ one_more (D.state volume.old.disk).failures }
     ensures served { (result ≡ Device → ⊥) → (D.state volume.new.disk).failures ≡ (D.state volume.old.disk).failures }
     ensures same { SameDisk (D.state volume.old.disk) (D.state volume.new.disk) }
+    ensures layout { volume.new.layout ≡ volume.old.layout }
 {
     if channel.is_buffered() {
         read_buffer(alloc, volume, core, channel, handle, block)

@@ -30,6 +30,7 @@ pub fn serve_release<D: Disk>(
     requires ready { IsCallReady (D.state volume.old.disk) volume.old.core volume.old.failed job.old }
     ensures serving { ServesAlways D.state volume.old.disk volume.new.disk volume.old.core volume.new.core
         volume.new.failed job.old job.new (Releas channel) result }
+    ensures layout { volume.new.layout ≡ volume.old.layout }
 {
     match closed_side(job, channel, 0) {
         Some((open, output)) => close_both(alloc, volume, job, channel, open, output, false),
@@ -43,6 +44,7 @@ fn release<D: Disk>(volume: &mut Volume<D>, job: &mut Job, number: u32) -> Reply
         ≤ readers_of (version_at volume.old.core.live key) }
     requires unpublished { publishes_at (slot job.old.channels number) 0 ≡ false }
     ensures untouched { (volume.new.disk ≡ volume.old.disk) × (volume.new.failed ≡ volume.old.failed) }
+    ensures layout { volume.new.layout ≡ volume.old.layout }
     ensures row { IsRow job.old job.new (Releas number) result }
     ensures keeps { KeepsSides volume.old.core.pending volume.new.core.pending job.old job.new }
     ensures reads { KeepsReading volume.old.core.live volume.new.core.live job.old job.new }

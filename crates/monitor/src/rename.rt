@@ -54,6 +54,7 @@ pub fn serve_rename<D: Disk>(
     requires ready { IsCallReady (D.state volume.old.disk) volume.old.core volume.old.failed job.old }
     ensures serving { ServesAlways D.state volume.old.disk volume.new.disk volume.old.core volume.new.core
         volume.new.failed job.old job.new (Rename channel address) result }
+    ensures layout { volume.new.layout ≡ volume.old.layout }
 {
     match reading_side(job, channel) {
         Some((open, input)) => rename_input(alloc, volume, job, channel, address, open, input),
@@ -96,6 +97,7 @@ fn rename_input<D: Disk>(
     requires side { channel.input ≡ Some input }
     ensures serving { ServesAlways D.state volume.old.disk volume.new.disk volume.old.core volume.new.core
         volume.new.failed job.old job.new (Rename number address) result }
+    ensures layout { volume.new.layout ≡ volume.old.layout }
 {
     if lies_outside(&job.core, address, 4) {
         return Reply::AddressCheck;
@@ -254,6 +256,7 @@ fn close_input<D: Disk>(
     ensures closed { Closes volume.old.core volume.new.core [] (input.pin.key ∷ []) }
     ensures pending { volume.new.core.pending ≡ volume.old.core.pending }
     ensures untouched { (volume.new.disk ≡ volume.old.disk) × (volume.new.failed ≡ volume.old.failed) }
+    ensures layout { volume.new.layout ≡ volume.old.layout }
     ensures job { job.new ≡ with_input_closed job.old number channel }
 {
     release_input(volume, Some(input));
@@ -282,6 +285,7 @@ fn answer_change<D: Disk>(
     ensures job { job.new ≡ changed_job changed job.old number address channel }
     ensures closed { CloseAfter changed volume.old.core volume.new.core input }
     ensures untouched { (volume.new.disk ≡ volume.old.disk) × (volume.new.failed ≡ volume.old.failed) }
+    ensures layout { volume.new.layout ≡ volume.old.layout }
 {
     match changed {
         Ok(()) => {
@@ -312,6 +316,7 @@ fn remove_file<D: Disk>(
     requires deletes { slice_index job.old.core address ≡ 0 }
     ensures serving { ServesAlways D.state volume.old.disk volume.new.disk volume.old.core volume.new.core
         volume.new.failed job.old job.new (Rename number address) result }
+    ensures layout { volume.new.layout ≡ volume.old.layout }
 {
     let _length = job.core.length(); // which says how long a core may be
     if let Err(code) = may_change(volume, job.ppn, &input, None) {
@@ -340,6 +345,7 @@ fn move_file<D: Disk>(
     requires named { slice_index job.old.core address ≡ 0 → ⊥ }
     ensures serving { ServesAlways D.state volume.old.disk volume.new.disk volume.old.core volume.new.core
         volume.new.failed job.old job.new (Rename number address) result }
+    ensures layout { volume.new.layout ≡ volume.old.layout }
 {
     let _length = job.core.length(); // no address is behind it
     let protection = (word_at(&job.core, address + 2).bits() >> 27) as u16;

@@ -1,6 +1,6 @@
 ghost use Rattle.std.specs.Prelude.{◌≡◌, ◌↔◌, ℕ, false, Some, None, slice_set, IsTrue, IsFalse};
 ghost use Rattle.meaning.specs.Jobs.{slot};
-ghost use Rattle.meaning.specs.Layouts.{pack_of};
+ghost use Rattle.meaning.specs.Layouts.{layout_number, pack_in, pack_of};
 ghost use Rattle.meaning.specs.Runs.{Service, Answers};
 ghost use Rattle.meaning.specs.declared.call.Call.TheVariants.{Reset};
 ghost use Rattle.meaning.specs.declared.call.Event.TheVariants.{Call as Calls};
@@ -12,7 +12,6 @@ ghost use Rattle.monitor.specs.Sides.{reset_job};
 ghost use Rattle.monitor.specs.declared.job.Job.{Job as JobRecord};
 ghost use Rattle.monitor.specs.Promises.{IsCallReady, ServesAlways};
 
-use crate::call::LAST_DATE;
 use crate::dropping::{close_channels, close_job};
 use crate::job::{Job, Jobs};
 use crate::monitor::Monitor;
@@ -27,6 +26,7 @@ pub fn serve_reset<D: Disk>(volume: &mut Volume<D>, job: &mut Job) -> Reply
     requires ready { IsCallReady (D.state volume.old.disk) volume.old.core volume.old.failed job.old }
     ensures serving { ServesAlways D.state volume.old.disk volume.new.disk volume.old.core volume.new.core
         volume.new.failed job.old job.new Reset result }
+    ensures layout { volume.new.layout ≡ volume.old.layout }
 {
     close_channels(volume, &job.channels);
     job.reset();
@@ -43,6 +43,7 @@ pub fn reset<D: Disk>(volume: &mut Volume<D>, jobs: &mut Jobs, number: u32) -> b
     ensures reading { AreReading volume.new.core.live jobs.new }
     ensures leaves { OnlyDrops volume.old.core volume.new.core }
     ensures untouched { (volume.new.disk ≡ volume.old.disk) × (volume.new.failed ≡ volume.old.failed) }
+    ensures layout { volume.new.layout ≡ volume.old.layout }
     ensures found { IsTrue result → (job : JobRecord) × (slot jobs.old number ≡ Some job)
         × (jobs.new ≡ slice_set jobs.old number (Some (reset_job job))) }
     ensures none { IsFalse result → (slot jobs.old number ≡ None) × (jobs.new ≡ jobs.old)
@@ -59,25 +60,34 @@ impl<D: Disk> Monitor<D> {
     /// Resets a job, as the call RESET does: all its channels are closed, and the right half of word 121 (octal)
     /// of its core becomes 140 (octal).
     ///
-    /// The answer is `Done`; `DateRange` where the moment's date is above 4095, which layout 1 can't hold;
-    /// `NoJob` where no job of that number is logged in; or `Failed`. It wants no memory and touches no disk.
+    /// The answer is `Done`; `DateRange` for a date that the layout of the disk can't hold; `NoJob` where no job of that
+    /// number is logged in; or `Failed`. It wants no memory and touches no disk.
     pub fn reset(&mut self, job: u32, moment: Moment) -> Reply
-        ensures answered { (old : Service)
+        ensures answered { (D.state self.old.disk).honest → (old : Service)
             → Serves (D.state self.old.disk) self.old.map self.old.failed self.old.jobs old
             → (new : Service) × Serves (D.state self.new.disk) self.new.map self.new.failed self.new.jobs new
             × Answers (pack_of (D.state self.old.disk)) old (Calls job Reset moment) result new }
+        // The same on every disk, in the layout in which it was opened.
+        ensures in_layout { (old : Service)
+            → Serves (D.state self.old.disk) self.old.map self.old.failed self.old.jobs old
+            → (new : Service) × Serves (D.state self.new.disk) self.new.map self.new.failed self.new.jobs new
+            × Answers (pack_in (layout_number self.old.layout) (D.state self.old.disk).size) old
+            (Calls job Reset moment) result new }
         ensures kept { self.new ≡ record self.old { map = self.new.map; jobs = self.new.jobs } }
         ensures failed { result ≡ Failed ↔ IsTrue self.old.failed }
-        ensures value { self.old.failed ≡ false → result ≡ reset_answer moment.date (slot self.old.jobs job) }
+        ensures value { self.old.failed ≡ false
+            → result ≡ reset_answer (layout_number self.old.layout) moment.date (slot self.old.jobs job) }
         ensures done { result ≡ Done → (there : JobRecord) × (slot self.old.jobs job ≡ Some there)
             × (self.new.jobs ≡ slice_set self.old.jobs job (Some (reset_job there))) }
         ensures refused { (result ≡ Done → ⊥) → (self.new.jobs ≡ self.old.jobs) × (self.new.map ≡ self.old.map) }
         ensures others { (m : ℕ) → (m ≡ job → ⊥) → slot self.new.jobs m ≡ slot self.old.jobs m }
+        ensures layout { self.new.layout ≡ self.old.layout }
     {
         if self.volume.has_failed() {
             return Reply::Failed;
         }
-        if moment.date > LAST_DATE {
+        let layout = self.volume.layout();
+        if moment.date > layout.last_date() {
             return Reply::DateRange;
         }
         if !reset(&mut self.volume, &mut self.jobs, job) {

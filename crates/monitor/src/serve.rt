@@ -4,13 +4,13 @@ ghost use Rattle.std.specs.List.{AllByRecursion};
 ghost use Rattle.blockdisk.specs.Disk.{SameDisk, LeavesOnly, one_more};
 ghost use Rattle.meaning.specs.Crashes.{StandsForEither, RunsOn};
 ghost use Rattle.meaning.specs.Jobs.{State, slot, job_at, Job as MachineJob};
-ghost use Rattle.meaning.specs.Layouts.{pack_of};
+ghost use Rattle.meaning.specs.Layouts.{layout_number, pack_of};
 ghost use Rattle.meaning.specs.Runs.{Service, Serving, Answers};
 ghost use Rattle.meaning.specs.declared.call.Reply.TheVariants.{Refused, Device, Failed, DateRange};
 ghost use Rattle.meaning.specs.declared.call.Reply.TheVariants as replies;
 ghost use Rattle.monitor.specs.Moments.{RunsBy, HoldsStill, last_of, read_of};
 ghost use Rattle.monitor.specs.Runs.{TellsFault, FailsOnce};
-ghost use Rattle.meaning.specs.Step.{job_of};
+ghost use Rattle.meaning.specs.Step.{job_of, last_date};
 ghost use Rattle.monitor.specs.Serving.{Serves};
 ghost use Rattle.monitor.specs.Events.{IsIdle, IsDecided, OfCall, IsNoCall, IsLightEvent};
 ghost use Rattle.monitor.specs.Refusals.{IsRefused};
@@ -62,7 +62,7 @@ impl<D: Disk> Monitor<D> {
         ensures same { SameDisk (D.state self.old.disk) (D.state self.new.disk) }
         // And what `call` says of a call alone.
         ensures still { OfCall event.now (λ job call moment. (D.state self.new.disk).honest → (channel address : ℕ)
-            → call ≡ In channel address → moment.date ≤ 4095 → (s : State)
+            → call ≡ In channel address → moment.date ≤ last_date (layout_number self.old.layout) → (s : State)
             → Serves (D.state self.old.disk) self.old.map self.old.failed self.old.jobs (Serving s)
             → (own : MachineJob) → job_at s job ≡ Some own → (result ≡ replies.NoMemory → ⊥) → (result ≡ Device → ⊥)
             → (after : State)
@@ -70,9 +70,10 @@ impl<D: Disk> Monitor<D> {
             × (result ≡ (read_of own channel address).0) × (job_at after job ≡ Some (read_of own channel address).1)) }
         ensures refused { OfCall event.now (λ job call moment. (code : ℕ) → result ≡ Refused code
             → IsRefused call job code self.old.jobs self.new.jobs) }
-        ensures late { OfCall event.now (λ job call moment. self.old.failed ≡ false → 4095 < moment.date
-            → (result ≡ DateRange) × (self.new ≡ self.old)) }
+        ensures late { OfCall event.now (λ job call moment. self.old.failed ≡ false
+            → last_date (layout_number self.old.layout) < moment.date → (result ≡ DateRange) × (self.new ≡ self.old)) }
         ensures kept { OfCall event.now (λ job call moment. KeepsCore call → self.new.map ≡ self.old.map) }
+        ensures layout { self.new.layout ≡ self.old.layout }
     {
         match *event {
             Event::Login(job, ppn, words) => self.login(alloc, job, ppn, words),
@@ -116,6 +117,7 @@ impl<D: Disk> Monitor<D> {
         ensures counted { IfOk result (λ replies. TellsFault replies.items
             → (D.state self.new.disk).failures ≡ one_more (D.state self.old.disk).failures) }
         ensures once { IfOk result (λ replies. FailsOnce replies.items) }
+        ensures layout { self.new.layout ≡ self.old.layout }
     {
         let mut replies = Vec::with_capacity(alloc, events.len())?;
         for event in events {

@@ -3,6 +3,7 @@ ghost use Rattle.std.specs.Prelude.{IsTrue, IsSome, Some, None};
 ghost use Rattle.meaning.specs.Cores.{lies_outside};
 ghost use Rattle.meaning.specs.Files.{File, Files};
 ghost use Rattle.meaning.specs.Jobs.{State, slot, channel_at};
+ghost use Rattle.meaning.specs.Layouts.{pack_of};
 ghost use Rattle.meaning.specs.Looking.{place_at};
 ghost use Rattle.meaning.specs.Maps.{get, times};
 ghost use Rattle.meaning.specs.Published.{same_place};
@@ -25,7 +26,7 @@ ghost use Rattle.monitor.specs.Inputs.{named_in, digit_for};
 ghost use Rattle.monitor.specs.Readers.{readers_of};
 ghost use Rattle.monitor.specs.Refusals.{with_code};
 ghost use Rattle.monitor.specs.Rows.{KeepsReading};
-ghost use Rattle.monitor.specs.Serving.{pack_one, ArePlaced};
+ghost use Rattle.monitor.specs.Serving.{ArePlaced, IsTimely};
 ghost use Rattle.monitor.specs.Sides.{UnderKeys, job_of, reader_of, readers_in, pins_of};
 ghost use Rattle.monitor.specs.Updating.{allowed_update, update_kind, update_answer_at, updating_side, IsUpdating};
 ghost use Rattle.monitor.specs.Updating.{IsUpdateOf};
@@ -122,12 +123,11 @@ fn allow_update(
 
 /// The place of an input side, as a version is begun there.
 fn place_of(input: &Input, moment: Moment) -> Prime
-    requires timely { moment.date ≤ 4095 }
-    ensures { (result.ppn ≡ input.now.ppn) × (result.file ≡ input.now.file) }
+    ensures { (result.ppn ≡ input.now.ppn) × (result.file ≡ input.now.file) × (result.moment ≡ moment) }
 {
     match Prime::new(input.file, input.ppn, 0, Mode::Dump, moment) {
         Some(prime) => prime,
-        None => unreachable!(), // no digits, and the date has twelve bits
+        None => unreachable!(), // no digits
     }
 }
 
@@ -144,8 +144,9 @@ fn begin_update<D: Disk>(
     moment: Moment,
 ) -> Result<(Pending, VersionKind), CallError>
     requires sound { IsSoundCore (D.state volume.old.disk) volume.old.core volume.old.failed }
-    requires timely { moment.date ≤ 4095 }
+    requires timely { IsTimely (D.state volume.old.disk) moment }
     ensures untouched { (volume.new.disk ≡ volume.old.disk) × (volume.new.failed ≡ volume.old.failed) }
+    ensures layout { volume.new.layout ≡ volume.old.layout }
     ensures begun { IfOk result (λ begun. (is_update begun.1 ≡ true) × (prime : PrimeRecord)
         × (prime.ppn ≡ input.now.ppn) × (prime.file ≡ input.now.file)
         × IsBegun volume.old.core volume.new.core begun.0.key begun.1 prime) }
@@ -164,7 +165,7 @@ fn begin_update<D: Disk>(
         (named_in (get files input.now.ppn) input.now.file))) }
     ensures answered { (D.state volume.new.disk).honest → volume.old.failed ≡ false → (s : State)
         → IsKnown (D.state volume.old.disk) volume.old.core s
-        → (under : UnderKeys) → IsAnswer result (update_answer_at (pack_one (D.state volume.old.disk)) s
+        → (under : UnderKeys) → IsAnswer result (update_answer_at (pack_of (D.state volume.old.disk)) s
         (job_of under job.now) (place_of input.now.ppn input.now.file)) }
 {
     let found = find(volume, input.ppn, &input.file);
@@ -239,7 +240,7 @@ pub fn update<D: Disk>(
 ) -> Reply
     requires sound { IsSoundCore (D.state volume.old.disk) volume.old.core volume.old.failed }
     // The volume serves, and knows what the job reads.
-    requires timely { moment.date ≤ 4095 }
+    requires timely { IsTimely (D.state volume.old.disk) moment }
     requires alive { volume.old.failed ≡ false }
     requires there { slot job.old.channels number ≡ Some channel }
     requires side { channel.input ≡ Some input }
@@ -249,6 +250,7 @@ pub fn update<D: Disk>(
         → v.readers + 1 < 2 ^ 32 }
     // The disk is left alone.
     ensures untouched { (volume.new.disk ≡ volume.old.disk) × (volume.new.failed ≡ volume.old.failed) }
+    ensures layout { volume.new.layout ≡ volume.old.layout }
     ensures only { (result ≡ Failed → ⊥) × (result ≡ Device → ⊥) }
     // What it leaves, by its answer.
     ensures begun { result ≡ Done → (key : ℕ)
@@ -264,7 +266,7 @@ pub fn update<D: Disk>(
     ensures reads { KeepsReading volume.old.core.live volume.new.core.live job.old job.new }
     ensures row { (D.state volume.new.disk).honest → (s : State)
         → IsKnown (D.state volume.old.disk) volume.old.core s
-        → (under : UnderKeys) → IsEnterAnswer (pack_one (D.state volume.old.disk)) s (job_of under job.old)
+        → (under : UnderKeys) → IsEnterAnswer (pack_of (D.state volume.old.disk)) s (job_of under job.old)
         (job_of under job.new) (channel_at (job_of under job.old) number) address result }
     ensures refused { (code : ℕ) → result ≡ Refused code → job.new ≡ with_code job.old address code }
     ensures decided { IsDecided result → job.new ≡ job.old }

@@ -64,6 +64,7 @@ impl<D: Disk> Monitor<D> {
             ≡ slice_set self.old.jobs job (Some (record there { core = slice_set there.core address word }))) }
         ensures refused { (result ≡ Done → ⊥) → self.new.jobs ≡ self.old.jobs }
         ensures others { (m : ℕ) → (m ≡ job → ⊥) → slot self.new.jobs m ≡ slot self.old.jobs m }
+        ensures layout { self.new.layout ≡ self.old.layout }
     {
         if self.volume.has_failed() {
             return Reply::Failed;
@@ -85,6 +86,7 @@ impl<D: Disk> Monitor<D> {
         ensures alive { IsTrue result → self.old.failed ≡ false }
         ensures there { self.old.failed ≡ false → (there : JobRecord) → slot self.old.jobs job ≡ Some there
             → first + length words.now ≤ length there.core → IsTrue result }
+        ensures layout { self.new.layout ≡ self.old.layout }
     {
         if self.volume.has_failed() {
             return false;

@@ -5,16 +5,14 @@ use Rattle.monitor.proofs.Slots.{slot_past, slot_there, set_same}
 use Rattle.monitor.proofs.call.serve.Goals as goal
 use Rattle.monitor.proofs.call.serve.Goals.{in-Some, in-None}
 
-pub returns-then-number-len : goal.returns-then-number-len
-returns-then-number-len g c = record {
-  serving =
-      let volume = c.args.volume.now in
-      let none : slot c.args.jobs.now c.args.number ≡ None = slot_past c.args.jobs.now c.args.number
-      (omega (arith, ap length c.jobs.view_is)) in
-      nobody_serves g.D.Disk.state g.met.D.Disk.only_now volume.disk volume.core volume.failed c.args.jobs.now
-      c.args.jobs.now c.args.number c.args.call.now c.args.moment c.requires.alive c.requires.timely
-      c.requires.keyed c.requires.placed c.requires.reading none refl;
-}
+pub returns-then-number-len-clause-serving : goal.returns-then-number-len-clause-serving
+returns-then-number-len-clause-serving g c =
+    let volume = c.args.volume.now in
+    let none : slot c.args.jobs.now c.args.number ≡ None = slot_past c.args.jobs.now c.args.number
+    (omega (arith, ap length c.jobs.view_is)) in
+    nobody_serves g.D.Disk.state g.met.D.Disk.only_now volume.disk volume.core volume.failed c.args.jobs.now
+    c.args.jobs.now c.args.number c.args.call.now c.args.moment c.requires.alive c.requires.timely
+    c.requires.keyed c.requires.placed c.requires.reading none refl
 
 pub answer-requires-clause-ready : goal.answer-requires-clause-ready
 answer-requires-clause-ready g c = record {
@@ -32,8 +30,8 @@ answer-requires-clause-ready g c = record {
   };
 }
 
-pub returns : goal.returns
-returns g c =
+pub returns-clause-serving : goal.returns-clause-serving
+returns-clause-serving g c =
     let volume = c.args.volume.now in
     let jobs = c.args.jobs.now in
     let items = c.jobs.inside.slots.items in
@@ -45,22 +43,20 @@ returns g c =
           c.index_mut.ensures.value w.in-Some.is) in
           let new = w.answer.new.volume in
           let set = ap (λ js. slice_set js c.args.number (Some w.answer.new.job)) c.jobs.view_is in
-          rw (w.volume-is, w.result-is, w.jobs-inside-is) (record {
-            serving = set_serves g.D.Disk.state g.met.D.Disk.only_now volume.disk new.disk volume.core new.core
-                new.failed jobs (slice_set items c.args.number (Some w.answer.new.job)) c.args.number w.in-Some.job
-                w.answer.new.job c.args.call.now c.args.moment w.answer.result set
-                (w.answer.ensures.serving jobs c.args.number
-                (record { there = there; keyed = c.requires.keyed; reading = c.requires.reading }));
-          })
+          rw (w.volume-is, w.result-is, w.jobs-inside-is) (
+          set_serves g.D.Disk.state g.met.D.Disk.only_now volume.disk new.disk volume.core new.core
+          new.failed jobs (slice_set items c.args.number (Some w.answer.new.job)) c.args.number w.in-Some.job
+          w.answer.new.job c.args.call.now c.args.moment w.answer.result set
+          (w.answer.ensures.serving jobs c.args.number
+          (record { there = there; keyed = c.requires.keyed; reading = c.requires.reading })))
       | in-None w ↦
           let none : slot jobs c.args.number ≡ None = subst (λ js. slot js c.args.number ≡ None) c.jobs.view_is
           (slot_there items c.args.number c.index_mut.result.now None (omega arith) c.index_mut.ensures.value
           w.in-None.is) in
           let same : slice_set items c.args.number c.index_mut.result.now ≡ jobs =
           set_same items c.args.number c.index_mut.result.now c.index_mut.ensures.value ∙ c.jobs.view_is in
-          rw (w.volume-is, w.result-is, w.jobs-inside-is) (record {
-            serving = nobody_serves g.D.Disk.state g.met.D.Disk.only_now volume.disk volume.core volume.failed jobs
-                (slice_set items c.args.number c.index_mut.result.now) c.args.number c.args.call.now c.args.moment
-                c.requires.alive c.requires.timely c.requires.keyed c.requires.placed c.requires.reading none same;
-          })
+          rw (w.volume-is, w.result-is, w.jobs-inside-is) (
+          nobody_serves g.D.Disk.state g.met.D.Disk.only_now volume.disk volume.core volume.failed jobs
+          (slice_set items c.args.number c.index_mut.result.now) c.args.number c.args.call.now c.args.moment
+          c.requires.alive c.requires.timely c.requires.keyed c.requires.placed c.requires.reading none same)
     ]

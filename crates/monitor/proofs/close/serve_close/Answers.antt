@@ -18,36 +18,30 @@ close-requires-clause-held g c =
     let ready = c.requires.ready in
     job_held c.args.volume.now.core.live ready.jobs ready.number c.args.job.now ready.among.reading ready.among.there
 
-pub returns-in-None : goal.returns-in-None
-returns-in-None g c =
+pub returns-in-None-clause-serving : goal.returns-in-None-clause-serving
+returns-in-None-clause-serving g c =
     let said = c.close_both.ensures in
-    record {
-      serving = close_serves g.D.Disk.state g.met.D.Disk.only_now c.args.volume.now.disk c.close_both.new.volume.disk
-          c.requires.ready c.in-Some.ensures.some said.published.1 said.idle said.kept said.published.2
-          (sym c.input_kept.ensures ∙ c.in-None.is) said.closed;
-    }
+    close_serves g.D.Disk.state g.met.D.Disk.only_now c.args.volume.now.disk c.close_both.new.volume.disk
+    c.requires.ready c.in-Some.ensures.some said.published.1 said.idle said.kept said.published.2
+    (sym c.input_kept.ensures ∙ c.in-None.is) said.closed
 
-pub returns-in-Some-input_kept : goal.returns-in-Some-input_kept
-returns-in-Some-input_kept g c =
+pub returns-in-Some-input_kept-clause-serving : goal.returns-in-Some-input_kept-clause-serving
+returns-in-Some-input_kept-clause-serving g c =
     let said = c.close_and_hold.ensures in
     let input = c.in-Some-input_kept.input in
     let kept = kept_by (keeps_input c.args.bits) c.in-Some.open.input input
     (sym c.input_kept.ensures ∙ c.in-Some-input_kept.is) in
-    record {
-      serving = hold_serves g.D.Disk.state g.met.D.Disk.only_now c.args.volume.now.disk
-          c.close_and_hold.new.volume.disk c.requires.ready c.in-Some.ensures.some said.published.1 said.idle said.kept
-          input kept.1 said.published.2 kept.0;
-    }
+    hold_serves g.D.Disk.state g.met.D.Disk.only_now c.args.volume.now.disk
+    c.close_and_hold.new.volume.disk c.requires.ready c.in-Some.ensures.some said.published.1 said.idle said.kept
+    input kept.1 said.published.2 kept.0
 
-pub returns-in_default : goal.returns-in_default
-returns-in_default g c = record {
-  serving = λ moment timely.
-      let old = c.args.volume.now in
-      let new = c.close.new.volume in
-      let ready = c.requires.ready in
-      dropping_serves g.D.Disk.state g.met.D.Disk.only_now old.disk new.disk old.core new.core old.failed
-      new.failed c.args.job.now c.close.new.job (Close c.args.channel c.args.bits) moment c.close.result
-      ready.alive c.close.ensures.untouched ready.placed timely c.close.ensures.row c.close.ensures.keeps
-      c.close.ensures.reads c.close.ensures.leaves c.close.ensures.only
-      c.close.ensures.refused c.close.ensures.decided (λ kept. kept);
-}
+pub returns-in_default-clause-serving : goal.returns-in_default-clause-serving
+returns-in_default-clause-serving g c = λ moment timely.
+    let old = c.args.volume.now in
+    let new = c.close.new.volume in
+    let ready = c.requires.ready in
+    dropping_serves g.D.Disk.state g.met.D.Disk.only_now old.disk new.disk old.core new.core old.failed
+    new.failed c.args.job.now c.close.new.job (Close c.args.channel c.args.bits) moment c.close.result
+    ready.alive c.close.ensures.untouched ready.placed timely c.close.ensures.row c.close.ensures.keeps
+    c.close.ensures.reads c.close.ensures.leaves c.close.ensures.only
+    c.close.ensures.refused c.close.ensures.decided (λ kept. kept)

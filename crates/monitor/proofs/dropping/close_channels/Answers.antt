@@ -31,4 +31,5 @@ loop-channel-preserved g c =
           c.close_sides.ensures.closed;
       disk = c.close_sides.ensures.untouched.0 ∙ c.loop-channel.invariant.disk;
       failed = c.close_sides.ensures.untouched.1 ∙ c.loop-channel.invariant.failed;
+      layout = c.close_sides.ensures.layout ∙ c.loop-channel.invariant.layout;
     }

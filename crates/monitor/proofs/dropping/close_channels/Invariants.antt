@@ -9,4 +9,5 @@ invariant-loop-channel g l = record {
       (pins_of (filter_map reader_of (take l.channel-index l.channels)));
   disk : l.volume.disk ≡ l.fn.volume.disk;
   failed : l.volume.failed ≡ l.fn.volume.failed;
+  layout : l.volume.layout ≡ l.fn.volume.layout;
 }

@@ -1,13 +1,13 @@
 use Rattle.std.proofs.Common.{◌≡◌, ◌∙◌, ℕ, ap, subst, Err}
 use Rattle.words36.specs.declared.names.FileName.{FileName}
 use Rattle.meaning.specs.Codes.{number_of}
+use Rattle.meaning.specs.Layouts.{pack_of}
 use Rattle.meaning.specs.Looking.{place_at}
 use Rattle.meaning.specs.Published.{without_serials}
 use Rattle.meaning.specs.Stands.{place_of}
 use Rattle.meaning.specs.declared.call.Reply.TheVariants.{Done, Refused}
 use Rattle.volume.specs.Rest.{IsSoundCore}
 use Rattle.monitor.specs.Finding.{IsAnswer, begin_answer_at}
-use Rattle.monitor.specs.Serving.{pack_one}
 use Rattle.monitor.specs.Sides.{job_of}
 use Rattle.monitor.proofs.Answering.{contrary}
 use Rattle.monitor.proofs.Entering.{at_place, no_owner, refused, may_begin_at, begun_at, not_begun_at}
@@ -24,7 +24,7 @@ pub returns-in-Err-clause-answered : goal.returns-in-Err-clause-answered
 returns-in-Err-clause-answered g c h alive s known w =
     let d = g.D.Disk.state c.args.volume.now.disk in
     let map = c.args.volume.now.core in
-    subst (λ p. begin_answer_at (pack_one d) s (job_of w c.args.job.now) p ≡ Refused (number_of c.in-Err.code))
+    subst (λ p. begin_answer_at (pack_of d) s (job_of w c.args.job.now) p ≡ Refused (number_of c.in-Err.code))
     (at_place w c.args.job.now c.args.address c.in-Some.ppn c.name_at-file.result c.in-Some.ensures.there
     c.name_at-file.ensures.0 c.name_at-file.ensures.1)
     (refused d map s known (subst (IsSoundCore d map) alive c.requires.sound) h w c.args.job.now
@@ -38,7 +38,7 @@ returns-in-Ok-begin-clause-answered g c h alive s known w =
     let map = c.args.volume.now.core in
     let prime = c.prime_for-prime.result in
     let sound = subst (IsSoundCore d map) alive c.requires.sound in
-    subst (λ p. begin_answer_at (pack_one d) s (job_of w c.args.job.now) p ≡ Done)
+    subst (λ p. begin_answer_at (pack_of d) s (job_of w c.args.job.now) p ≡ Done)
     (at_place w c.args.job.now c.args.address prime.ppn prime.file
     (c.prime_for-prime.ensures.ppn ∙ c.in-Some.ensures.there)
     (ap (λ (x : FileName). x.name) c.prime_for-prime.ensures.file ∙ c.name_at-file.ensures.0)
@@ -56,7 +56,7 @@ returns-in-Err-begin-clause-answered g c h alive s known w =
     let map = c.args.volume.now.core in
     let prime = c.prime_for-prime.result in
     let sound = subst (IsSoundCore d map) alive c.requires.sound in
-    subst (λ p. IsAnswer {X = ℕ} (Err c.in-Err-begin.error) (begin_answer_at (pack_one d) s
+    subst (λ p. IsAnswer {X = ℕ} (Err c.in-Err-begin.error) (begin_answer_at (pack_of d) s
     (job_of w c.args.job.now) p))
     (at_place w c.args.job.now c.args.address prime.ppn prime.file
     (c.prime_for-prime.ensures.ppn ∙ c.in-Some.ensures.there)

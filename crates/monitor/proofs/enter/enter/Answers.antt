@@ -1,13 +1,13 @@
 use Rattle.std.proofs.Common.{◌+◌, ◌∙◌, ℕ, refl, sym, ap, subst, Some, Err, slice_set}
 use Rattle.meaning.specs.Codes.{number_of}
 use Rattle.meaning.specs.Cores.{with_right}
+use Rattle.meaning.specs.Layouts.{pack_of}
 use Rattle.meaning.specs.declared.call.Reply.TheVariants.{Refused}
 use Rattle.volume.specs.Beginning.{begun}
 use Rattle.meaning.specs.Looking.{place_at}
 use Rattle.monitor.specs.Entering.{entered_kind}
 use Rattle.monitor.specs.Finding.{IsAnswer, begin_answer_at}
 use Rattle.monitor.specs.Sides.{job_of, reader_of}
-use Rattle.monitor.specs.Serving.{pack_one}
 use Rattle.monitor.proofs.EnterReads.{reading_entered}
 use Rattle.monitor.proofs.Enters.{no_side, done, refused, wanting}
 use Rattle.monitor.proofs.Placing.{placed_begun}
@@ -43,7 +43,7 @@ returns-in-Ok-clause-begun g c is = (
 
 pub returns-in-Ok-clause-row : goal.returns-in-Ok-clause-row
 returns-in-Ok-clause-row g c h s known w =
-    done (pack_one (g.D.Disk.state c.args.volume.now.disk)) s w c.args.job.now c.args.number c.args.address
+    done (pack_of (g.D.Disk.state c.args.volume.now.disk)) s w c.args.job.now c.args.number c.args.address
     c.in-Some.channel (sym c.channel.ensures ∙ c.in-Some.is) (sym c.lies_outside.ensures.value
     ∙ c.if-lies_outside.false)
     (no_side c.in-Some.channel.output (sym c.is_some.ensures ∙ c.if-is_some.false))
@@ -52,7 +52,7 @@ returns-in-Ok-clause-row g c h s known w =
 
 pub returns-in-Err-Refused-clause-row : goal.returns-in-Err-Refused-clause-row
 returns-in-Err-Refused-clause-row g c h s known w =
-    refused (pack_one (g.D.Disk.state c.args.volume.now.disk)) s w c.args.job.now c.args.number c.args.address
+    refused (pack_of (g.D.Disk.state c.args.volume.now.disk)) s w c.args.job.now c.args.number c.args.address
     c.in-Some.channel (sym c.channel.ensures ∙ c.in-Some.is) (sym c.lies_outside.ensures.value
     ∙ c.if-lies_outside.false)
     (no_side c.in-Some.channel.output (sym c.is_some.ensures ∙ c.if-is_some.false))
@@ -61,18 +61,18 @@ returns-in-Err-Refused-clause-row g c h s known w =
     ∙ ap (λ x. Refused (number_of x)) c.in-Err-Refused.code-is)
     (c.refuse-in-Err-Refused.ensures.kept
     ∙ ap (λ x. with_right c.args.job.now.core (c.args.address + 1) (number_of x)) c.in-Err-Refused.code-is)
-    (subst (λ x. IsAnswer {X = ℕ} (Err x) (begin_answer_at (pack_one (g.D.Disk.state c.args.volume.now.disk)) s
+    (subst (λ x. IsAnswer {X = ℕ} (Err x) (begin_answer_at (pack_of (g.D.Disk.state c.args.volume.now.disk)) s
     (job_of w c.args.job.now) (place_at (job_of w c.args.job.now) c.args.address))) c.in-Err-Refused.field-0-is
     (c.in-Err-Refused.ensures.answered h c.requires.alive s known w))
 
 pub returns-in-Err-NoMemory-clause-row : goal.returns-in-Err-NoMemory-clause-row
 returns-in-Err-NoMemory-clause-row g c h s known w =
-    wanting (pack_one (g.D.Disk.state c.args.volume.now.disk)) s w c.args.job.now c.args.number c.args.address
+    wanting (pack_of (g.D.Disk.state c.args.volume.now.disk)) s w c.args.job.now c.args.number c.args.address
     c.in-Some.channel (sym c.channel.ensures ∙ c.in-Some.is) (sym c.lies_outside.ensures.value
     ∙ c.if-lies_outside.false)
     (no_side c.in-Some.channel.output (sym c.is_some.ensures ∙ c.if-is_some.false))
     (ap reader_of (sym (sym c.channel.ensures ∙ c.in-Some.is)) ∙ c.requires.unread)
-    (subst (λ x. IsAnswer {X = ℕ} (Err x) (begin_answer_at (pack_one (g.D.Disk.state c.args.volume.now.disk)) s
+    (subst (λ x. IsAnswer {X = ℕ} (Err x) (begin_answer_at (pack_of (g.D.Disk.state c.args.volume.now.disk)) s
     (job_of w c.args.job.now) (place_at (job_of w c.args.job.now) c.args.address))) c.in-Err-NoMemory.field-0-is
     (c.in-Err-NoMemory.ensures.answered h c.requires.alive s known w))
 

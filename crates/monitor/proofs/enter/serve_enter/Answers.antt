@@ -16,67 +16,63 @@ pub update-requires-clause-few : goal.update-requires-clause-few
 update-requires-clause-few g c = few_readers c.args.volume.now.core.live c.requires.ready.jobs
     c.requires.ready.among.reading
 
-pub returns-in-Some : goal.returns-in-Some
-returns-in-Some g c = record {
-  serving = λ jobs n among.
-      let moment = c.args.moment in
-      let state = g.D.Disk.state in
-      let old = c.args.volume.now in
-      let new = c.update.new.volume in
-      let map = old.core in
-      let map' = new.core in
-      let job = c.args.job.now in
-      let job' = c.update.new.job in
-      let jobs' = slice_set jobs n (Some job') in
-      let sound = subst (IsSoundCore (state old.disk) map) c.requires.ready.alive c.requires.ready.sound in
-      quiet_serves state g.met.D.Disk.only_now old.disk new.disk map map' old.failed new.failed job job'
-      (Enter c.args.channel c.args.address) moment c.update.result c.requires.ready.alive c.update.ensures.untouched
-      c.update.ensures.only (c.update.ensures.placed c.requires.ready.placed) (λ light. absurd light)
-      (λ kept. absurd kept)
-      (λ none. ((c.update.ensures.kept (λ e. let wrong = sym none ∙ e in cc)).0, c.update.ensures.memory none))
-      c.update.ensures.refused
-      (λ is. ((c.update.ensures.kept (λ e. subst IsDecided e is)).0, c.update.ensures.decided is)) jobs n among
-      (updates_keyed (state old.disk) (state new.disk) map map' jobs jobs' n job job' c.args.channel c.args.address
-      moment c.in-Some.open c.in-Some.input c.update.result among.there refl among.keyed among.reading
-      c.update.ensures.begun c.update.ensures.kept)
-      (updates_reading (state old.disk) (state new.disk) map map' jobs jobs' n job job' c.args.channel c.args.address
-      moment c.in-Some.open c.in-Some.input c.update.result among.there refl among.keyed among.reading
-      c.update.ensures.begun c.update.ensures.kept)
-      (λ h s serves.
-      let was : (state old.disk).honest = subst (λ disk. (state disk).honest) c.update.ensures.untouched.0 h in
-      update_answered (state old.disk) (state new.disk) map map' jobs jobs' n job job' c.args.channel c.args.address
-      moment c.in-Some.open c.in-Some.input c.update.result among.there refl among.keyed among.reading
-      c.update.ensures.begun c.update.ensures.kept false refl sound was h c.requires.timely (c.update.ensures.row h)
-      s serves);
-}
+pub returns-in-Some-clause-serving : goal.returns-in-Some-clause-serving
+returns-in-Some-clause-serving g c = λ jobs n among.
+    let moment = c.args.moment in
+    let state = g.D.Disk.state in
+    let old = c.args.volume.now in
+    let new = c.update.new.volume in
+    let map = old.core in
+    let map' = new.core in
+    let job = c.args.job.now in
+    let job' = c.update.new.job in
+    let jobs' = slice_set jobs n (Some job') in
+    let sound = subst (IsSoundCore (state old.disk) map) c.requires.ready.alive c.requires.ready.sound in
+    quiet_serves state g.met.D.Disk.only_now old.disk new.disk map map' old.failed new.failed job job'
+    (Enter c.args.channel c.args.address) moment c.update.result c.requires.ready.alive c.update.ensures.untouched
+    c.update.ensures.only (c.update.ensures.placed c.requires.ready.placed) (λ light. absurd light)
+    (λ kept. absurd kept)
+    (λ none. ((c.update.ensures.kept (λ e. let wrong = sym none ∙ e in cc)).0, c.update.ensures.memory none))
+    c.update.ensures.refused
+    (λ is. ((c.update.ensures.kept (λ e. subst IsDecided e is)).0, c.update.ensures.decided is)) jobs n among
+    (updates_keyed (state old.disk) (state new.disk) map map' jobs jobs' n job job' c.args.channel c.args.address
+    moment c.in-Some.open c.in-Some.input c.update.result among.there refl among.keyed among.reading
+    c.update.ensures.begun c.update.ensures.kept)
+    (updates_reading (state old.disk) (state new.disk) map map' jobs jobs' n job job' c.args.channel c.args.address
+    moment c.in-Some.open c.in-Some.input c.update.result among.there refl among.keyed among.reading
+    c.update.ensures.begun c.update.ensures.kept)
+    (λ h s serves.
+    let was : (state old.disk).honest = subst (λ disk. (state disk).honest) c.update.ensures.untouched.0 h in
+    update_answered (state old.disk) (state new.disk) map map' jobs jobs' n job job' c.args.channel c.args.address
+    moment c.in-Some.open c.in-Some.input c.update.result among.there refl among.keyed among.reading
+    c.update.ensures.begun c.update.ensures.kept false refl sound was h c.requires.timely (c.update.ensures.row h)
+    s serves)
 
-pub returns-in-None : goal.returns-in-None
-returns-in-None g c = record {
-  serving = λ jobs n among.
-      let moment = c.args.moment in
-      let state = g.D.Disk.state in
-      let old = c.args.volume.now in
-      let new = c.enter.new.volume in
-      let map = old.core in
-      let map' = new.core in
-      let job = c.args.job.now in
-      let job' = c.enter.new.job in
-      let jobs' = slice_set jobs n (Some job') in
-      let sound = subst (IsSoundCore (state old.disk) map) c.requires.ready.alive c.requires.ready.sound in
-      quiet_serves state g.met.D.Disk.only_now old.disk new.disk map map' old.failed new.failed job job'
-      (Enter c.args.channel c.args.address) moment c.enter.result c.requires.ready.alive c.enter.ensures.untouched
-      c.enter.ensures.only (c.enter.ensures.placed c.requires.ready.placed) (λ light. absurd light)
-      (λ kept. absurd kept)
-      (λ none. ((c.enter.ensures.kept (λ e. let wrong = sym none ∙ e in cc)).0, c.enter.ensures.memory none))
-      c.enter.ensures.refused
-      (λ is. ((c.enter.ensures.kept (λ e. subst IsDecided e is)).0, c.enter.ensures.decided is)) jobs n among
-      (enters_keyed (state old.disk) (state new.disk) map map' jobs jobs' n job job' c.args.channel c.args.address
-      moment c.enter.result among.there refl among.keyed among.reading c.enter.ensures.begun c.enter.ensures.kept)
-      (enters_reading (state old.disk) (state new.disk) map map' jobs jobs' n job job' c.args.channel c.args.address
-      moment c.enter.result among.there refl among.keyed among.reading c.enter.ensures.begun c.enter.ensures.kept)
-      (λ h s serves.
-      let was : (state old.disk).honest = subst (λ disk. (state disk).honest) c.enter.ensures.untouched.0 h in
-      enter_answered (state old.disk) (state new.disk) map map' jobs jobs' n job job' c.args.channel c.args.address
-      moment c.enter.result among.there refl among.keyed among.reading c.enter.ensures.begun c.enter.ensures.kept
-      false refl sound was h c.requires.timely (c.enter.ensures.row h) s serves);
-}
+pub returns-in-None-clause-serving : goal.returns-in-None-clause-serving
+returns-in-None-clause-serving g c = λ jobs n among.
+    let moment = c.args.moment in
+    let state = g.D.Disk.state in
+    let old = c.args.volume.now in
+    let new = c.enter.new.volume in
+    let map = old.core in
+    let map' = new.core in
+    let job = c.args.job.now in
+    let job' = c.enter.new.job in
+    let jobs' = slice_set jobs n (Some job') in
+    let sound = subst (IsSoundCore (state old.disk) map) c.requires.ready.alive c.requires.ready.sound in
+    quiet_serves state g.met.D.Disk.only_now old.disk new.disk map map' old.failed new.failed job job'
+    (Enter c.args.channel c.args.address) moment c.enter.result c.requires.ready.alive c.enter.ensures.untouched
+    c.enter.ensures.only (c.enter.ensures.placed c.requires.ready.placed) (λ light. absurd light)
+    (λ kept. absurd kept)
+    (λ none. ((c.enter.ensures.kept (λ e. let wrong = sym none ∙ e in cc)).0, c.enter.ensures.memory none))
+    c.enter.ensures.refused
+    (λ is. ((c.enter.ensures.kept (λ e. subst IsDecided e is)).0, c.enter.ensures.decided is)) jobs n among
+    (enters_keyed (state old.disk) (state new.disk) map map' jobs jobs' n job job' c.args.channel c.args.address
+    moment c.enter.result among.there refl among.keyed among.reading c.enter.ensures.begun c.enter.ensures.kept)
+    (enters_reading (state old.disk) (state new.disk) map map' jobs jobs' n job job' c.args.channel c.args.address
+    moment c.enter.result among.there refl among.keyed among.reading c.enter.ensures.begun c.enter.ensures.kept)
+    (λ h s serves.
+    let was : (state old.disk).honest = subst (λ disk. (state disk).honest) c.enter.ensures.untouched.0 h in
+    enter_answered (state old.disk) (state new.disk) map map' jobs jobs' n job job' c.args.channel c.args.address
+    moment c.enter.result among.there refl among.keyed among.reading c.enter.ensures.begun c.enter.ensures.kept
+    false refl sound was h c.requires.timely (c.enter.ensures.row h) s serves)

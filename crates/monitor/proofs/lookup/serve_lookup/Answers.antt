@@ -17,35 +17,33 @@ pub lookup-requires-clause-few : goal.lookup-requires-clause-few
 lookup-requires-clause-few g c = few_readers c.args.volume.now.core.live c.requires.ready.jobs
     c.requires.ready.among.reading
 
-pub returns : goal.returns
-returns g c = record {
-  serving = λ moment timely jobs n among.
-      let state = g.D.Disk.state in
-      let old = c.args.volume.now in
-      let new = c.lookup.new.volume in
-      let map = old.core in
-      let map' = new.core in
-      let job = c.args.job.now in
-      let job' = c.lookup.new.job in
-      let jobs' = slice_set jobs n (Some job') in
-      let sound = subst (IsSoundCore (state old.disk) map) c.requires.ready.alive c.requires.ready.sound in
-      quiet_serves state g.met.D.Disk.only_now old.disk new.disk map map' old.failed new.failed job job'
-      (Lookup c.args.channel c.args.address) moment c.lookup.result c.requires.ready.alive c.lookup.ensures.untouched
-      (c.lookup.ensures.only.0, c.lookup.ensures.only.1)
-      (placed_still map map' c.lookup.ensures.pending c.lookup.ensures.known c.requires.ready.placed)
-      (λ light. c.lookup.ensures.only.2) (λ kept. absurd kept) (λ none. absurd (c.lookup.ensures.only.2 none))
-      c.lookup.ensures.refused
-      (λ is. ((c.lookup.ensures.kept (λ e. subst IsDecided e is)).0, c.lookup.ensures.decided is)) jobs n among
-      (lookup_keyed (state old.disk) (state new.disk) map map' jobs jobs' n job job' c.args.channel c.args.address
-      moment c.lookup.result among.there refl among.keyed among.reading c.lookup.ensures.pending c.lookup.ensures.reads
-      c.lookup.ensures.looked c.lookup.ensures.kept)
-      (lookup_reading (state old.disk) (state new.disk) map map' jobs jobs' n job job' c.args.channel c.args.address
-      moment c.lookup.result among.there refl among.keyed among.reading c.lookup.ensures.pending c.lookup.ensures.reads
-      c.lookup.ensures.looked c.lookup.ensures.kept)
-      (λ h s serves.
-      let was : (state old.disk).honest = subst (λ disk. (state disk).honest) c.lookup.ensures.untouched.0 h in
-      lookup_answered (state old.disk) (state new.disk) map map' jobs jobs' n job job' c.args.channel c.args.address
-      moment c.lookup.result among.there refl among.keyed among.reading c.lookup.ensures.pending c.lookup.ensures.reads
-      c.lookup.ensures.looked c.lookup.ensures.kept false refl sound h timely
-      (λ t is. known (state old.disk) map jobs t is sound was) (c.lookup.ensures.row h) s serves);
-}
+pub returns-clause-serving : goal.returns-clause-serving
+returns-clause-serving g c = λ moment timely jobs n among.
+    let state = g.D.Disk.state in
+    let old = c.args.volume.now in
+    let new = c.lookup.new.volume in
+    let map = old.core in
+    let map' = new.core in
+    let job = c.args.job.now in
+    let job' = c.lookup.new.job in
+    let jobs' = slice_set jobs n (Some job') in
+    let sound = subst (IsSoundCore (state old.disk) map) c.requires.ready.alive c.requires.ready.sound in
+    quiet_serves state g.met.D.Disk.only_now old.disk new.disk map map' old.failed new.failed job job'
+    (Lookup c.args.channel c.args.address) moment c.lookup.result c.requires.ready.alive c.lookup.ensures.untouched
+    (c.lookup.ensures.only.0, c.lookup.ensures.only.1)
+    (placed_still map map' c.lookup.ensures.pending c.lookup.ensures.known c.requires.ready.placed)
+    (λ light. c.lookup.ensures.only.2) (λ kept. absurd kept) (λ none. absurd (c.lookup.ensures.only.2 none))
+    c.lookup.ensures.refused
+    (λ is. ((c.lookup.ensures.kept (λ e. subst IsDecided e is)).0, c.lookup.ensures.decided is)) jobs n among
+    (lookup_keyed (state old.disk) (state new.disk) map map' jobs jobs' n job job' c.args.channel c.args.address
+    moment c.lookup.result among.there refl among.keyed among.reading c.lookup.ensures.pending c.lookup.ensures.reads
+    c.lookup.ensures.looked c.lookup.ensures.kept)
+    (lookup_reading (state old.disk) (state new.disk) map map' jobs jobs' n job job' c.args.channel c.args.address
+    moment c.lookup.result among.there refl among.keyed among.reading c.lookup.ensures.pending c.lookup.ensures.reads
+    c.lookup.ensures.looked c.lookup.ensures.kept)
+    (λ h s serves.
+    let was : (state old.disk).honest = subst (λ disk. (state disk).honest) c.lookup.ensures.untouched.0 h in
+    lookup_answered (state old.disk) (state new.disk) map map' jobs jobs' n job job' c.args.channel c.args.address
+    moment c.lookup.result among.there refl among.keyed among.reading c.lookup.ensures.pending c.lookup.ensures.reads
+    c.lookup.ensures.looked c.lookup.ensures.kept false refl sound was h timely
+    (λ t is. known (state old.disk) map jobs t is sound was) (c.lookup.ensures.row h) s serves)

@@ -23,64 +23,63 @@ pub read-requires-clause-live : goal.read-requires-clause-live
 read-requires-clause-live g c = job_live c.args.volume.now.core c.requires.ready.jobs c.requires.ready.number
     c.args.job.now c.requires.ready.among.keyed c.requires.ready.among.there
 
-pub returns : goal.returns
-returns g c = record {
-  serving = λ moment timely jobs n among.
-      let state = g.D.Disk.state in
-      let old = c.args.volume.now in
-      let new = c.read.new.volume in
-      let map = old.core in
-      let map' = new.core in
-      let job = c.args.job.now in
-      let job' = c.read.new.job in
-      let jobs' = slice_set jobs n (Some job') in
-      let core = c.read.ensures.core in
-      record {
-        keyed = λ serves. subst (λ m. AreKeyed m.pending jobs') (sym core)
-            (in_keyed (state old.disk) (state new.disk) map false jobs n c.args.channel c.args.address moment refl
-            timely among.keyed among.reading job job' among.there jobs' refl c.read.result c.read.ensures.outcome);
-        placed = λ serves. subst ArePlaced (sym core) c.requires.ready.placed;
-        reading = λ serves. subst (λ m. AreReading m.live jobs') (sym core)
-            (in_reading (state old.disk) (state new.disk) map false jobs n c.args.channel c.args.address moment refl
-            timely among.keyed among.reading job job' among.there jobs' refl c.read.result c.read.ensures.outcome);
-        others = λ m other. slot-set_other jobs n m (Some job') other;
-        answered = λ h.
-            in_answered (state old.disk) (state new.disk) map false jobs n c.args.channel c.args.address
-            moment refl timely among.keyed among.reading job job' among.there jobs' refl
-            h map' new.failed core (c.read.ensures.only_reads h) (c.read.ensures.rests h) c.read.result
-            c.read.ensures.outcome c.read.ensures.failed;
-        crash = quiet_crashes (state old.disk) (state new.disk) map jobs n (In c.args.channel c.args.address) moment
-            (λ h. quiet_read (state old.disk) (state new.disk) (c.read.ensures.only_reads h) (c.read.ensures.rests h)
-            (λ contents left. g.met.D.Disk.only_now old.disk contents (c.read.ensures.same.was_honest h) left));
-        idle = c.read.ensures.idle;
-        light = λ light. absurd light;
-        kept = λ kept. core;
-        memory = λ none.
-            let is = c.read.ensures.memory none in (
-              is.0,
-              core,
-              still_serves false new.failed c.read.result refl c.read.ensures.failed none,
-              unchanged jobs jobs' n job job' among.there refl is.1,
-            );
-        decided = λ decided. (
-          c.read.ensures.idle (decided_idle c.read.result decided),
-          core,
-          decided_serves false new.failed c.read.result refl c.read.ensures.failed decided,
-          unchanged jobs jobs' n job job' among.there refl
-              (in_decided (state old.disk) (state new.disk) map job job' c.args.channel c.args.address c.read.result
-              c.read.ensures.outcome decided),
-        );
-        refused = λ code is. record {
-          job = job;
-          there = among.there;
-          jobs_are = ap (λ j. slice_set jobs n (Some j))
-              (in_refused (state old.disk) (state new.disk) map job job' c.args.channel c.args.address code
-              c.read.result c.read.ensures.outcome is);
-        };
-        failed = c.read.ensures.failed;
-        blamed = c.read.ensures.blamed;
-        counted = c.read.ensures.counted;
-        served = c.read.ensures.served;
-        same = c.read.ensures.same;
+pub returns-clause-serving : goal.returns-clause-serving
+returns-clause-serving g c = λ moment timely jobs n among.
+    let state = g.D.Disk.state in
+    let old = c.args.volume.now in
+    let new = c.read.new.volume in
+    let map = old.core in
+    let map' = new.core in
+    let job = c.args.job.now in
+    let job' = c.read.new.job in
+    let jobs' = slice_set jobs n (Some job') in
+    let core = c.read.ensures.core in
+    record {
+      keyed = λ serves. subst (λ m. AreKeyed m.pending jobs') (sym core)
+          (in_keyed (state old.disk) (state new.disk) map false jobs n c.args.channel c.args.address moment refl
+          timely among.keyed among.reading job job' among.there jobs' refl c.read.result c.read.ensures.outcome);
+      placed = λ serves. subst ArePlaced (sym core) c.requires.ready.placed;
+      reading = λ serves. subst (λ m. AreReading m.live jobs') (sym core)
+          (in_reading (state old.disk) (state new.disk) map false jobs n c.args.channel c.args.address moment refl
+          timely among.keyed among.reading job job' among.there jobs' refl c.read.result c.read.ensures.outcome);
+      others = λ m other. slot-set_other jobs n m (Some job') other;
+      answered = λ h.
+          in_answered (state old.disk) (state new.disk) map false jobs n c.args.channel c.args.address
+          moment refl timely among.keyed among.reading job job' among.there jobs' refl
+          h (c.read.ensures.same.was_honest h) map' new.failed core (c.read.ensures.only_reads h)
+          (c.read.ensures.rests h) c.read.result
+          c.read.ensures.outcome c.read.ensures.failed;
+      crash = quiet_crashes (state old.disk) (state new.disk) map jobs n (In c.args.channel c.args.address) moment
+          (λ h. quiet_read (state old.disk) (state new.disk) (c.read.ensures.only_reads h) (c.read.ensures.rests h)
+          (λ contents left. g.met.D.Disk.only_now old.disk contents (c.read.ensures.same.was_honest h) left));
+      idle = c.read.ensures.idle;
+      light = λ light. absurd light;
+      kept = λ kept. core;
+      memory = λ none.
+          let is = c.read.ensures.memory none in (
+            is.0,
+            core,
+            still_serves false new.failed c.read.result refl c.read.ensures.failed none,
+            unchanged jobs jobs' n job job' among.there refl is.1,
+          );
+      decided = λ decided. (
+        c.read.ensures.idle (decided_idle c.read.result decided),
+        core,
+        decided_serves false new.failed c.read.result refl c.read.ensures.failed decided,
+        unchanged jobs jobs' n job job' among.there refl
+            (in_decided (state old.disk) (state new.disk) map job job' c.args.channel c.args.address c.read.result
+            c.read.ensures.outcome decided),
+      );
+      refused = λ code is. record {
+        job = job;
+        there = among.there;
+        jobs_are = ap (λ j. slice_set jobs n (Some j))
+            (in_refused (state old.disk) (state new.disk) map job job' c.args.channel c.args.address code
+            c.read.result c.read.ensures.outcome is);
       };
-}
+      failed = c.read.ensures.failed;
+      blamed = c.read.ensures.blamed;
+      counted = c.read.ensures.counted;
+      served = c.read.ensures.served;
+      same = c.read.ensures.same;
+    }

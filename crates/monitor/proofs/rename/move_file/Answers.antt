@@ -2,6 +2,7 @@ use Rattle.std.proofs.Common.{◌≤◌, ◌/◌, ◌^◌, refl, sym, ap, subst,
 use Rattle.std.specs.Prelude.{is_none}
 use Rattle.std.proofs.lemmas.Bool.{ne_eqb}
 use Rattle.meaning.specs.Codes.{number_of}
+use Rattle.meaning.specs.Layouts.{pack_of}
 use Rattle.meaning.specs.Looking.{place_at}
 use Rattle.meaning.specs.Stands.{place_of}
 use Rattle.meaning.specs.declared.code.ErrorCode.TheVariants.{NoDirectory}
@@ -9,7 +10,6 @@ use Rattle.meaning.specs.declared.call.Call.TheVariants.{Rename}
 use Rattle.meaning.specs.declared.call.Reply.TheVariants as replies
 use Rattle.volume.specs.Rest.{IsSoundCore}
 use Rattle.monitor.specs.Changing.{changed_job, changed_reply}
-use Rattle.monitor.specs.Serving.{pack_one}
 use Rattle.monitor.specs.Sides.{job_of}
 use Rattle.monitor.proofs.Answering.{contrary}
 use Rattle.monitor.proofs.ChangeAnswers.{rename_stops}
@@ -34,24 +34,22 @@ pub refuse-requires : goal.refuse-requires
 refuse-requires g c = address_fits c.args.job.now.core c.args.address c.requires.inside
     (subst (λ n. n ≤ 0o400000) c.length-length.ensures.value c.length-length.ensures.most)
 
-pub returns-in-Err : goal.returns-in-Err
-returns-in-Err g c = record {
-  serving = λ moment timely jobs n among.
-      let volume = c.args.volume.now in
-      let job = c.args.job.now in
-      let input = c.args.input in
-      let d = g.D.Disk.state volume.disk in
-      let ready = c.requires.ready in
-      refusing_serves g.D.Disk.state g.met.D.Disk.only_now volume.disk volume.core volume.failed ready.alive job
-      c.args.number c.args.address c.args.channel input c.requires.there c.requires.side c.requires.free
-      c.requires.inside (subst (IsSoundCore d volume.core) ready.alive ready.sound) ready.placed c.in-Err.code
-      (λ h s known w. rename_stops s (job_of w job) c.args.address (place_of input.ppn input.file) (pack_one d)
-      (number_of c.in-Err.code) (c.in-Err.ensures.answered h ready.alive s known (job_of w job) c.args.address refl
-      (asks_for w job c.args.address (c.bits.result / 2 ^ 27)
-      c.requires.named (ap (λ x. x / 2 ^ 27) (c.bits.ensures.value ∙ c.word_at.ensures.value)))))
-      moment timely jobs n among (record job { core = c.refuse.new.core }) c.refuse.result
-      (ap (λ core. record job { core = core }) c.refuse.ensures.kept) c.refuse.ensures.answered;
-}
+pub returns-in-Err-clause-serving : goal.returns-in-Err-clause-serving
+returns-in-Err-clause-serving g c = λ moment timely jobs n among.
+    let volume = c.args.volume.now in
+    let job = c.args.job.now in
+    let input = c.args.input in
+    let d = g.D.Disk.state volume.disk in
+    let ready = c.requires.ready in
+    refusing_serves g.D.Disk.state g.met.D.Disk.only_now volume.disk volume.core volume.failed ready.alive job
+    c.args.number c.args.address c.args.channel input c.requires.there c.requires.side c.requires.free
+    c.requires.inside (subst (IsSoundCore d volume.core) ready.alive ready.sound) ready.placed c.in-Err.code
+    (λ h s known w. rename_stops s (job_of w job) c.args.address (place_of input.ppn input.file) (pack_of d)
+    (number_of c.in-Err.code) (c.in-Err.ensures.answered h ready.alive s known (job_of w job) c.args.address refl
+    (asks_for w job c.args.address (c.bits.result / 2 ^ 27)
+    c.requires.named (ap (λ x. x / 2 ^ 27) (c.bits.ensures.value ∙ c.word_at.ensures.value)))))
+    moment timely jobs n among (record job { core = c.refuse.new.core }) c.refuse.result
+    (ap (λ core. record job { core = core }) c.refuse.ensures.kept) c.refuse.ensures.answered
 
 pub owner_at-requires : goal.owner_at-requires
 owner_at-requires g c = address_within c.args.job.now.core c.args.address c.requires.inside
@@ -85,122 +83,116 @@ answer_change-requires-clause-held g c =
     (job_held volume.core.live ready.jobs ready.number job ready.among.reading ready.among.there))
     c.rename-changed.result
 
-pub returns-in_default-owner_at : goal.returns-in_default-owner_at
-returns-in_default-owner_at g c = record {
-  serving = λ moment timely jobs n among.
-      let volume = c.args.volume.now in
-      let job = c.args.job.now in
-      let input = c.args.input in
-      let d = g.D.Disk.state volume.disk in
-      let ready = c.requires.ready in
-      let sound = subst (IsSoundCore d volume.core) ready.alive ready.sound in
-      let moves = ne_eqb _ 0 c.requires.named in
-      refusing_serves g.D.Disk.state g.met.D.Disk.only_now volume.disk volume.core volume.failed ready.alive job
-      c.args.number c.args.address c.args.channel input c.requires.there c.requires.side c.requires.free
-      c.requires.inside sound ready.placed NoDirectory
-      (λ h s known w.
-      let e = c.args.address in
-      let place = place_at (job_of w job) e in
-      arrival_homeless (pack_one d) s (job_of w job) e (place_of input.ppn input.file) place refl moves
-      (c.in_default.ensures.answered h ready.alive s known (job_of w job) e refl
-      (asks_for w job e (c.bits.result / 2 ^ 27)
-      c.requires.named (ap (λ x. x / 2 ^ 27) (c.bits.ensures.value ∙ c.word_at.ensures.value))))
-      (ap is_none (no_directory d volume.core s known sound h place c.in_default-owner_at.ensures.none)))
-      moment timely jobs n among (record job { core = c.refuse-in_default-owner_at.new.core })
-      c.refuse-in_default-owner_at.result
-      (ap (λ core. record job { core = core }) c.refuse-in_default-owner_at.ensures.kept)
-      c.refuse-in_default-owner_at.ensures.answered;
-}
+pub returns-in_default-owner_at-clause-serving : goal.returns-in_default-owner_at-clause-serving
+returns-in_default-owner_at-clause-serving g c = λ moment timely jobs n among.
+    let volume = c.args.volume.now in
+    let job = c.args.job.now in
+    let input = c.args.input in
+    let d = g.D.Disk.state volume.disk in
+    let ready = c.requires.ready in
+    let sound = subst (IsSoundCore d volume.core) ready.alive ready.sound in
+    let moves = ne_eqb _ 0 c.requires.named in
+    refusing_serves g.D.Disk.state g.met.D.Disk.only_now volume.disk volume.core volume.failed ready.alive job
+    c.args.number c.args.address c.args.channel input c.requires.there c.requires.side c.requires.free
+    c.requires.inside sound ready.placed NoDirectory
+    (λ h s known w.
+    let e = c.args.address in
+    let place = place_at (job_of w job) e in
+    arrival_homeless (pack_of d) s (job_of w job) e (place_of input.ppn input.file) place refl moves
+    (c.in_default.ensures.answered h ready.alive s known (job_of w job) e refl
+    (asks_for w job e (c.bits.result / 2 ^ 27)
+    c.requires.named (ap (λ x. x / 2 ^ 27) (c.bits.ensures.value ∙ c.word_at.ensures.value))))
+    (ap is_none (no_directory d volume.core s known sound h place c.in_default-owner_at.ensures.none)))
+    moment timely jobs n among (record job { core = c.refuse-in_default-owner_at.new.core })
+    c.refuse-in_default-owner_at.result
+    (ap (λ core. record job { core = core }) c.refuse-in_default-owner_at.ensures.kept)
+    c.refuse-in_default-owner_at.ensures.answered
 
-pub returns-in-Err-may_come : goal.returns-in-Err-may_come
-returns-in-Err-may_come g c = record {
-  serving = λ moment timely jobs n among.
-      let volume = c.args.volume.now in
-      let job = c.args.job.now in
-      let input = c.args.input in
-      let d = g.D.Disk.state volume.disk in
-      let ready = c.requires.ready in
-      let sound = subst (IsSoundCore d volume.core) ready.alive ready.sound in
-      let moves = ne_eqb _ 0 c.requires.named in
-      let name = c.name_at-name.result in
-      refusing_serves g.D.Disk.state g.met.D.Disk.only_now volume.disk volume.core volume.failed ready.alive job
-      c.args.number c.args.address c.args.channel input c.requires.there c.requires.side c.requires.free
-      c.requires.inside sound ready.placed c.in-Err-may_come.code
-      (λ h s known w.
-      let e = c.args.address in
-      arrival_refused (pack_one d) s (job_of w job) e (place_of input.ppn input.file) (place_of c.in-Some.ppn name)
-      (at_place w job e c.in-Some.ppn name c.in-Some.ensures.there c.name_at-name.ensures.0 c.name_at-name.ensures.1)
-      moves (c.in_default.ensures.answered h ready.alive s known (job_of w job) e refl
-      (asks_for w job e (c.bits.result / 2 ^ 27)
-      c.requires.named (ap (λ x. x / 2 ^ 27) (c.bits.ensures.value ∙ c.word_at.ensures.value))))
-      (replies.Refused (number_of c.in-Err-may_come.code))
-      (c.in-Err-may_come.ensures.answered h ready.alive s known (job_of w job) refl) (λ is. cc is))
-      moment timely jobs n among (record job { core = c.refuse-in-Err-may_come.new.core })
-      c.refuse-in-Err-may_come.result
-      (ap (λ core. record job { core = core }) c.refuse-in-Err-may_come.ensures.kept)
-      c.refuse-in-Err-may_come.ensures.answered;
-}
+pub returns-in-Err-may_come-clause-serving : goal.returns-in-Err-may_come-clause-serving
+returns-in-Err-may_come-clause-serving g c = λ moment timely jobs n among.
+    let volume = c.args.volume.now in
+    let job = c.args.job.now in
+    let input = c.args.input in
+    let d = g.D.Disk.state volume.disk in
+    let ready = c.requires.ready in
+    let sound = subst (IsSoundCore d volume.core) ready.alive ready.sound in
+    let moves = ne_eqb _ 0 c.requires.named in
+    let name = c.name_at-name.result in
+    refusing_serves g.D.Disk.state g.met.D.Disk.only_now volume.disk volume.core volume.failed ready.alive job
+    c.args.number c.args.address c.args.channel input c.requires.there c.requires.side c.requires.free
+    c.requires.inside sound ready.placed c.in-Err-may_come.code
+    (λ h s known w.
+    let e = c.args.address in
+    arrival_refused (pack_of d) s (job_of w job) e (place_of input.ppn input.file) (place_of c.in-Some.ppn name)
+    (at_place w job e c.in-Some.ppn name c.in-Some.ensures.there c.name_at-name.ensures.0 c.name_at-name.ensures.1)
+    moves (c.in_default.ensures.answered h ready.alive s known (job_of w job) e refl
+    (asks_for w job e (c.bits.result / 2 ^ 27)
+    c.requires.named (ap (λ x. x / 2 ^ 27) (c.bits.ensures.value ∙ c.word_at.ensures.value))))
+    (replies.Refused (number_of c.in-Err-may_come.code))
+    (c.in-Err-may_come.ensures.answered h ready.alive s known (job_of w job) refl) (λ is. cc is))
+    moment timely jobs n among (record job { core = c.refuse-in-Err-may_come.new.core })
+    c.refuse-in-Err-may_come.result
+    (ap (λ core. record job { core = core }) c.refuse-in-Err-may_come.ensures.kept)
+    c.refuse-in-Err-may_come.ensures.answered
 
-pub returns : goal.returns
-returns g c = record {
-  serving =
-      let volume = c.args.volume.now in
-      let job = c.args.job.now in
-      let input = c.args.input in
-      let state = g.D.Disk.state in
-      let d = state volume.disk in
-      let moved = c.rename-changed.new.self in
-      let after = c.answer_change.new in
-      let ready = c.requires.ready in
-      let facts = c.rename-changed.ensures in
-      let name = c.name_at-name.result in
-      let e = c.args.address in
-      let old = place_of input.ppn input.file in
-      let new = place_of c.in-Some.ppn name in
-      rename_serves state volume.disk moved.disk after.volume.disk volume.core after.volume.core after.volume.core
-      moved.failed after.volume.failed job after.job
-      (changed_job c.rename-changed.result job c.args.number e c.args.channel) (Rename c.args.number e)
-      c.answer_change.result (changed_reply c.rename-changed.result) (sym c.answer_change.ensures.untouched.0) refl
-      (sym c.answer_change.ensures.untouched.1) (sym c.answer_change.ensures.job) (sym c.answer_change.ensures.answered)
-      (move_serves state g.met.D.Disk.only_now volume.disk moved.disk volume.core moved.core moved.failed job
-      c.args.number e c.args.channel c.requires.there input c.requires.side c.requires.free c.requires.inside
-      c.requires.named (subst (IsSoundCore d volume.core) ready.alive ready.sound) ready.placed c.in-Some.ppn name
-      (c.bits.result / 2 ^ 27)
-      (λ w. at_place w job e c.in-Some.ppn name c.in-Some.ensures.there c.name_at-name.ensures.0
-      c.name_at-name.ensures.1)
-      (ap (λ x. x / 2 ^ 27) (c.bits.ensures.value ∙ c.word_at.ensures.value))
-      c.in_default.ensures.free
-      (λ apart. c.in_default-may_come.ensures.free (other_place new old apart))
-      (λ h s known w. c.in_default.ensures.answered h ready.alive s known (job_of w job) e refl
-      (asks_for w job e (c.bits.result / 2 ^ 27)
-      c.requires.named (ap (λ x. x / 2 ^ 27) (c.bits.ensures.value ∙ c.word_at.ensures.value))))
-      (λ h s known w. c.in_default-may_come.ensures.answered h ready.alive s known (job_of w job) refl)
-      c.rename-changed.result
-      (record {
-        crash = facts.crash;
-        done = facts.done;
-        within = λ same. on_ok c.rename-changed.result _ _
-            (λ found. (found.0, found.1, found.2, found.3, found.4, found.5)) (facts.within same);
-        across = λ other. on_ok c.rename-changed.result _ _
-            (λ found. (found.0, found.1, found.2, found.3, found.4, found.5)) (facts.across other);
-        readers = facts.readers;
-        writers = facts.writers;
-        answers = record {
-          no_directory = facts.no_directory ready.alive;
-          not_found = facts.not_found ready.alive;
-          exists = facts.exists ready.alive;
-          no_room = facts.no_room ready.alive;
-          codes = facts.codes;
-        };
-        refused = facts.refused;
-        memory = λ none. ((facts.memory none).1, (facts.memory none).2);
-        given_up = λ is. ⊎_elim (λ was. absurd (contrary ready.alive was)) (λ lies. lies) (facts.given_up is);
-        device = facts.device;
-        ended = facts.ended;
-        still = λ device failed. facts.still device failed ∙ ready.alive;
-        counted = facts.counted;
-        served = facts.served;
-        same = facts.same;
-      })
-      after.volume.core c.answer_change.ensures.closed);
-}
+pub returns-clause-serving : goal.returns-clause-serving
+returns-clause-serving g c =
+    let volume = c.args.volume.now in
+    let job = c.args.job.now in
+    let input = c.args.input in
+    let state = g.D.Disk.state in
+    let d = state volume.disk in
+    let moved = c.rename-changed.new.self in
+    let after = c.answer_change.new in
+    let ready = c.requires.ready in
+    let facts = c.rename-changed.ensures in
+    let name = c.name_at-name.result in
+    let e = c.args.address in
+    let old = place_of input.ppn input.file in
+    let new = place_of c.in-Some.ppn name in
+    rename_serves state volume.disk moved.disk after.volume.disk volume.core after.volume.core after.volume.core
+    moved.failed after.volume.failed job after.job
+    (changed_job c.rename-changed.result job c.args.number e c.args.channel) (Rename c.args.number e)
+    c.answer_change.result (changed_reply c.rename-changed.result) (sym c.answer_change.ensures.untouched.0) refl
+    (sym c.answer_change.ensures.untouched.1) (sym c.answer_change.ensures.job) (sym c.answer_change.ensures.answered)
+    (move_serves state g.met.D.Disk.only_now volume.disk moved.disk volume.core moved.core moved.failed job
+    c.args.number e c.args.channel c.requires.there input c.requires.side c.requires.free c.requires.inside
+    c.requires.named (subst (IsSoundCore d volume.core) ready.alive ready.sound) ready.placed c.in-Some.ppn name
+    (c.bits.result / 2 ^ 27)
+    (λ w. at_place w job e c.in-Some.ppn name c.in-Some.ensures.there c.name_at-name.ensures.0
+    c.name_at-name.ensures.1)
+    (ap (λ x. x / 2 ^ 27) (c.bits.ensures.value ∙ c.word_at.ensures.value))
+    c.in_default.ensures.free
+    (λ apart. c.in_default-may_come.ensures.free (other_place new old apart))
+    (λ h s known w. c.in_default.ensures.answered h ready.alive s known (job_of w job) e refl
+    (asks_for w job e (c.bits.result / 2 ^ 27)
+    c.requires.named (ap (λ x. x / 2 ^ 27) (c.bits.ensures.value ∙ c.word_at.ensures.value))))
+    (λ h s known w. c.in_default-may_come.ensures.answered h ready.alive s known (job_of w job) refl)
+    c.rename-changed.result
+    (record {
+      crash = facts.crash;
+      done = facts.done;
+      within = λ same. on_ok c.rename-changed.result _ _
+          (λ found. (found.0, found.1, found.2, found.3, found.4, found.5)) (facts.within same);
+      across = λ other. on_ok c.rename-changed.result _ _
+          (λ found. (found.0, found.1, found.2, found.3, found.4, found.5)) (facts.across other);
+      readers = facts.readers;
+      writers = facts.writers;
+      answers = record {
+        no_directory = facts.no_directory ready.alive;
+        not_found = facts.not_found ready.alive;
+        exists = facts.exists ready.alive;
+        no_room = facts.no_room ready.alive;
+        codes = facts.codes;
+      };
+      refused = facts.refused;
+      memory = λ none. ((facts.memory none).1, (facts.memory none).2);
+      given_up = λ is. ⊎_elim (λ was. absurd (contrary ready.alive was)) (λ lies. lies) (facts.given_up is);
+      device = facts.device;
+      ended = facts.ended;
+      still = λ device failed. facts.still device failed ∙ ready.alive;
+      counted = facts.counted;
+      served = facts.served;
+      same = facts.same;
+    })
+    after.volume.core c.answer_change.ensures.closed)

@@ -1,7 +1,7 @@
 use Rattle.std.proofs.Common.{◌≤◌, refl, ap, subst}
 use Rattle.meaning.specs.Codes.{number_of}
+use Rattle.meaning.specs.Layouts.{pack_of}
 use Rattle.volume.specs.Rest.{IsSoundCore}
-use Rattle.monitor.specs.Serving.{pack_one}
 use Rattle.monitor.specs.Sides.{job_of}
 use Rattle.meaning.specs.Stands.{place_of}
 use Rattle.monitor.proofs.ChangeAnswers.{rename_stops}
@@ -15,23 +15,21 @@ pub refuse-requires : goal.refuse-requires
 refuse-requires g c = address_fits c.args.job.now.core c.args.address c.requires.inside
     (subst (λ n. n ≤ 0o400000) c.length-length.ensures.value c.length-length.ensures.most)
 
-pub returns-in-Err : goal.returns-in-Err
-returns-in-Err g c = record {
-  serving = λ moment timely jobs n among.
-      let volume = c.args.volume.now in
-      let job = c.args.job.now in
-      let input = c.args.input in
-      let d = g.D.Disk.state volume.disk in
-      let ready = c.requires.ready in
-      refusing_serves g.D.Disk.state g.met.D.Disk.only_now volume.disk volume.core volume.failed ready.alive job
-      c.args.number c.args.address c.args.channel input c.requires.there c.requires.side c.requires.free
-      c.requires.inside (subst (IsSoundCore d volume.core) ready.alive ready.sound) ready.placed c.in-Err.code
-      (λ h s known w. rename_stops s (job_of w job) c.args.address (place_of input.ppn input.file) (pack_one d)
-      (number_of c.in-Err.code) (c.in-Err.ensures.answered h ready.alive s known (job_of w job) c.args.address refl
-      (asks_none w job c.args.address c.requires.deletes)))
-      moment timely jobs n among (record job { core = c.refuse.new.core }) c.refuse.result
-      (ap (λ core. record job { core = core }) c.refuse.ensures.kept) c.refuse.ensures.answered;
-}
+pub returns-in-Err-clause-serving : goal.returns-in-Err-clause-serving
+returns-in-Err-clause-serving g c = λ moment timely jobs n among.
+    let volume = c.args.volume.now in
+    let job = c.args.job.now in
+    let input = c.args.input in
+    let d = g.D.Disk.state volume.disk in
+    let ready = c.requires.ready in
+    refusing_serves g.D.Disk.state g.met.D.Disk.only_now volume.disk volume.core volume.failed ready.alive job
+    c.args.number c.args.address c.args.channel input c.requires.there c.requires.side c.requires.free
+    c.requires.inside (subst (IsSoundCore d volume.core) ready.alive ready.sound) ready.placed c.in-Err.code
+    (λ h s known w. rename_stops s (job_of w job) c.args.address (place_of input.ppn input.file) (pack_of d)
+    (number_of c.in-Err.code) (c.in-Err.ensures.answered h ready.alive s known (job_of w job) c.args.address refl
+    (asks_none w job c.args.address c.requires.deletes)))
+    moment timely jobs n among (record job { core = c.refuse.new.core }) c.refuse.result
+    (ap (λ core. record job { core = core }) c.refuse.ensures.kept) c.refuse.ensures.answered
 
 pub answer_change-requires-clause-inside : goal.answer_change-requires-clause-inside
 answer_change-requires-clause-inside g c = address_fits c.args.job.now.core c.args.address c.requires.inside
@@ -49,43 +47,41 @@ answer_change-requires-clause-held g c =
     (job_held volume.core.live ready.jobs ready.number job ready.among.reading ready.among.there))
     c.delete-changed.result
 
-pub returns : goal.returns
-returns g c = record {
-  serving = λ moment timely jobs n among.
-      let volume = c.args.volume.now in
-      let job = c.args.job.now in
-      let input = c.args.input in
-      let d = g.D.Disk.state volume.disk in
-      let deleted = c.delete-changed.new.self in
-      let after = c.answer_change.new in
-      let ready = c.requires.ready in
-      let facts = c.delete-changed.ensures in
-      deleting_serves g.D.Disk.state g.met.D.Disk.only_now volume.disk deleted.disk volume.core deleted.core
-      after.volume.core volume.failed deleted.failed ready.alive job c.args.number c.args.address c.args.channel input
-      c.requires.there c.requires.side c.requires.free c.requires.inside c.requires.deletes
-      (subst (IsSoundCore d volume.core) ready.alive ready.sound) ready.placed c.in_default.ensures.free
-      (λ h s known w. c.in_default.ensures.answered h ready.alive s known (job_of w job) c.args.address refl
-      (asks_none w job c.args.address c.requires.deletes))
-      c.delete-changed.result
-      (record {
-        crash = facts.crash;
-        done = facts.done;
-        removed = facts.removed;
-        readers = facts.readers;
-        writers = facts.writers;
-        refused = facts.refused;
-        given_up = facts.given_up;
-        no_directory = facts.no_directory;
-        not_found = facts.not_found;
-        codes = facts.codes;
-        memory = facts.memory;
-        device = facts.device;
-        counted = facts.counted;
-        served = facts.served;
-        still = facts.still;
-        same = facts.same;
-      })
-      moment timely jobs n among after.volume.disk after.volume.failed after.job c.answer_change.result
-      c.answer_change.ensures.untouched c.answer_change.ensures.closed c.answer_change.ensures.answered
-      c.answer_change.ensures.job;
-}
+pub returns-clause-serving : goal.returns-clause-serving
+returns-clause-serving g c = λ moment timely jobs n among.
+    let volume = c.args.volume.now in
+    let job = c.args.job.now in
+    let input = c.args.input in
+    let d = g.D.Disk.state volume.disk in
+    let deleted = c.delete-changed.new.self in
+    let after = c.answer_change.new in
+    let ready = c.requires.ready in
+    let facts = c.delete-changed.ensures in
+    deleting_serves g.D.Disk.state g.met.D.Disk.only_now volume.disk deleted.disk volume.core deleted.core
+    after.volume.core volume.failed deleted.failed ready.alive job c.args.number c.args.address c.args.channel input
+    c.requires.there c.requires.side c.requires.free c.requires.inside c.requires.deletes
+    (subst (IsSoundCore d volume.core) ready.alive ready.sound) ready.placed c.in_default.ensures.free
+    (λ h s known w. c.in_default.ensures.answered h ready.alive s known (job_of w job) c.args.address refl
+    (asks_none w job c.args.address c.requires.deletes))
+    c.delete-changed.result
+    (record {
+      crash = facts.crash;
+      done = facts.done;
+      removed = facts.removed;
+      readers = facts.readers;
+      writers = facts.writers;
+      refused = facts.refused;
+      given_up = facts.given_up;
+      no_directory = facts.no_directory;
+      not_found = facts.not_found;
+      codes = facts.codes;
+      memory = facts.memory;
+      device = facts.device;
+      counted = facts.counted;
+      served = facts.served;
+      still = facts.still;
+      same = facts.same;
+    })
+    moment timely jobs n among after.volume.disk after.volume.failed after.job c.answer_change.result
+    c.answer_change.ensures.untouched c.answer_change.ensures.closed c.answer_change.ensures.answered
+    c.answer_change.ensures.job

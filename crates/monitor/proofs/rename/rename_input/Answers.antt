@@ -10,31 +10,27 @@ use Rattle.monitor.proofs.RenameRefusals.{out_of_order}
 use Rattle.monitor.proofs.RenameRows.{rename_writing}
 use Rattle.monitor.proofs.rename.rename_input.Goals as goal
 
-pub returns-then-lies_outside : goal.returns-then-lies_outside
-returns-then-lies_outside g c = record {
-  serving = λ moment timely.
-      let volume = c.args.volume.now in
-      let job = c.args.job.now in
-      let ready = c.requires.ready in
-      alone_serves g.D.Disk.state g.met.D.Disk.only_now volume.disk volume.core volume.failed job job
-      (Rename c.args.number c.args.address) moment AddressCheck ready.alive ready.placed timely
-      (rename_outside job c.args.number c.args.address c.args.channel c.requires.there
-      (sym c.lies_outside.ensures.value ∙ c.if-lies_outside.true))
-      (λ pending. keeps_same pending job) (λ live. reading_core live job job.core) (λ x. cc x, λ x. cc x, λ x. cc x)
-      (λ code x. cc x) (λ is. refl);
-}
+pub returns-then-lies_outside-clause-serving : goal.returns-then-lies_outside-clause-serving
+returns-then-lies_outside-clause-serving g c = λ moment timely.
+    let volume = c.args.volume.now in
+    let job = c.args.job.now in
+    let ready = c.requires.ready in
+    alone_serves g.D.Disk.state g.met.D.Disk.only_now volume.disk volume.core volume.failed job job
+    (Rename c.args.number c.args.address) moment AddressCheck ready.alive ready.placed timely
+    (rename_outside job c.args.number c.args.address c.args.channel c.requires.there
+    (sym c.lies_outside.ensures.value ∙ c.if-lies_outside.true))
+    (λ pending. keeps_same pending job) (λ live. reading_core live job job.core) (λ x. cc x, λ x. cc x, λ x. cc x)
+    (λ code x. cc x) (λ is. refl)
 
-pub returns-then-is_some : goal.returns-then-is_some
-returns-then-is_some g c = record {
-  serving = λ moment timely.
-      let volume = c.args.volume.now in
-      let job = c.args.job.now in
-      let ready = c.requires.ready in
-      let writes = some_is c.args.channel.output (sym c.is_some.ensures ∙ c.if-is_some.true) in
-      out_of_order g.D.Disk.state g.met.D.Disk.only_now volume.disk volume.core volume.failed job
-      (record job { core = c.refuse.new.core }) c.args.number c.args.address moment c.refuse.result ready.alive
-      ready.placed timely
-      (rename_writing job c.args.number c.args.address c.args.channel c.requires.there writes.0 writes.1
-      (sym c.lies_outside.ensures.value ∙ c.if-lies_outside.false))
-      (ap (λ core. record job { core = core }) c.refuse.ensures.kept) c.refuse.ensures.answered;
-}
+pub returns-then-is_some-clause-serving : goal.returns-then-is_some-clause-serving
+returns-then-is_some-clause-serving g c = λ moment timely.
+    let volume = c.args.volume.now in
+    let job = c.args.job.now in
+    let ready = c.requires.ready in
+    let writes = some_is c.args.channel.output (sym c.is_some.ensures ∙ c.if-is_some.true) in
+    out_of_order g.D.Disk.state g.met.D.Disk.only_now volume.disk volume.core volume.failed job
+    (record job { core = c.refuse.new.core }) c.args.number c.args.address moment c.refuse.result ready.alive
+    ready.placed timely
+    (rename_writing job c.args.number c.args.address c.args.channel c.requires.there writes.0 writes.1
+    (sym c.lies_outside.ensures.value ∙ c.if-lies_outside.false))
+    (ap (λ core. record job { core = core }) c.refuse.ensures.kept) c.refuse.ensures.answered

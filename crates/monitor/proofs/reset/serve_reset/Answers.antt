@@ -1,5 +1,6 @@
 use Rattle.std.proofs.Common.{◌≡◌, false, Some, refl, sym, subst, ap, slice_set}
 use Rattle.meaning.specs.Jobs.{slot}
+use Rattle.meaning.specs.Layouts.{pack_of}
 use Rattle.meaning.specs.declared.call.Call.TheVariants.{Reset}
 use Rattle.meaning.specs.declared.call.Reply.TheVariants.{Done}
 use Rattle.monitor.specs.Sides.{sides_in, readers_in, keys_of, pins_of, reset_job}
@@ -11,7 +12,6 @@ use Rattle.monitor.proofs.Placing.{placed_left}
 use Rattle.monitor.proofs.Promised.{quiet_serves}
 use Rattle.monitor.proofs.ReadingJobs.{job_held, closed_reading, bare_readers}
 use Rattle.monitor.proofs.Resetting.{reset_row}
-use Rattle.monitor.specs.Serving.{pack_one}
 use Rattle.meaning.specs.declared.call.Event.TheVariants.{Call as Calls}
 use Rattle.monitor.proofs.reset.serve_reset.Goals as goal
 
@@ -23,32 +23,32 @@ pub close_channels-requires-clause-held : goal.close_channels-requires-clause-he
 close_channels-requires-clause-held g c = job_held c.args.volume.now.core.live c.requires.ready.jobs
     c.requires.ready.number c.args.job.now c.requires.ready.among.reading c.requires.ready.among.there
 
-pub returns : goal.returns
-returns g c = record {
-  serving = λ moment timely jobs n among.
-      let state = g.D.Disk.state in
-      let old = c.args.volume.now in
-      let new = c.close_channels.new.volume in
-      let map = old.core in
-      let map' = new.core in
-      let job = c.args.job.now in
-      let job' = c.reset.new.self in
-      let jobs' = slice_set jobs n (Some job') in
-      let is : job' ≡ reset_job job = c.reset.ensures in
-      let closed : Closes map map' (keys_of (sides_in (slot jobs n))) (pins_of (readers_in (slot jobs n))) =
-      subst (λ o. Closes map map' (keys_of (sides_in o)) (pins_of (readers_in o)))
-      (sym among.there) c.close_channels.ensures.closed in
-      let keyed = closed_keyed map map' _ jobs n (Some job') among.keyed closed (ap (λ j. sides_in (Some j)) is) in
-      let reading = closed_reading map map' _ jobs n job' among.reading closed (ap (λ j. readers_in (Some j)) is)
-      (bare_readers job' (ap (λ (j : Job). j.channels) is)) in
-      quiet_serves state g.met.D.Disk.only_now old.disk new.disk map map' old.failed new.failed job job'
-      Reset moment Done c.requires.ready.alive c.close_channels.ensures.untouched
-      (λ e. cc e, λ e. cc e) (placed_left map map' c.close_channels.ensures.closed.leaves c.requires.ready.placed)
-      (λ light e. cc e) (λ kept. absurd kept) (λ e. cc e)
-      (λ code e. cc e) (λ is. absurd is) jobs n among keyed reading
-      (λ h s serves.
-      row (state old.disk) map map' false jobs jobs' keyed reading c.close_channels.ensures.closed.leaves
-      (pack_one (state old.disk)) (Calls n Reset moment) Done
-      (reset_row (state old.disk) jobs jobs' n moment timely (job, among.there, ap (λ j. slice_set jobs n (Some j)) is))
-      refl s serves);
-}
+pub returns-clause-serving : goal.returns-clause-serving
+returns-clause-serving g c = λ moment timely jobs n among.
+    let state = g.D.Disk.state in
+    let old = c.args.volume.now in
+    let new = c.close_channels.new.volume in
+    let map = old.core in
+    let map' = new.core in
+    let job = c.args.job.now in
+    let job' = c.reset.new.self in
+    let jobs' = slice_set jobs n (Some job') in
+    let is : job' ≡ reset_job job = c.reset.ensures in
+    let closed : Closes map map' (keys_of (sides_in (slot jobs n))) (pins_of (readers_in (slot jobs n))) =
+    subst (λ o. Closes map map' (keys_of (sides_in o)) (pins_of (readers_in o)))
+    (sym among.there) c.close_channels.ensures.closed in
+    let keyed = closed_keyed map map' _ jobs n (Some job') among.keyed closed (ap (λ j. sides_in (Some j)) is) in
+    let reading = closed_reading map map' _ jobs n job' among.reading closed (ap (λ j. readers_in (Some j)) is)
+    (bare_readers job' (ap (λ (j : Job). j.channels) is)) in
+    quiet_serves state g.met.D.Disk.only_now old.disk new.disk map map' old.failed new.failed job job'
+    Reset moment Done c.requires.ready.alive c.close_channels.ensures.untouched
+    (λ e. cc e, λ e. cc e) (placed_left map map' c.close_channels.ensures.closed.leaves c.requires.ready.placed)
+    (λ light e. cc e) (λ kept. absurd kept) (λ e. cc e)
+    (λ code e. cc e) (λ is. absurd is) jobs n among keyed reading
+    (λ h s serves.
+    row (state old.disk) map map' false jobs jobs' keyed reading c.close_channels.ensures.closed.leaves
+    (pack_of (state old.disk)) (Calls n Reset moment) Done
+    (reset_row (pack_of (state old.disk)) jobs jobs' n moment
+    (timely (subst (λ x. (state x).honest) c.close_channels.ensures.untouched.0 h))
+    (job, among.there, ap (λ j. slice_set jobs n (Some j)) is))
+    refl s serves)

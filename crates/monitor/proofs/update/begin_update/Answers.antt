@@ -2,6 +2,7 @@ use Rattle.std.proofs.Common.{◌≡◌, ◌∙◌, ℕ, sym, subst, Ok, Err}
 use Rattle.std.specs.Prelude.{◌==◌}
 use Rattle.words36.specs.declared.names.FileName.{FileName}
 use Rattle.meaning.specs.Files.{Place}
+use Rattle.meaning.specs.Layouts.{pack_of}
 use Rattle.meaning.specs.Maps.{get}
 use Rattle.meaning.specs.Published.{without_serials}
 use Rattle.meaning.specs.Stands.{place_of}
@@ -10,7 +11,6 @@ use Rattle.volume.specs.Live.{pending_at}
 use Rattle.volume.specs.Pins.{BeginsWithFile}
 use Rattle.volume.specs.Rest.{IsSoundCore}
 use Rattle.monitor.specs.Finding.{IsAnswer}
-use Rattle.monitor.specs.Serving.{pack_one}
 use Rattle.monitor.specs.Sides.{job_of}
 use Rattle.monitor.specs.Updating.{allowed_update, update_answer_at}
 use Rattle.monitor.proofs.Answering.{contrary}
@@ -63,7 +63,7 @@ returns-in-Ok-begin-clause-answered g c h alive s known w =
     let ok : may d map s known sound was job.ppn (place_of input.ppn input.file) ≡ Ok c.in-Ok.kind =
     (λ i. allowed_update (sym (c.find-found.ensures was alive (without_serials s.files) known.files) i) job.ppn
     input.ppn (sym c.bits-is_zero.ensures.value i == 0) (sym c.is_claimed-claimed.ensures i)) ∙ sym c.in-Ok.ensures in
-    subst (λ (p : Place). update_answer_at (pack_one d) s (job_of w job) p ≡ Done) at
+    subst (λ (p : Place). update_answer_at (pack_of d) s (job_of w job) p ≡ Done) at
     (begun d map s known sound was w job (place_of prime.ppn prime.file) c.in-Ok.kind c.begin.result
     (subst (λ (p : Place). may d map s known sound was job.ppn p ≡ Ok c.in-Ok.kind) (sym at) ok)
     (λ D here file there. c.begin.ensures.full h alive (without_serials s.files) known.files with_file D here file
@@ -85,7 +85,7 @@ returns-in-Err-begin-clause-answered g c h alive s known w =
     let ok : may d map s known sound was job.ppn (place_of input.ppn input.file) ≡ Ok c.in-Ok.kind =
     (λ i. allowed_update (sym (c.find-found.ensures was alive (without_serials s.files) known.files) i) job.ppn
     input.ppn (sym c.bits-is_zero.ensures.value i == 0) (sym c.is_claimed-claimed.ensures i)) ∙ sym c.in-Ok.ensures in
-    subst (λ (p : Place). IsAnswer {X = ℕ} (Err c.in-Err-begin.error) (update_answer_at (pack_one d) s
+    subst (λ (p : Place). IsAnswer {X = ℕ} (Err c.in-Err-begin.error) (update_answer_at (pack_of d) s
     (job_of w job) p))
     at
     (not_begun d map s known sound was w job (place_of prime.ppn prime.file) c.in-Ok.kind c.begin.result

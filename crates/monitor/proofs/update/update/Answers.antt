@@ -9,6 +9,7 @@ use Rattle.meaning.specs.Published.{same_place}
 use Rattle.meaning.specs.Stands.{place_of}
 use Rattle.meaning.specs.declared.call.Reply.TheVariants.{Refused}
 use Rattle.meaning.proofs.SoundLaws.{same_place-equal}
+use Rattle.meaning.specs.Layouts.{pack_of}
 use Rattle.volume.specs.Beginning.{begun}
 use Rattle.volume.specs.Claims.{claims}
 use Rattle.volume.specs.Live.{IsWholeCore, slot as version_at}
@@ -19,7 +20,6 @@ use Rattle.volume.specs.Rest.{RestsAt}
 use Rattle.volume.proofs.PrimeBlocks.{begun_named}
 use Rattle.monitor.specs.Finding.{IsAnswer, file_begun}
 use Rattle.monitor.specs.Rows.{KeepsReading}
-use Rattle.monitor.specs.Serving.{pack_one}
 use Rattle.monitor.specs.Sides.{readers_in, pins_of, job_of}
 use Rattle.monitor.specs.Readers.{readers_of}
 use Rattle.monitor.specs.Updating.{update_answer_at, updating_side}
@@ -70,7 +70,7 @@ returns-in-Ok-clause-begun g c is =
     c.side_of-output.ensures version begins.4.here in
     let status = c.cleared.ensures.value in
     let core = c.put_attributes.ensures
-    ∙ ap (λ (p : Prime). with_attributes 1 c.args.job.now.core c.args.address (file_begun p)) prime in (
+    ∙ ap (λ (p : Prime). with_attributes 2 c.args.job.now.core c.args.address (file_begun p)) prime in (
       c.in-Ok.pending.key,
       record {
         there = c.requires.there;
@@ -144,7 +144,7 @@ pub returns-then-is_some-clause-row : goal.returns-then-is_some-clause-row
 returns-then-is_some-clause-row g c h s known w =
     let place = place_of c.args.input.ppn c.args.input.file in
     let other = place_at (job_of w c.args.job.now) c.args.address in
-    out_of_order (pack_one (g.D.Disk.state c.args.volume.now.disk)) s w c.args.job.now c.args.number c.args.address
+    out_of_order (pack_of (g.D.Disk.state c.args.volume.now.disk)) s w c.args.job.now c.args.number c.args.address
     c.args.channel c.args.input c.requires.there (sym c.lies_outside.ensures.value ∙ c.if-lies_outside.false)
     c.requires.side c.refuse.new.core c.refuse.result
     (elim c.then-is_some.branch [
@@ -162,7 +162,7 @@ returns-in-Ok-clause-row g c h s known w =
     let free = sym c.is_some.ensures ∙ c.if-is_some.false in
     let place = place_of c.args.input.ppn c.args.input.file in
     let other = place_at (job_of w c.args.job.now) c.args.address in
-    done (pack_one (g.D.Disk.state c.args.volume.now.disk)) s w c.args.job.now c.args.number c.args.address
+    done (pack_of (g.D.Disk.state c.args.volume.now.disk)) s w c.args.job.now c.args.number c.args.address
     c.args.channel c.args.input c.requires.there (sym c.lies_outside.ensures.value ∙ c.if-lies_outside.false)
     c.requires.side (ap (λ t. t || not (same_place place other)) free ∙ ap not there)
     (same_place-equal place other there) (job_of w c.set_channel.new.self)
@@ -175,7 +175,7 @@ returns-in-Err-Refused-clause-row g c h s known w =
     let free = sym c.is_some.ensures ∙ c.if-is_some.false in
     let place = place_of c.args.input.ppn c.args.input.file in
     let other = place_at (job_of w c.args.job.now) c.args.address in
-    refused (pack_one (g.D.Disk.state c.args.volume.now.disk)) s w c.args.job.now c.args.number c.args.address
+    refused (pack_of (g.D.Disk.state c.args.volume.now.disk)) s w c.args.job.now c.args.number c.args.address
     c.args.channel c.args.input c.requires.there (sym c.lies_outside.ensures.value ∙ c.if-lies_outside.false)
     c.requires.side (ap (λ t. t || not (same_place place other)) free ∙ ap not there)
     (same_place-equal place other there) c.refuse-in-Err-Refused.new.core
@@ -183,7 +183,7 @@ returns-in-Err-Refused-clause-row g c h s known w =
     ∙ ap (λ x. Refused (number_of x)) c.in-Err-Refused.code-is)
     (c.refuse-in-Err-Refused.ensures.kept
     ∙ ap (λ x. with_right c.args.job.now.core (c.args.address + 1) (number_of x)) c.in-Err-Refused.code-is)
-    (subst (λ x. IsAnswer {X = ℕ} (Err x) (update_answer_at (pack_one (g.D.Disk.state c.args.volume.now.disk)) s
+    (subst (λ x. IsAnswer {X = ℕ} (Err x) (update_answer_at (pack_of (g.D.Disk.state c.args.volume.now.disk)) s
     (job_of w c.args.job.now) place)) c.in-Err-Refused.field-0-is
     (c.in-Err-Refused.ensures.answered h c.requires.alive s known w))
 
@@ -193,10 +193,10 @@ returns-in-Err-NoMemory-clause-row g c h s known w =
     let free = sym c.is_some.ensures ∙ c.if-is_some.false in
     let place = place_of c.args.input.ppn c.args.input.file in
     let other = place_at (job_of w c.args.job.now) c.args.address in
-    wanting (pack_one (g.D.Disk.state c.args.volume.now.disk)) s w c.args.job.now c.args.number c.args.address
+    wanting (pack_of (g.D.Disk.state c.args.volume.now.disk)) s w c.args.job.now c.args.number c.args.address
     c.args.channel c.args.input c.requires.there (sym c.lies_outside.ensures.value ∙ c.if-lies_outside.false)
     c.requires.side (ap (λ t. t || not (same_place place other)) free ∙ ap not there)
     (same_place-equal place other there)
-    (subst (λ x. IsAnswer {X = ℕ} (Err x) (update_answer_at (pack_one (g.D.Disk.state c.args.volume.now.disk)) s
+    (subst (λ x. IsAnswer {X = ℕ} (Err x) (update_answer_at (pack_of (g.D.Disk.state c.args.volume.now.disk)) s
     (job_of w c.args.job.now) place)) c.in-Err-NoMemory.field-0-is
     (c.in-Err-NoMemory.ensures.answered h c.requires.alive s known w))

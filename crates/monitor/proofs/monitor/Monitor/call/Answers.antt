@@ -1,24 +1,26 @@
-use Rattle.std.proofs.Common.{◌≡◌, ◌≤◌, ℕ, Some, refl, subst, ◌∙◌, sym}
+use Rattle.std.proofs.Common.{◌≡◌, ◌<◌, ◌≤◌, ◌+◌, ℕ, false, Some, refl, ap, subst, ◌∙◌, sym}
 use Rattle.meaning.specs.Jobs as machine
 use Rattle.meaning.specs.Jobs.{State, slot, job_at}
-use Rattle.meaning.specs.Layouts.{pack_of}
+use Rattle.meaning.specs.Layouts.{layout_number, pack_of}
+use Rattle.meaning.specs.Retrieval.{date_limit}
 use Rattle.meaning.specs.Runs.{Service, Serving, Answers}
+use Rattle.meaning.specs.Step.{last_date}
 use Rattle.meaning.specs.declared.call.Call.TheVariants.{In}
 use Rattle.meaning.specs.declared.call.Reply.TheVariants.{NoMemory, Device, Failed, DateRange, Refused}
 use Rattle.monitor.specs.Calls.{KeepsCore}
 use Rattle.blockdisk.specs.Disk.{LeavesOnly}
 use Rattle.meaning.specs.Crashes.{StandsForEither}
 use Rattle.meaning.specs.declared.call.Event.TheVariants.{Call as Calls}
-use Rattle.monitor.specs.Serving.{pack_one, Serves}
+use Rattle.monitor.specs.Serving.{Serves}
 use Rattle.monitor.proofs.Apart.{IsApart, IsStill, in_still, apart}
 use Rattle.monitor.proofs.EventCrashes.{untouched_event, call_event}
 use Rattle.monitor.proofs.Called.{called_late, all_same}
-use Rattle.monitor.proofs.ServedPacks.{led_here}
+use Rattle.monitor.proofs.Dates.{late_in, timely_in}
 use Rattle.monitor.specs.Refusals.{IsRefused}
 use Rattle.monitor.proofs.monitor.Monitor.call.Goals as goal
 
-pub returns-then-moment-gt-LAST_DATE-clause-answered : goal.returns-then-moment-gt-LAST_DATE-clause-answered
-returns-then-moment-gt-LAST_DATE-clause-answered g c =
+pub returns-then-moment-last_date-clause-answered : goal.returns-then-moment-last_date-clause-answered
+returns-then-moment-last_date-clause-answered g c =
     let d = g.D.Disk.state c.self.inside.volume.disk in
     let v = c.self.inside.volume in
     let alive = sym c.has_failed.ensures.value ∙ c.if-has_failed.false in
@@ -26,10 +28,11 @@ returns-then-moment-gt-LAST_DATE-clause-answered g c =
     old → (new : Service) × Serves (g.D.Disk.state m.disk) m.map m.failed m.jobs new
     × Answers (pack_of (g.D.Disk.state m.disk)) old (Calls c.args.job c.args.call.now c.args.moment) DateRange new)
     c.self.view_is
-    (λ h old serves. led_here d v.core v.failed c.self.inside.jobs (Serves d v.core v.failed c.self.inside.jobs)
-    (Calls c.args.job c.args.call.now c.args.moment) DateRange old serves
-    (called_late d v.core v.failed c.self.inside.jobs c.args.job c.args.call.now c.args.moment alive
-    c.if-moment-gt-LAST_DATE.true (c.self.invariant alive).0 (c.self.invariant alive).2 old serves))
+    (λ h old serves. called_late (pack_of d) d v.core v.failed c.self.inside.jobs c.args.job c.args.call.now
+    c.args.moment alive (late_in (pack_of d).layout c.last_date.result c.args.moment.date
+    (subst (λ (n : ℕ). c.last_date.result + 1 ≡ date_limit n) (c.layout-layout.ensures.disk h alive)
+    c.last_date.ensures) c.if-moment-last_date.true)
+    (c.self.invariant alive).0 (c.self.invariant alive).2 old serves)
 
 pub returns-clause-answered : goal.returns-clause-answered
 returns-clause-answered g c =
@@ -40,11 +43,8 @@ returns-clause-answered g c =
     old → (new : Service) × Serves (g.D.Disk.state w.disk) w.core w.failed c.serve.new.jobs new
     × Answers (pack_of (g.D.Disk.state m.disk)) old (Calls c.args.job c.args.call.now c.args.moment) c.serve.result new)
     c.self.view_is
-    (λ h old serves. led_here d v.core v.failed c.self.inside.jobs
-    (Serves (g.D.Disk.state w.disk) w.core w.failed c.serve.new.jobs)
-    (Calls c.args.job c.args.call.now c.args.moment) c.serve.result old serves
-    (c.serve.ensures.serving.answered h old (subst (λ b. Serves d v.core b c.self.inside.jobs old)
-    (sym c.has_failed.ensures.value ∙ c.if-has_failed.false) serves)))
+    (λ h old serves. c.serve.ensures.serving.answered h old (subst (λ b. Serves d v.core b c.self.inside.jobs old)
+    (sym c.has_failed.ensures.value ∙ c.if-has_failed.false) serves))
 
 pub returns-then-has_failed-clause-crash : goal.returns-then-has_failed-clause-crash
 returns-then-has_failed-clause-crash g c h s serves =
@@ -52,8 +52,8 @@ returns-then-has_failed-clause-crash g c h s serves =
     untouched_event g.D.Disk.state g.met.D.Disk.only_now m.disk m.disk refl m.map m.jobs
     (Calls c.args.job c.args.call.now c.args.moment) Failed h s serves.1
 
-pub returns-then-moment-gt-LAST_DATE-clause-crash : goal.returns-then-moment-gt-LAST_DATE-clause-crash
-returns-then-moment-gt-LAST_DATE-clause-crash g c h s serves =
+pub returns-then-moment-last_date-clause-crash : goal.returns-then-moment-last_date-clause-crash
+returns-then-moment-last_date-clause-crash g c h s serves =
     let m = c.args.self.now in
     untouched_event g.D.Disk.state g.met.D.Disk.only_now m.disk m.disk refl m.map m.jobs
     (Calls c.args.job c.args.call.now c.args.moment) DateRange h s serves.1
@@ -74,29 +74,35 @@ pub returns-clause-memory : goal.returns-clause-memory
 returns-clause-memory g c none =
     all_same c.serve.new.volume.disk c.self.inside.volume.disk c.serve.new.volume.core c.self.inside.volume.core
     c.serve.new.volume.failed c.self.inside.volume.failed (sym c.has_failed.ensures.value ∙ c.if-has_failed.false)
-    c.serve.new.jobs c.self.inside.jobs (c.serve.ensures.serving.memory none) ∙ c.self.view_is
+    c.serve.new.jobs c.self.inside.jobs c.serve.new.volume.layout c.self.inside.volume.layout c.serve.ensures.layout
+    (c.serve.ensures.serving.memory none) ∙ c.self.view_is
 
 pub returns-clause-decided : goal.returns-clause-decided
 returns-clause-decided g c decided =
     all_same c.serve.new.volume.disk c.self.inside.volume.disk c.serve.new.volume.core c.self.inside.volume.core
     c.serve.new.volume.failed c.self.inside.volume.failed (sym c.has_failed.ensures.value ∙ c.if-has_failed.false)
-    c.serve.new.jobs c.self.inside.jobs (c.serve.ensures.serving.decided decided) ∙ c.self.view_is
+    c.serve.new.jobs c.self.inside.jobs c.serve.new.volume.layout c.self.inside.volume.layout c.serve.ensures.layout
+    (c.serve.ensures.serving.decided decided) ∙ c.self.view_is
 
 pub returns-clause-still : goal.returns-clause-still
 returns-clause-still g c =
     let after = λ (new : Service). Serves (g.D.Disk.state c.serve.new.volume.disk) c.serve.new.volume.core
     c.serve.new.volume.failed c.serve.new.jobs new in
     subst (λ m. (g.D.Disk.state c.serve.new.volume.disk).honest → (channel address : ℕ)
-    → c.args.call.now ≡ In channel address → c.args.moment.date ≤ 4095 → (s : State)
+    → c.args.call.now ≡ In channel address → c.args.moment.date ≤ last_date (layout_number m.layout)
+    → (s : State)
     → Serves (g.D.Disk.state m.disk) m.map m.failed m.jobs (Serving s)
     → (own : machine.Job) → job_at s c.args.job ≡ Some own → (c.serve.result ≡ NoMemory → ⊥)
-    → (c.serve.result ≡ Device → ⊥) → IsStill after (pack_one (g.D.Disk.state m.disk)) s c.args.job c.args.moment
+    → (c.serve.result ≡ Device → ⊥) → IsStill after (pack_of (g.D.Disk.state m.disk)) s c.args.job c.args.moment
     c.serve.result own channel address) c.self.view_is
     (λ h channel address asked timely s serves own there room works.
     let d = g.D.Disk.state c.self.inside.volume.disk in
     let led = c.serve.ensures.serving.answered h (Serving s) (refl, serves.1) in
-    in_still after (pack_one d) s c.args.job c.args.moment c.serve.result own channel address c.args.call.now
-    asked there timely room works led.0 led.1 led.2)
+    in_still after (pack_of d) s c.args.job c.args.moment c.serve.result own channel address c.args.call.now
+    asked there (subst (λ (n : ℕ). c.args.moment.date ≤ last_date n)
+    (sym (ap layout_number c.layout-layout.ensures.value)
+    ∙ c.layout-layout.ensures.disk (c.serve.ensures.serving.same.was_honest h)
+    (sym c.has_failed.ensures.value ∙ c.if-has_failed.false)) timely) room works led.0 led.1 led.2)
 
 pub returns-clause-apart : goal.returns-clause-apart
 returns-clause-apart g c =
@@ -108,13 +114,11 @@ returns-clause-apart g c =
     c.self.view_is
     (λ h s serves.
     let d = g.D.Disk.state c.self.inside.volume.disk in
-    let led = led_here d c.self.inside.volume.core c.self.inside.volume.failed c.self.inside.jobs after
-    (Calls c.args.job c.args.call.now c.args.moment) c.serve.result (Serving s) serves
-    (c.serve.ensures.serving.answered h (Serving s) (refl, serves.1)) in
+    let led = c.serve.ensures.serving.answered h (Serving s) (refl, serves.1) in
     apart after (pack_of d) s c.args.job c.args.moment c.serve.result c.args.call.now led.0 led.1 led.2)
 
-pub returns-then-moment-gt-LAST_DATE-clause-apart : goal.returns-then-moment-gt-LAST_DATE-clause-apart
-returns-then-moment-gt-LAST_DATE-clause-apart g c =
+pub returns-then-moment-last_date-clause-apart : goal.returns-then-moment-last_date-clause-apart
+returns-then-moment-last_date-clause-apart g c =
     subst (λ m. (g.D.Disk.state m.disk).honest → (s : State)
     → Serves (g.D.Disk.state m.disk) m.map m.failed m.jobs (Serving s)
     → IsApart (Serves (g.D.Disk.state m.disk) m.map m.failed m.jobs) (pack_of (g.D.Disk.state m.disk))
@@ -123,10 +127,11 @@ returns-then-moment-gt-LAST_DATE-clause-apart g c =
     let m = c.self.inside in
     let d = g.D.Disk.state m.volume.disk in
     let alive = sym c.has_failed.ensures.value ∙ c.if-has_failed.false in
-    let led = led_here d m.volume.core m.volume.failed m.jobs (Serves d m.volume.core m.volume.failed m.jobs)
-    (Calls c.args.job c.args.call.now c.args.moment) DateRange (Serving s) serves
-    (called_late d m.volume.core m.volume.failed m.jobs c.args.job c.args.call.now c.args.moment alive
-    c.if-moment-gt-LAST_DATE.true (c.self.invariant alive).0 (c.self.invariant alive).2 (Serving s) serves) in
+    let led = called_late (pack_of d) d m.volume.core m.volume.failed m.jobs c.args.job c.args.call.now c.args.moment
+    alive (late_in (pack_of d).layout c.last_date.result c.args.moment.date
+    (subst (λ (n : ℕ). c.last_date.result + 1 ≡ date_limit n) (c.layout-layout.ensures.disk h alive)
+    c.last_date.ensures) c.if-moment-last_date.true)
+    (c.self.invariant alive).0 (c.self.invariant alive).2 (Serving s) serves in
     apart (Serves d m.volume.core m.volume.failed m.jobs) (pack_of d) s c.args.job c.args.moment DateRange
     c.args.call.now led.0 led.1 led.2)
 
@@ -138,3 +143,11 @@ returns-clause-refused g c =
 pub returns-clause-kept : goal.returns-clause-kept
 returns-clause-kept g c = subst (λ m. KeepsCore c.args.call.now
     → c.serve.new.volume.core ≡ m.map) c.self.view_is c.serve.ensures.serving.kept
+
+pub serve-requires-clause-timely : goal.serve-requires-clause-timely
+serve-requires-clause-timely g c h =
+    let d = g.D.Disk.state c.self.inside.volume.disk in
+    timely_in (pack_of d).layout c.last_date.result c.args.moment.date
+    (subst (λ (n : ℕ). c.last_date.result + 1 ≡ date_limit n)
+    (c.layout-layout.ensures.disk h (sym c.has_failed.ensures.value ∙ c.if-has_failed.false)) c.last_date.ensures)
+    c.if-moment-last_date.false

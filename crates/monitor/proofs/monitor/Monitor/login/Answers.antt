@@ -2,9 +2,8 @@ use Rattle.std.proofs.Common.{subst, sym, ◌∙◌}
 use Rattle.meaning.specs.Layouts.{pack_of}
 use Rattle.meaning.specs.Runs.{Service, Answers}
 use Rattle.meaning.specs.declared.call.Event.TheVariants.{Login}
-use Rattle.monitor.specs.Serving.{pack_one, Serves}
+use Rattle.monitor.specs.Serving.{Serves}
 use Rattle.monitor.proofs.Answering.{login_answered, on_disk}
-use Rattle.monitor.proofs.ServedPacks.{led_here}
 use Rattle.monitor.proofs.monitor.Monitor.login.Goals as goal
 
 pub returns-clause-answered : goal.returns-clause-answered
@@ -15,15 +14,12 @@ returns-clause-answered g c =
     c.log_in.new.volume.failed c.log_in.new.jobs new
     × Answers (pack_of (g.D.Disk.state m.disk)) old (Login c.args.job c.args.ppn c.args.words) c.log_in.result new)
     c.self.view_is
-    (λ old state. led_here d c.self.inside.volume.core c.self.inside.volume.failed c.self.inside.jobs
-    (Serves (g.D.Disk.state c.log_in.new.volume.disk) c.log_in.new.volume.core c.log_in.new.volume.failed
-    c.log_in.new.jobs) (Login c.args.job c.args.ppn c.args.words) c.log_in.result old state
-    (on_disk g.D.Disk.state c.self.inside.volume.disk c.log_in.new.volume.disk c.self.inside.volume.failed
+    (λ old state. on_disk g.D.Disk.state c.self.inside.volume.disk c.log_in.new.volume.disk c.self.inside.volume.failed
     c.log_in.new.volume.failed c.log_in.new.volume.core c.log_in.new.jobs
-    (Answers (pack_one d) old (Login c.args.job c.args.ppn c.args.words) c.log_in.result) c.log_in.ensures.untouched
-    (login_answered (pack_one d) d c.self.inside.volume.core c.log_in.new.volume.core c.self.inside.volume.failed
+    (Answers (pack_of d) old (Login c.args.job c.args.ppn c.args.words) c.log_in.result) c.log_in.ensures.untouched
+    (login_answered (pack_of d) d c.self.inside.volume.core c.log_in.new.volume.core c.self.inside.volume.failed
     c.self.inside.jobs c.log_in.new.jobs c.args.job c.args.ppn c.args.words c.log_in.result
     (sym c.has_failed.ensures.value ∙ c.if-has_failed.false) (c.self.invariant (sym c.has_failed.ensures.value
     ∙ c.if-has_failed.false)).0 c.log_in.ensures.keyed (c.self.invariant (sym c.has_failed.ensures.value
     ∙ c.if-has_failed.false)).2 c.log_in.ensures.reading c.log_in.ensures.leaves c.log_in.ensures.answered
-    c.log_in.ensures.done c.log_in.ensures.kept old state)))
+    c.log_in.ensures.done c.log_in.ensures.kept old state))

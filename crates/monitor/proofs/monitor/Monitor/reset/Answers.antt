@@ -1,73 +1,124 @@
-use Rattle.std.proofs.Common.{subst, sym, ◌∙◌}
-use Rattle.meaning.specs.Layouts.{pack_of}
+use Rattle.std.proofs.Common.{◌≡◌, ◌+◌, ℕ, refl, subst, sym, ◌∙◌}
+use Rattle.meaning.specs.Layouts.{layout_number, pack_in, pack_of}
+use Rattle.meaning.specs.Retrieval.{date_limit}
 use Rattle.meaning.specs.Runs.{Service, Answers}
 use Rattle.meaning.specs.declared.call.Call.TheVariants.{Reset}
 use Rattle.meaning.specs.declared.call.Event.TheVariants.{Call as Calls}
 use Rattle.meaning.specs.declared.call.Reply.TheVariants.{Done, NoJob, DateRange}
-use Rattle.monitor.specs.Serving.{pack_one, Serves, AreKeyed, AreReading}
-use Rattle.monitor.proofs.Answering.{row, late, no_job, on_disk}
+use Rattle.monitor.specs.Serving.{Serves}
+use Rattle.monitor.proofs.Answering.{late}
+use Rattle.monitor.proofs.Dates.{late_in, timely_in}
 use Rattle.monitor.proofs.Dropped.{leaves_none}
-use Rattle.monitor.proofs.Resetting.{reset_row}
-use Rattle.monitor.proofs.ServedPacks.{led_here}
+use Rattle.monitor.proofs.Resetting.{reset_row, nobody_row, reset_leads}
 use Rattle.monitor.proofs.monitor.Monitor.reset.Goals as goal
 
-pub returns-then-moment-gt-LAST_DATE-clause-answered : goal.returns-then-moment-gt-LAST_DATE-clause-answered
-returns-then-moment-gt-LAST_DATE-clause-answered g c =
-    let d = g.D.Disk.state c.self.inside.volume.disk in
-    let map = c.self.inside.volume.core in
-    subst (λ m. (old : Service) → Serves (g.D.Disk.state m.disk) m.map m.failed m.jobs old
-    → (new : Service) × Serves (g.D.Disk.state m.disk) m.map m.failed m.jobs new
-    × Answers (pack_of (g.D.Disk.state m.disk)) old (Calls c.args.job Reset c.args.moment) DateRange new) c.self.view_is
-    (λ old state. led_here d map c.self.inside.volume.failed c.self.inside.jobs
-    (Serves d map c.self.inside.volume.failed c.self.inside.jobs)
-    (Calls c.args.job Reset c.args.moment) DateRange old state
-    (row d map map c.self.inside.volume.failed c.self.inside.jobs c.self.inside.jobs
-    (c.self.invariant (sym c.has_failed.ensures.value ∙ c.if-has_failed.false)).0
-    (c.self.invariant (sym c.has_failed.ensures.value ∙ c.if-has_failed.false)).2 (leaves_none map) (pack_one d)
-    (Calls c.args.job Reset c.args.moment) DateRange
-    (λ serial files w. late d c.self.inside.jobs c.args.job Reset c.args.moment serial files w
-    c.if-moment-gt-LAST_DATE.true) (sym c.has_failed.ensures.value ∙ c.if-has_failed.false) old state))
+pub returns-then-moment-last_date-clause-answered : goal.returns-then-moment-last_date-clause-answered
+returns-then-moment-last_date-clause-answered g c =
+    let v = c.self.inside.volume in
+    let jobs = c.self.inside.jobs in
+    let alive = sym c.has_failed.ensures.value ∙ c.if-has_failed.false in
+    let state = g.D.Disk.state in
+    subst (λ m. (state m.disk).honest → (old : Service) → Serves (state m.disk) m.map m.failed m.jobs old
+    → (new : Service) × Serves (state m.disk) m.map m.failed m.jobs new
+    × Answers (pack_of (state m.disk)) old (Calls c.args.job Reset c.args.moment) DateRange new) c.self.view_is
+    (λ h. reset_leads state v.disk v.disk v.core v.core v.failed v.failed jobs jobs c.args.job c.args.moment alive
+    (refl, refl) (c.self.invariant alive).0 (c.self.invariant alive).2 (leaves_none v.core)
+    (pack_of (state v.disk)) DateRange
+    (λ serial files w. late (pack_of (state v.disk)) jobs c.args.job Reset c.args.moment serial files w
+    (late_in (pack_of (state v.disk)).layout c.last_date.result c.args.moment.date
+    (subst (λ (n : ℕ). c.last_date.result + 1 ≡ date_limit n) (c.layout-layout.ensures.disk h alive)
+    c.last_date.ensures) c.if-moment-last_date.true)))
+
+pub returns-then-moment-last_date-clause-in_layout : goal.returns-then-moment-last_date-clause-in_layout
+returns-then-moment-last_date-clause-in_layout g c =
+    let v = c.self.inside.volume in
+    let jobs = c.self.inside.jobs in
+    let alive = sym c.has_failed.ensures.value ∙ c.if-has_failed.false in
+    let state = g.D.Disk.state in
+    subst (λ m. (old : Service) → Serves (state m.disk) m.map m.failed m.jobs old
+    → (new : Service) × Serves (state m.disk) m.map m.failed m.jobs new
+    × Answers (pack_in (layout_number m.layout) (state m.disk).size) old
+    (Calls c.args.job Reset c.args.moment) DateRange new) c.self.view_is
+    (reset_leads state v.disk v.disk v.core v.core v.failed v.failed jobs jobs c.args.job c.args.moment alive
+    (refl, refl) (c.self.invariant alive).0 (c.self.invariant alive).2 (leaves_none v.core)
+    (pack_in (layout_number v.layout) (state v.disk).size) DateRange
+    (λ serial files w. late (pack_in (layout_number v.layout) (state v.disk).size) jobs c.args.job Reset c.args.moment
+    serial files w (late_in (layout_number v.layout) c.last_date.result c.args.moment.date
+    (subst (λ l. c.last_date.result + 1 ≡ date_limit (layout_number l)) c.layout-layout.ensures.value
+    c.last_date.ensures) c.if-moment-last_date.true)))
 
 pub returns-then-not-reset-clause-answered : goal.returns-then-not-reset-clause-answered
 returns-then-not-reset-clause-answered g c =
-    let d = g.D.Disk.state c.self.inside.volume.disk in
-    let map = c.self.inside.volume.core in
+    let v = c.self.inside.volume in
+    let new = c.reset.new.volume in
+    let jobs = c.self.inside.jobs in
+    let alive = sym c.has_failed.ensures.value ∙ c.if-has_failed.false in
+    let state = g.D.Disk.state in
     let none = c.reset.ensures.none c.if-not-reset.true in
-    subst (λ m. (old : Service) → Serves (g.D.Disk.state m.disk) m.map m.failed m.jobs old
-    → (new : Service) × Serves (g.D.Disk.state c.reset.new.volume.disk) c.reset.new.volume.core
-    c.reset.new.volume.failed c.reset.new.jobs new
-    × Answers (pack_of (g.D.Disk.state m.disk)) old (Calls c.args.job Reset c.args.moment) NoJob new) c.self.view_is
-    (λ old state. led_here d map c.self.inside.volume.failed c.self.inside.jobs
-    (Serves (g.D.Disk.state c.reset.new.volume.disk) c.reset.new.volume.core c.reset.new.volume.failed c.reset.new.jobs)
-    (Calls c.args.job Reset c.args.moment) NoJob old state
-    (on_disk g.D.Disk.state c.self.inside.volume.disk c.reset.new.volume.disk c.self.inside.volume.failed
-    c.reset.new.volume.failed c.reset.new.volume.core c.reset.new.jobs
-    (Answers (pack_one d) old (Calls c.args.job Reset c.args.moment) NoJob) c.reset.ensures.untouched
-    (subst (λ jobs. (new : Service) × Serves d c.reset.new.volume.core c.self.inside.volume.failed jobs new
-    × Answers (pack_one d) old (Calls c.args.job Reset c.args.moment) NoJob new) (sym none.1)
-    (row d map c.reset.new.volume.core c.self.inside.volume.failed c.self.inside.jobs c.self.inside.jobs
-    (subst (λ jobs. AreKeyed c.reset.new.volume.core.pending jobs) none.1 c.reset.ensures.keyed)
-    (subst (λ jobs. AreReading c.reset.new.volume.core.live jobs) none.1 c.reset.ensures.reading) c.reset.ensures.leaves
-    (pack_one d) (Calls c.args.job Reset c.args.moment) NoJob
-    (λ serial files w. no_job d c.self.inside.jobs c.args.job Reset c.args.moment serial files w
-    c.if-moment-gt-LAST_DATE.false none.0) (sym c.has_failed.ensures.value ∙ c.if-has_failed.false) old state))))
+    subst (λ m. (state m.disk).honest → (old : Service) → Serves (state m.disk) m.map m.failed m.jobs old
+    → (t : Service) × Serves (state new.disk) new.core new.failed c.reset.new.jobs t
+    × Answers (pack_of (state m.disk)) old (Calls c.args.job Reset c.args.moment) NoJob t) c.self.view_is
+    (λ h. reset_leads state v.disk new.disk v.core new.core v.failed new.failed jobs c.reset.new.jobs c.args.job
+    c.args.moment alive c.reset.ensures.untouched c.reset.ensures.keyed c.reset.ensures.reading c.reset.ensures.leaves
+    (pack_of (state v.disk)) NoJob
+    (nobody_row (pack_of (state v.disk)) jobs c.reset.new.jobs c.args.job c.args.moment
+    (timely_in (pack_of (state v.disk)).layout c.last_date.result c.args.moment.date
+    (subst (λ (n : ℕ). c.last_date.result + 1 ≡ date_limit n) (c.layout-layout.ensures.disk h alive)
+    c.last_date.ensures) c.if-moment-last_date.false) none.0 none.1))
+
+pub returns-then-not-reset-clause-in_layout : goal.returns-then-not-reset-clause-in_layout
+returns-then-not-reset-clause-in_layout g c =
+    let v = c.self.inside.volume in
+    let new = c.reset.new.volume in
+    let jobs = c.self.inside.jobs in
+    let alive = sym c.has_failed.ensures.value ∙ c.if-has_failed.false in
+    let state = g.D.Disk.state in
+    let none = c.reset.ensures.none c.if-not-reset.true in
+    subst (λ m. (old : Service) → Serves (state m.disk) m.map m.failed m.jobs old
+    → (t : Service) × Serves (state new.disk) new.core new.failed c.reset.new.jobs t
+    × Answers (pack_in (layout_number m.layout) (state m.disk).size) old
+    (Calls c.args.job Reset c.args.moment) NoJob t) c.self.view_is
+    (reset_leads state v.disk new.disk v.core new.core v.failed new.failed jobs c.reset.new.jobs c.args.job
+    c.args.moment alive c.reset.ensures.untouched c.reset.ensures.keyed c.reset.ensures.reading c.reset.ensures.leaves
+    (pack_in (layout_number v.layout) (state v.disk).size) NoJob
+    (nobody_row (pack_in (layout_number v.layout) (state v.disk).size) jobs c.reset.new.jobs c.args.job c.args.moment
+    (timely_in (layout_number v.layout) c.last_date.result c.args.moment.date
+    (subst (λ l. c.last_date.result + 1 ≡ date_limit (layout_number l)) c.layout-layout.ensures.value
+    c.last_date.ensures) c.if-moment-last_date.false) none.0 none.1))
 
 pub returns-clause-answered : goal.returns-clause-answered
 returns-clause-answered g c =
-    let d = g.D.Disk.state c.self.inside.volume.disk in
-    let map = c.self.inside.volume.core in
-    subst (λ m. (old : Service) → Serves (g.D.Disk.state m.disk) m.map m.failed m.jobs old
-    → (new : Service) × Serves (g.D.Disk.state c.reset.new.volume.disk) c.reset.new.volume.core
-    c.reset.new.volume.failed c.reset.new.jobs new
-    × Answers (pack_of (g.D.Disk.state m.disk)) old (Calls c.args.job Reset c.args.moment) Done new) c.self.view_is
-    (λ old state. led_here d map c.self.inside.volume.failed c.self.inside.jobs
-    (Serves (g.D.Disk.state c.reset.new.volume.disk) c.reset.new.volume.core c.reset.new.volume.failed c.reset.new.jobs)
-    (Calls c.args.job Reset c.args.moment) Done old state
-    (on_disk g.D.Disk.state c.self.inside.volume.disk c.reset.new.volume.disk c.self.inside.volume.failed
-    c.reset.new.volume.failed c.reset.new.volume.core c.reset.new.jobs
-    (Answers (pack_one d) old (Calls c.args.job Reset c.args.moment) Done) c.reset.ensures.untouched
-    (row d map c.reset.new.volume.core c.self.inside.volume.failed c.self.inside.jobs c.reset.new.jobs
-    c.reset.ensures.keyed c.reset.ensures.reading c.reset.ensures.leaves (pack_one d)
-    (Calls c.args.job Reset c.args.moment) Done
-    (reset_row d c.self.inside.jobs c.reset.new.jobs c.args.job c.args.moment c.if-moment-gt-LAST_DATE.false
-    (c.reset.ensures.found c.if-not-reset.false)) (sym c.has_failed.ensures.value ∙ c.if-has_failed.false) old state)))
+    let v = c.self.inside.volume in
+    let new = c.reset.new.volume in
+    let jobs = c.self.inside.jobs in
+    let alive = sym c.has_failed.ensures.value ∙ c.if-has_failed.false in
+    let state = g.D.Disk.state in
+    subst (λ m. (state m.disk).honest → (old : Service) → Serves (state m.disk) m.map m.failed m.jobs old
+    → (t : Service) × Serves (state new.disk) new.core new.failed c.reset.new.jobs t
+    × Answers (pack_of (state m.disk)) old (Calls c.args.job Reset c.args.moment) Done t) c.self.view_is
+    (λ h. reset_leads state v.disk new.disk v.core new.core v.failed new.failed jobs c.reset.new.jobs c.args.job
+    c.args.moment alive c.reset.ensures.untouched c.reset.ensures.keyed c.reset.ensures.reading c.reset.ensures.leaves
+    (pack_of (state v.disk)) Done
+    (reset_row (pack_of (state v.disk)) jobs c.reset.new.jobs c.args.job c.args.moment
+    (timely_in (pack_of (state v.disk)).layout c.last_date.result c.args.moment.date
+    (subst (λ (n : ℕ). c.last_date.result + 1 ≡ date_limit n) (c.layout-layout.ensures.disk h alive)
+    c.last_date.ensures) c.if-moment-last_date.false) (c.reset.ensures.found c.if-not-reset.false)))
+
+pub returns-clause-in_layout : goal.returns-clause-in_layout
+returns-clause-in_layout g c =
+    let v = c.self.inside.volume in
+    let new = c.reset.new.volume in
+    let jobs = c.self.inside.jobs in
+    let alive = sym c.has_failed.ensures.value ∙ c.if-has_failed.false in
+    let state = g.D.Disk.state in
+    subst (λ m. (old : Service) → Serves (state m.disk) m.map m.failed m.jobs old
+    → (t : Service) × Serves (state new.disk) new.core new.failed c.reset.new.jobs t
+    × Answers (pack_in (layout_number m.layout) (state m.disk).size) old
+    (Calls c.args.job Reset c.args.moment) Done t) c.self.view_is
+    (reset_leads state v.disk new.disk v.core new.core v.failed new.failed jobs c.reset.new.jobs c.args.job
+    c.args.moment alive c.reset.ensures.untouched c.reset.ensures.keyed c.reset.ensures.reading c.reset.ensures.leaves
+    (pack_in (layout_number v.layout) (state v.disk).size) Done
+    (reset_row (pack_in (layout_number v.layout) (state v.disk).size) jobs c.reset.new.jobs c.args.job c.args.moment
+    (timely_in (layout_number v.layout) c.last_date.result c.args.moment.date
+    (subst (λ l. c.last_date.result + 1 ≡ date_limit (layout_number l)) c.layout-layout.ensures.value
+    c.last_date.ensures) c.if-moment-last_date.false) (c.reset.ensures.found c.if-not-reset.false)))

@@ -24,6 +24,7 @@ loop-event-init g c =
       counted = λ tells. absurd (subst TellsFault none tells);
       told = λ tells. absurd (subst TellsFault none tells);
       once = subst FailsOnce (sym none) tt;
+      layout = refl;
     }
 
 pub loop-event-preserved : goal.loop-event-preserved
@@ -62,6 +63,7 @@ loop-event-preserved g c =
           (λ e. does.failed.1 (inl e)) is.told (subst TellsFault grown tells);
       once = subst FailsOnce (sym grown)
           (failed_once state first old new so_far replies event reply stays is.told is.once);
+      layout = does.layout ∙ is.layout;
     }
 
 pub returns-clause-runs : goal.returns-clause-runs

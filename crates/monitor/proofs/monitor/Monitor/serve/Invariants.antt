@@ -23,4 +23,5 @@ invariant-loop-event g l =
       counted : TellsFault l.replies.items → (state l.self.disk).failures ≡ one_more (state l.fn.self.disk).failures;
       told : TellsFault l.replies.items → l.self.failed ≡ true;
       once : FailsOnce l.replies.items;
+      layout : l.self.layout ≡ l.fn.self.layout;
     }

@@ -1,6 +1,6 @@
-use Rattle.std.proofs.Common.{subst}
+use Rattle.std.proofs.Common.{◌∙◌, ap, subst, sym}
 use Rattle.std.proofs.lemmas.Result.{err_from_is_err_and}
-use Rattle.meaning.specs.Layouts.{pack_of}
+use Rattle.meaning.specs.Layouts.{layout_number, pack_of}
 use Rattle.meaning.specs.Stands.{Stands}
 use Rattle.meaning.proofs.Layouts.{stands_in_any}
 use Rattle.monitor.proofs.Started.{started, start_keyed, start_reading}
@@ -21,6 +21,10 @@ returns-in-Ok-clause-started g c files stands s start h = (
       (c.in_ok-volume.ensures.files files stands h) c.in_ok-volume.ensures.unread c.in_ok-volume.ensures.unwritten
       c.in-Ok.ensures start,
 )
+
+pub returns-in-Ok-clause-layout : goal.returns-in-Ok-clause-layout
+returns-in-Ok-clause-layout g c h =
+    ap layout_number (sym c.layout-layout.ensures.value) ∙ c.layout-layout.ensures.disk h c.in_ok-volume.ensures.serves
 
 pub returns-in-Ok-clause-stood : goal.returns-in-Ok-clause-stood
 returns-in-Ok-clause-stood g c h =
