@@ -5,7 +5,7 @@ use Rattle.std.specs.Prelude.{IfSome}
 use Rattle.blockdisk.specs.Disk.{DiskState, Contents, MayLeave}
 use Rattle.blockdisk.specs.Laws.{still_start}
 use Rattle.meaning.specs.Plans.{Asks, each, deposits}
-use Rattle.meaning.specs.Runs.{Service, Answers}
+use Rattle.meaning.specs.Runs.{Service, Serving, Broken, Answers}
 use Rattle.meaning.specs.declared.call.Event.{Event}
 use Rattle.meaning.specs.declared.call.Event.TheVariants.{Deposit, Examine}
 use Rattle.meaning.specs.declared.call.Reply.{Reply}
@@ -16,11 +16,10 @@ use Rattle.meaning.specs.Layouts.{pack_of}
 use Rattle.monitor.specs.Serving.{Serves}
 use Rattle.monitor.specs.States.{MonitorState}
 use Rattle.monitor.specs.declared.job.Job.{Job}
-use Rattle.monitor.proofs.EventCrashes.{untouched_event}
+use Rattle.monitor.proofs.EventCrashes.{state_stands, untouched_event}
 use Rattle.commands.specs.Asking.{HasDone}
-use Rattle.commands.specs.Machines.{Machine, AlwaysStands, GoesBy, IsAnswered, AreShown}
+use Rattle.commands.specs.Machines.{Machine, AlwaysStands, GoesBy, IsAnswered, KeepsPack, AreShown}
 use Rattle.commands.specs.Monitors.{machine_of}
-use Rattle.monitor.proofs.OnePack.{crash_one, led_one, stands_one}
 use Rattle.commands.proofs.GoingLaws.{goes_on, goes_answered, goes_nowhere}
 
 module _ {D : Type 0} (state : D → DiskState) (only_now : (disk : D) (contents : Contents) → (state disk).honest
@@ -33,7 +32,12 @@ module _ {D : Type 0} (state : D → DiskState) (only_now : (disk : D) (contents
   with_jobs jobs = record { disk = disk; map = map; failed = failed; jobs = jobs }
 
   stands : AlwaysStands of
-  stands m honest s serves = stands_one (state m.disk) m.map m.jobs s serves.1
+  stands m honest s serves = state_stands (state m.disk) m.map m.jobs s serves.1
+
+  kept : (jobs jobs' : List (Option Job)) (new : Service)
+      → KeepsPack (of (with_jobs jobs)) (of (with_jobs jobs')) new
+  kept jobs jobs' Broken = tt
+  kept jobs jobs' (Serving s) = refl
 
   -- an event that leaves the disk alone, of which it is known what it is answered
   answered : (jobs jobs' : List (Option Job)) (event : Event) (reply : Reply)
@@ -42,13 +46,13 @@ module _ {D : Type 0} (state : D → DiskState) (only_now : (disk : D) (contents
       × Serves (state disk) map failed jobs' new × Answers (pack_of (state disk)) old event reply new)
       → IsAnswered (of (with_jobs jobs)) (of (with_jobs jobs')) event reply
   answered jobs jobs' event reply served by = record {
-    pack = refl;
+    size = refl;
     was_honest = λ honest. honest;
-    crash = λ honest s serves. crash_one (state disk) (state disk) map jobs s event reply serves.1
-        (untouched_event state only_now disk disk refl map jobs event reply honest s serves.1);
+    crash = λ honest s serves. untouched_event state only_now disk disk refl map jobs event reply honest s serves.1;
     broken = λ honest serves. still_start (state disk);
     answers = λ honest old serves.
-        led_one (state disk) map failed jobs (Serves (state disk) map failed jobs') event reply old serves (by old serves);
+        let is = by old serves in
+        (is.0, is.1, is.2, kept jobs jobs' is.0);
     counted = (λ device. absurd (served device), λ other. refl);
   }
 

@@ -1,6 +1,7 @@
 -- Acts that follow one another.
-use Rattle.std.proofs.Common.{◌≡◌, ℕ, List, [], ◌∷◌, ◌++◌, refl, subst, ◌∙◌, Result}
+use Rattle.std.proofs.Common.{◌≡◌, ℕ, List, [], ◌∷◌, ◌++◌, refl, sym, subst, ◌∙◌, Result}
 use Rattle.blockdisk.specs.Laws.{still_start, still_on}
+use Rattle.meaning.specs.Jobs.{State}
 use Rattle.meaning.specs.Room.{Pack}
 use Rattle.meaning.specs.Runs.{Service, Serving, Broken, Answers, Lists}
 use Rattle.meaning.specs.Plans.{Act, Asks, Looks}
@@ -8,7 +9,7 @@ use Rattle.meaning.specs.Transcripts.{Went}
 use Rattle.meaning.specs.declared.entry.Entry.{Entry}
 use Rattle.meaning.specs.declared.call.Reply.{Reply}
 use Rattle.meaning.specs.declared.call.Event.{Event}
-use Rattle.commands.specs.Machines.{Machine, IsAnswered, IsListed, AlwaysStands, ActsBy, GoesBy, CountsFailures}
+use Rattle.commands.specs.Machines.{Machine, IsAnswered, IsListed, AlwaysStands, ActsBy, GoesBy, KeepsPack, CountsFailures}
 
 went-append : (pack : Pack) (first : Service) (acts more : List Act) (mid last : Service) → Went pack first acts mid
     → Went pack mid more last → Went pack first (acts ++ more) last
@@ -28,6 +29,9 @@ went_broken pack (Asks event reply ∷ acts) last (Broken, answers, rest) = went
 went_broken pack (Asks event reply ∷ acts) last (Serving s, answers, rest) = absurd answers
 went_broken pack (Looks owner answer ∷ acts) last (mid, lists, rest) = went_broken pack acts last
     (subst (λ (s : Service). Went pack s acts last) lists.1 rest)
+
+served_apart : (s : State) → Serving s ≡ Broken → ⊥
+served_apart s e = cc
 
 -- The failures of acts are those of the first ones, and of the ones after these.
 counts_on : (acts more : List Act) (first mid last : ℕ) → CountsFailures acts first mid → CountsFailures more mid last
@@ -80,10 +84,35 @@ module _ {S : Type 0} (machine : S → Machine) where
         acts_on pack p.1 mid new p.2 then last acts more p.5 q,
       )
 
+  -- acts after a fault are the same in every pack
+  broken_acts : (p q : Pack) (acts : List Act) (last : Service) → Went p Broken acts last → Went q Broken acts last
+  broken_acts p q [] last w = w
+  broken_acts p q (Asks event reply ∷ acts) last (Broken, answers, rest) =
+      (Broken, answers, broken_acts p q acts last rest)
+  broken_acts p q (Asks event reply ∷ acts) last (Serving s, answers, rest) = absurd answers
+  broken_acts p q (Looks owner answer ∷ acts) last (Broken, lists, rest) =
+      (Broken, lists, broken_acts p q acts last rest)
+  broken_acts p q (Looks owner answer ∷ acts) last (Serving s, lists, rest) =
+      absurd (served_apart s (sym lists.1))
+
+  -- what is kept while it serves keeps the pack in which it goes on
+  acts_in : (a b c : S) (mid last : Service) (acts : List Act) → KeepsPack (machine a) (machine b) mid
+      → ActsBy machine (machine b).pack b mid acts c last → ActsBy machine (machine a).pack b mid acts c last
+  acts_in a b c Broken last acts kept by = (by.0, broken_acts (machine b).pack (machine a).pack acts last by.1)
+  acts_in a b c (Serving s) last acts kept by = subst (λ (k : Pack). ActsBy machine k b (Serving s) acts c last) kept by
+
+  kept_on : (a b c : S) (mid last : Service) (acts : List Act) → KeepsPack (machine a) (machine b) mid
+      → ActsBy machine (machine b).pack b mid acts c last → KeepsPack (machine b) (machine c) last
+      → KeepsPack (machine a) (machine c) last
+  kept_on a b c mid Broken acts first by next = tt
+  kept_on a b c (Serving s) (Serving t) acts first by next = next ∙ first
+  kept_on a b c Broken (Serving t) acts first by next =
+      absurd (served_apart t (sym (went_broken (machine b).pack acts (Serving t) by.1)))
+
   pub goes_on : (a b c : S) (acts more : List Act) → GoesBy machine a b acts → GoesBy machine b c more
       → GoesBy machine a c (acts ++ more)
   goes_on a b c acts more p q = record {
-    pack = q.pack ∙ p.pack;
+    size = q.size ∙ p.size;
     was_honest = λ h. p.was_honest (q.was_honest h);
     went = λ h first s.
         let one = p.went (q.was_honest h) first s in
@@ -91,7 +120,8 @@ module _ {S : Type 0} (machine : S → Machine) where
           next.0,
           next.1,
           acts_on (machine a).pack a b c first one.0 next.0 acts more one.2
-              (subst (λ (k : Pack). ActsBy machine k b one.0 more c next.0) p.pack next.2),
+              (acts_in a b c one.0 next.0 more one.3 next.2),
+          kept_on a b c one.0 next.0 more one.3 next.2 next.3,
         );
     counted = counts_on acts more (machine a).disk.failures (machine b).disk.failures (machine c).disk.failures
         p.counted q.counted;
@@ -103,62 +133,73 @@ module _ {S : Type 0} (machine : S → Machine) where
     acts_none a Broken h serves = (still_start (machine a).disk, refl)
     acts_none a (Serving s) h serves = (refl, refl, stands a h s serves)
 
+    kept_here : (a : S) (first : Service) → KeepsPack (machine a) (machine a) first
+    kept_here a Broken = tt
+    kept_here a (Serving s) = refl
+
     pub goes_nowhere : (a : S) → GoesBy machine a a []
     goes_nowhere a = record {
-      pack = refl;
+      size = refl;
       was_honest = λ h. h;
-      went = λ h first serves. (first, serves, acts_none a first h serves);
+      went = λ h first serves. (first, serves, acts_none a first h serves, kept_here a first);
       counted = refl;
     }
 
     -- Nothing more was done behind an act.
-    acts_end : (a b : S) (last : Service) → (machine b).pack ≡ (machine a).pack → (machine b).honest
+    acts_end : (a b : S) (last : Service) → KeepsPack (machine a) (machine b) last → (machine b).honest
         → (machine b).serves last → ActsBy machine (machine a).pack b last [] b last
-    acts_end a b last same h serves = subst (λ (k : Pack). ActsBy machine k b last [] b last) same
-        (acts_none b last h serves)
+    acts_end a b last kept h serves = acts_in a b b last last [] kept (acts_none b last h serves)
 
     module _ (a b : S) (event : Event) (reply : Reply) (p : IsAnswered (machine a) (machine b) event reply)
         (h : (machine b).honest) where
       answered_acts : (first last : Service) → (machine a).serves first → (machine b).serves last
-          → Answers (machine a).pack first event reply last
+          → Answers (machine a).pack first event reply last → KeepsPack (machine a) (machine b) last
           → ActsBy machine (machine a).pack a first (Asks event reply ∷ []) b last
-      answered_acts Broken last serves then answers = (p.broken h serves, (last, answers, refl))
+      answered_acts Broken last serves then answers kept = (p.broken h serves, (last, answers, refl))
       answered_acts (Serving s) last serves
-          then answers = (
+          then answers kept = (
             stands a (p.was_honest h) s serves,
             b,
             last,
             answers,
             p.crash h s serves,
-            acts_end a b last p.pack h then,
+            acts_end a b last kept h then,
           )
 
     pub goes_answered : (a b : S) (event : Event) (reply : Reply)
         → IsAnswered (machine a) (machine b) event reply → GoesBy machine a b (Asks event reply ∷ [])
     goes_answered a b event reply p = record {
-      pack = p.pack;
+      size = p.size;
       was_honest = p.was_honest;
       went = λ h first serves.
           let one = p.answers h first serves in
-          (one.0, one.1, answered_acts a b event reply p h first one.0 serves one.1 one.2);
+          (one.0, one.1, answered_acts a b event reply p h first one.0 serves one.1 one.2 one.3, one.3);
       counted = ((machine b).disk.failures, p.counted, refl);
     }
 
     module _ (a b : S) (owner : ℕ) (answer : Result (List Entry) Reply)
         (p : IsListed (machine a) (machine b) 1 owner answer) (h : (machine b).honest) where
       listed_acts : (first last : Service) → (machine a).serves first → (machine b).serves last
-          → Lists first 1 owner answer last → ActsBy machine (machine a).pack a first (Looks owner answer ∷ []) b last
-      listed_acts Broken last serves then lists = (p.still, (last, lists, refl))
+          → Lists first 1 owner answer last → KeepsPack (machine a) (machine b) last
+          → ActsBy machine (machine a).pack a first (Looks owner answer ∷ []) b last
+      listed_acts Broken last serves then lists kept = (p.still, (last, lists, refl))
       listed_acts (Serving s) last serves
-          then lists = (stands a (p.was_honest h) s serves, b, last, lists, p.still, acts_end a b last p.pack h then)
+          then lists kept = (
+            stands a (p.was_honest h) s serves,
+            b,
+            last,
+            lists,
+            p.still,
+            acts_end a b last kept h then,
+          )
 
     pub goes_listed : (a b : S) (owner : ℕ) (answer : Result (List Entry) Reply)
         → IsListed (machine a) (machine b) 1 owner answer → GoesBy machine a b (Looks owner answer ∷ [])
     goes_listed a b owner answer p = record {
-      pack = p.pack;
+      size = p.size;
       was_honest = p.was_honest;
       went = λ h first serves.
           let one = p.lists h first serves in
-          (one.0, one.1, listed_acts a b owner answer p h first one.0 serves one.1 one.2);
+          (one.0, one.1, listed_acts a b owner answer p h first one.0 serves one.1 one.2 one.3, one.3);
       counted = p.served;
     }

@@ -31,3 +31,4 @@ pub mod AtOnce
 pub mod DayLaws
 pub mod RefusalLaws
 pub mod DayRows
+pub mod ServedMonitors

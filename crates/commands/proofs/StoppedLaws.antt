@@ -12,10 +12,9 @@ use Rattle.meaning.specs.declared.call.Event.{Event}
 use Rattle.meaning.specs.declared.call.Reply.{Reply}
 use Rattle.meaning.specs.declared.entry.Entry.{Entry}
 use Rattle.meaning.specs.Published.{without_serials}
-use Rattle.meaning.specs.Layouts.{pack_in, StandsOn}
+use Rattle.meaning.specs.Layouts.{pack_in, pack_of, StandsOn}
 use Rattle.monitor.specs.Moments.{StandsNow}
 use Rattle.monitor.specs.Runs.{AreStopped}
-use Rattle.monitor.specs.Serving.{pack_one}
 use Rattle.monitor.specs.States.{MonitorState}
 use Rattle.monitor.proofs.Along.{stopped_like}
 use Rattle.commands.specs.Monitors.{machine_of}
@@ -128,7 +127,7 @@ module _ {S : Type 0} (machine : S → Machine) (pack : Pack) where
 module _ {D E : Type 0} (state : D → DiskState) (other : E → DiskState) (begun stopped : MonitorState D)
     (s : State) (acts : List Act) (last : Service) where
   abbrev pack : Pack
-  pack = pack_one (state begun.disk)
+  pack = pack_of (state begun.disk)
 
   pub found_left : ((c : Contents) → (state begun.disk).left_since (state begun.disk).clock c
       → MayLeave (state begun.disk) c) → (state stopped.disk).size ≡ (state begun.disk).size
@@ -136,7 +135,7 @@ module _ {D E : Type 0} (state : D → DiskState) (other : E → DiskState) (beg
       (Serving s) acts stopped last
       → (starts : List (E × E)) (left : Contents) (size : ℕ) → size ≡ (state begun.disk).size
       → AreStopped other (state stopped.disk) (state begun.disk).clock starts left
-      → (found : State) × IsAlongActs pack (Serving s) acts found × StandsOn (pack_in 1 size) left
+      → (found : State) × IsAlongActs pack (Serving s) acts found × StandsOn (pack_in pack.layout size) left
       (without_serials found.files)
   found_left only_now same by starts left size is were =
       let first = stopped_like other (state stopped.disk) (state begun.disk).clock starts left were in
@@ -145,6 +144,7 @@ module _ {D E : Type 0} (state : D → DiskState) (other : E → DiskState) (beg
       let files = without_serials found.0.files in (
         found.0,
         found.1,
-        subst (λ n. StandsOn (pack_in 1 n) left files) (same ∙ sym is)
-            (first.2 1 files (subst (λ n. StandsOn (pack_in 1 n) first.0 files) (sym same) found.2)),
+        subst (λ n. StandsOn (pack_in pack.layout n) left files) (same ∙ sym is)
+            (first.2 pack.layout files (subst (λ n. StandsOn (pack_in pack.layout n) first.0 files) (sym same)
+            found.2)),
       )

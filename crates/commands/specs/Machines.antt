@@ -22,6 +22,11 @@ pub record Machine : Type 1 where
   pub disk : DiskState
   pub serves : Service → Type 0
 
+-- While it serves it keeps its pack; that its disk keeps its size holds always.
+abbrev pub KeepsPack : Machine → Machine → Service → Type 0
+KeepsPack old new (Serving s) = new.pack ≡ old.pack
+KeepsPack old new Broken = Unit {0}
+
 -- On every disk: the failure count rose by one if the disk failed in the event that is answered so, and stayed if not.
 abbrev pub CountsFailure : Reply → ℕ → ℕ → Type 0
 CountsFailure reply before after =
@@ -30,13 +35,13 @@ CountsFailure reply before after =
 -- It answered an event: at any moment of it a crash left the files from before, or those after it where its answer is
 -- one that may change files.
 pub record IsAnswered (old new : Machine) (event : Event) (reply : Reply) : Type 0 where
-  pub pack : new.pack ≡ old.pack
+  pub size : new.disk.size ≡ old.disk.size
   pub was_honest : new.honest → old.honest
   pub crash : new.honest → (s : State) → old.serves (Serving s)
       → LeavesOnly old.disk new.disk (StandsForEither old.pack s event reply)
   pub broken : new.honest → old.serves Broken → Still old.disk new.disk
   pub answers : new.honest → (first : Service) → old.serves first
-      → (last : Service) × new.serves last × Answers old.pack first event reply last
+      → (last : Service) × new.serves last × Answers old.pack first event reply last × KeepsPack old new last
   pub counted : CountsFailure reply old.disk.failures new.disk.failures
 
 -- Each of these words, which stand in job 1's core from an address on, is what an event is told that asks for it; and
@@ -47,12 +52,12 @@ AreShown machine first words = (i : ℕ) → i < length words
 
 -- It listed a directory for a job, for which it asks the disk for nothing.
 pub record IsListed (old new : Machine) (job owner : ℕ) (answer : Result (List Entry) Reply) : Type 0 where
-  pub pack : new.pack ≡ old.pack
+  pub size : new.disk.size ≡ old.disk.size
   pub was_honest : new.honest → old.honest
   pub still : Still old.disk new.disk
   pub served : new.disk.failures ≡ old.disk.failures
   pub lists : new.honest → (first : Service) → old.serves first → (last : Service) × new.serves last
-      × Lists first job owner answer last
+      × Lists first job owner answer last × KeepsPack old new last
 
 -- All that a crash may leave of a service stands for the files of the state that it serves from.
 abbrev pub AlwaysStands : {S : Type 0} → (S → Machine) → Type 0
@@ -100,8 +105,9 @@ CountsFailures (Looks owner answer ∷ acts) before after = CountsFailures acts 
 
 -- It went by these acts of job 1, moment by moment.
 pub record GoesBy {S : Type 0} (machine : S → Machine) (old new : S) (acts : List Act) : Type 0 where
-  pub pack : (machine new).pack ≡ (machine old).pack
+  pub size : (machine new).disk.size ≡ (machine old).disk.size
   pub was_honest : (machine new).honest → (machine old).honest
   pub went : (machine new).honest → (first : Service) → (machine old).serves first
       → (last : Service) × (machine new).serves last × ActsBy machine (machine old).pack old first acts new last
+      × KeepsPack (machine old) (machine new) last
   pub counted : CountsFailures acts (machine old).disk.failures (machine new).disk.failures

@@ -2,13 +2,14 @@
 use Rattle.std.specs.Prelude.{Bool, List, Option}
 use Rattle.blockdisk.specs.Disk.{DiskState}
 use Rattle.volume.specs.Live.{VolumeCore}
-use Rattle.monitor.specs.Serving.{pack_one, Serves}
+use Rattle.meaning.specs.Layouts.{pack_of}
+use Rattle.monitor.specs.Serving.{Serves}
 use Rattle.monitor.specs.declared.job.Job.{Job}
 use Rattle.commands.specs.Machines.{Machine}
 
 abbrev pub machine_of : DiskState → VolumeCore → Bool → List (Option Job) → Machine
 machine_of d map failed jobs = record {
-  pack = pack_one d;
+  pack = pack_of d;
   honest = d.honest;
   disk = d;
   serves = Serves d map failed jobs;

@@ -18,11 +18,11 @@ use std::io::{Read, Write};
 use words36::{FileName, Moment, Ppn, Word};
 
 impl<D: Disk> FileService for Monitor<D> {
-    ghost use Rattle.monitor.proofs.OnePack.{stands_one};
+    ghost use Rattle.monitor.proofs.EventCrashes.{state_stands};
 
     ghost machine = { λ m. machine_of (D.state m.disk) m.map m.failed m.jobs };
 
-    ghost stands = { λ m honest s serves. stands_one (D.state m.disk) m.map m.jobs s serves.1 };
+    ghost stands = { λ m honest s serves. state_stands (D.state m.disk) m.map m.jobs s serves.1 };
 
     fn event(&mut self, alloc: Global, event: &Event) -> Reply {
         Monitor::event(self, alloc, event)

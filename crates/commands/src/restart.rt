@@ -5,7 +5,7 @@ ghost use Rattle.meaning.specs.Layouts.{pack_of};
 ghost use Rattle.meaning.specs.Published.{without_serials};
 ghost use Rattle.meaning.specs.Runs.{Serving};
 ghost use Rattle.monitor.specs.Runs.{ServesFiles, AreStopped};
-ghost use Rattle.monitor.specs.Serving.{pack_one, Serves};
+ghost use Rattle.monitor.specs.Serving.{Serves};
 ghost use Rattle.monitor.specs.States.{MonitorState};
 ghost use Rattle.commands.specs.Machines.{GoesBy, IsAlongActs};
 ghost use Rattle.commands.specs.Monitors.{machine_of};
@@ -38,8 +38,8 @@ pub fn start_after_acts<D: Disk, E: Disk>(
         → Serves (D.state begun.disk) begun.map begun.failed begun.jobs (Serving s)
         → (starts : List (E × E))
         → AreStopped E.state (D.state stopped.now.disk) (D.state begun.disk).clock starts (E.state left).contents
-        → (found : State) × IsAlongActs (pack_one (D.state begun.disk)) (Serving s) acts found
-        × IfOk result (λ m. (E.state m.disk).honest → (pack_of (E.state m.disk) ≡ pack_one (D.state begun.disk))
+        → (found : State) × IsAlongActs (pack_of (D.state begun.disk)) (Serving s) acts found
+        × IfOk result (λ m. (E.state m.disk).honest → (pack_of (E.state m.disk) ≡ pack_of (D.state begun.disk))
         × ServesFiles (E.state m.disk) m.map m.failed m.jobs (without_serials found.files))
         × IfErr result (λ refused. (E.state refused.1).honest → (refused.0 ≡ NoMemory) ⊎ (refused.0 ≡ Device)) }
 {

@@ -1,9 +1,7 @@
-use Rattle.std.proofs.Common.{ap, subst, sym}
+use Rattle.std.proofs.Common.{sym, subst}
 use Rattle.blockdisk.specs.Disk.{Still}
 use Rattle.blockdisk.specs.Laws.{still_start}
-use Rattle.meaning.specs.Layouts.{pack_in}
-use Rattle.monitor.specs.Serving.{Serves}
-use Rattle.monitor.proofs.OnePack.{crash_one, led_one}
+use Rattle.commands.proofs.ServedMonitors.{event_kept}
 use Rattle.commands.proofs.monitored.MonitorFileService.event.Goals as goal
 
 pub returns : goal.returns
@@ -14,11 +12,17 @@ returns g c =
     let d' = g.D.Disk.state n.disk in
     let p = c.event.ensures in
     record {
-      pack = ap (pack_in 1) p.same.size;
+      size = p.same.size;
       was_honest = p.same.was_honest;
-      crash = λ h s serves. crash_one d d' m.map m.jobs s c.args.event.now c.event.result serves.1 (p.crash h s serves);
+      crash = λ h s serves. p.crash h s serves;
       broken = λ h failed. subst (λ x. Still d (g.D.Disk.state x.disk)) (sym (p.broken failed).1) (still_start d);
-      answers = λ h old serves. led_one d m.map m.failed m.jobs (Serves d' n.map n.failed n.jobs) c.args.event.now
-          c.event.result old serves (p.answered h old serves);
+      answers = λ h old serves.
+          let is = p.answered h old serves in (
+            is.0,
+            is.1,
+            is.2,
+            event_kept d d' m.map n.map m.failed n.failed m.jobs n.jobs c.args.event.now c.event.result old is.0 p.same.size
+                (p.crash h) serves is.1 is.2,
+          );
       counted = (p.counted, p.served);
     }
