@@ -56,7 +56,7 @@ module _ (d : DiskState) (c : VolumeCore) (failed : Bool) (sound : IsSoundCore d
       by None is = is
       by (Some v) is =
           let at = first_place nat_cmp_total nat_cmp-IsAntisymmetric c.known.master.entries owner v is in
-          absurd (none (all_at_place (IsMasterEntryOf 1) c.known.master.entries at.0 (owner, v)
+          absurd (none (all_at_place _ c.known.master.entries at.0 (owner, v)
           sound.whole.map.chain.are_entries at.1.is).ppn)
 
 -- The volume found one.

@@ -134,7 +134,7 @@ module _ (d : DiskState) (map : VolumeCore) (s : State) (known : IsKnown d map s
       unnamed None is = is
       unnamed (Some v) is =
           let at = first_place nat_cmp_total nat_cmp-IsAntisymmetric map.known.master.entries place.ppn v is in
-          absurd (none (all_at_place (IsMasterEntryOf 1) map.known.master.entries at.0
+          absurd (none (all_at_place _ map.known.master.entries at.0
           (place.ppn, v) sound.whole.map.chain.are_entries at.1.is).ppn)
 
       gone : (was : Option (Directory Version)) → get s.files place.ppn ≡ was → get s.files place.ppn ≡ None
