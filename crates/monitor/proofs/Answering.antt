@@ -23,7 +23,6 @@ use Rattle.meaning.specs.declared.call.Reply.{Reply}
 use Rattle.meaning.specs.declared.call.Reply.TheVariants.{Done, Value, Refused, Stopped, NoChannel, AddressCheck, NoJob}
 use Rattle.meaning.specs.declared.call.Reply.TheVariants.{NoMemory, Device, Failed, DateRange}
 use Rattle.meaning.proofs.SoundEvents.{sound_step}
-use Rattle.meaning.specs.Layouts.{pack_of}
 use Rattle.volume.specs.Live.{VolumeCore}
 use Rattle.monitor.specs.Dropping.{OnlyDrops}
 use Rattle.monitor.specs.Serving.{IsState, Serves, AreKeyed, AreReading}

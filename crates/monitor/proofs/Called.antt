@@ -4,7 +4,6 @@ use Rattle.std.specs.Prelude.{◌↔◌, IsTrue}
 use Rattle.words36.specs.declared.moment.Moment.{Moment}
 use Rattle.blockdisk.specs.Disk.{DiskState, SameDisk}
 use Rattle.blockdisk.specs.Laws.{same_disk_start}
-use Rattle.meaning.specs.Layouts.{pack_of}
 use Rattle.meaning.specs.Room.{Pack}
 use Rattle.meaning.specs.Runs.{Service, Answers}
 use Rattle.meaning.specs.declared.call.Event.TheVariants.{Call as Calls}

@@ -1,5 +1,5 @@
 -- What a CLOSE or RELEAS promises that publishes: the sides let go or held behind it, and the machine's row.
-use Rattle.std.proofs.Common.{◌≡◌, ◌≤◌, ℕ, Bool, true, false, List, length, Option, Some, None, Ok, refl, sym, ap}
+use Rattle.std.proofs.Common.{◌≡◌, ℕ, Bool, true, false, List, length, Option, Some, None, Ok, refl, sym, ap}
 use Rattle.std.proofs.Common.{subst}
 use Rattle.std.proofs.Common.{◌∙◌, slice_set}
 use Rattle.std.specs.Prelude.{◌&&◌, not, if◌then◌else◌, is_some, option_map, IsSome}

@@ -1,5 +1,5 @@
 -- CLOSE and RELEAS by the job of a number: what its row says of all jobs.
-use Rattle.std.proofs.Common.{◌≡◌, ◌≤◌, ℕ, Bool, false, List, Option, Some, refl, sym, subst, ◌∙◌, ◌⊎◌, inl, inr}
+use Rattle.std.proofs.Common.{◌≡◌, ℕ, Bool, false, List, Option, Some, refl, sym, subst, ◌∙◌, ◌⊎◌, inl, inr}
 use Rattle.std.proofs.Common.{⊎_elim, slice_set}
 use Rattle.std.specs.Prelude.{◌↔◌, IsTrue}
 use Rattle.words36.specs.declared.moment.Moment.{Moment}

@@ -11,7 +11,6 @@ use Rattle.words36.specs.Words.{IsPpn}
 use Rattle.blockdisk.specs.Disk.{DiskState, LeavesOnly}
 use Rattle.meaning.specs.Codes.{number_of}
 use Rattle.meaning.specs.Directories.{FileEntry}
-use Rattle.meaning.specs.Faults.{IsMasterEntryOf}
 use Rattle.meaning.specs.Files.{File, Files, name_cmp}
 use Rattle.meaning.specs.Layouts.{pack_of}
 use Rattle.meaning.specs.Maps.{get, total}

@@ -12,7 +12,6 @@ use Rattle.words36.specs.Words.{left, IsPpn}
 use Rattle.words36.specs.declared.names.FileName.{FileName}
 use Rattle.blockdisk.specs.Disk.{DiskState}
 use Rattle.meaning.specs.Codes.{number_of}
-use Rattle.meaning.specs.Faults.{IsMasterEntryOf}
 use Rattle.meaning.specs.Entering.{begin_answer}
 use Rattle.meaning.specs.Files.{Directory, Place, map_directory}
 use Rattle.meaning.specs.Jobs.{State}

@@ -1,5 +1,5 @@
 -- ENTER on a channel that reads, by the job of a number, whatever it is answered with.
-use Rattle.std.proofs.Common.{◌≡◌, ◌≤◌, ℕ, Bool, false, List, Option, Some, sym, subst, ⊎_elim, slice_set}
+use Rattle.std.proofs.Common.{◌≡◌, ℕ, Bool, false, List, Option, Some, sym, subst, ⊎_elim, slice_set}
 use Rattle.words36.specs.declared.moment.Moment.{Moment}
 use Rattle.blockdisk.specs.Disk.{DiskState}
 use Rattle.meaning.specs.Files.{File, Files}

@@ -1,5 +1,5 @@
 -- A CLOSE or RELEAS publishes what an output side has written: the version under its key becomes the file of its name.
-use Rattle.std.specs.Prelude.{◌≡◌, ◌⊎◌, ◌<◌, ◌≤◌, ◌+◌, ℕ, Bool, true, false, if◌then◌else◌, List, [], length, Option}
+use Rattle.std.specs.Prelude.{◌≡◌, ◌⊎◌, ◌<◌, ◌+◌, ℕ, Bool, true, false, if◌then◌else◌, List, [], length, Option}
 use Rattle.std.specs.Prelude.{Some, None, slice_set}
 use Rattle.words36.specs.declared.moment.Moment.{Moment}
 use Rattle.blockdisk.specs.Disk.{DiskState, LeavesOnly, SameDisk, one_more}

@@ -107,11 +107,11 @@ fn serve<D: Disk>(
 impl<D: Disk> Monitor<D> {
     /// A call of a job, at a moment.
     ///
-    /// The answer is that of the call; `DateRange` for a date that the layout of the disk can't hold; `NoJob` where no job
-    /// of that number is logged in; `NoChannel` where the channel isn't open, or where OPEN names one above 15;
-    /// `AddressCheck` if core lacks an address that it needs; `NoMemory` if core can't grow. After each of these everything
-    /// is as before. `Device` if the device failed, and then `Failed` to every call. A later start finds the files from
-    /// before the call or those after it.
+    /// The answer is that of the call; `DateRange` for a date that the layout of the disk can't hold; `NoJob` where no
+    /// job of that number is logged in; `NoChannel` where the channel isn't open, or where OPEN names one above 15;
+    /// `AddressCheck` if core lacks an address that it needs; `NoMemory` if core can't grow. After each of these
+    /// everything is as before. `Device` if the device failed, and then `Failed` to every call. A later start finds the
+    /// files from before the call or those after it.
     #[inline(never)] // words that are put and looked at don't pay for its place on the stack
     pub fn call(&mut self, alloc: Global, job: u32, call: &Call, moment: Moment) -> Reply
         ensures answered { (D.state self.new.disk).honest → (old : Service)

@@ -323,8 +323,8 @@ fn begin_at<D: Disk>(
     }
 }
 
-/// The three high bits of a date, in the highest bits of half a word. They come from the date alone: where a layout has
-/// no place for them no date sets one.
+/// Gives the three high bits of a date, in the highest bits of half a word. They come from the date alone: if a layout
+/// has no place for them, no date that it holds sets one.
 pub fn high_date(moment: Moment) -> Half
     ensures { result ≡ high_date 2 moment.date }
 {

@@ -105,8 +105,8 @@ impl<D: Disk> Monitor<D> {
         }
     }
 
-    /// The layout in which the disk was opened, which no event changes. While the disk is honest and the monitor hasn't
-    /// failed it is the disk's.
+    /// Gives the layout in which the disk was opened; no event changes it. While the disk is honest and the monitor
+    /// hasn't failed it is the disk's.
     pub fn layout(&self) -> Layout
         ensures value { result ≡ self.now.layout }
         ensures disk { (D.state self.now.disk).honest → self.now.failed ≡ false

@@ -60,8 +60,8 @@ impl<D: Disk> Monitor<D> {
     /// Resets a job, as the call RESET does: all its channels are closed, and the right half of word 121 (octal)
     /// of its core becomes 140 (octal).
     ///
-    /// The answer is `Done`; `DateRange` for a date that the layout of the disk can't hold; `NoJob` where no job of that
-    /// number is logged in; or `Failed`. It wants no memory and touches no disk.
+    /// The answer is `Done`; `DateRange` for a date that the layout of the disk can't hold; `NoJob` where no job of
+    /// that number is logged in; or `Failed`. It wants no memory and touches no disk.
     pub fn reset(&mut self, job: u32, moment: Moment) -> Reply
         ensures answered { (D.state self.old.disk).honest → (old : Service)
             → Serves (D.state self.old.disk) self.old.map self.old.failed self.old.jobs old

@@ -1,6 +1,6 @@
-use Rattle.std.proofs.Common.{◌≡◌, ◌<◌, ◌≤◌, ◌+◌, ℕ, false, Some, refl, ap, subst, ◌∙◌, sym}
+use Rattle.std.proofs.Common.{◌≡◌, ◌≤◌, ◌+◌, ℕ, false, Some, refl, ap, subst, ◌∙◌, sym}
 use Rattle.meaning.specs.Jobs as machine
-use Rattle.meaning.specs.Jobs.{State, slot, job_at}
+use Rattle.meaning.specs.Jobs.{State, job_at}
 use Rattle.meaning.specs.Layouts.{layout_number, pack_of}
 use Rattle.meaning.specs.Retrieval.{date_limit}
 use Rattle.meaning.specs.Runs.{Service, Serving, Answers}
