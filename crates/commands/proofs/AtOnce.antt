@@ -13,6 +13,7 @@ use Rattle.meaning.specs.declared.call.Reply.TheVariants.{Done, Value, Device}
 use Rattle.volume.specs.Live.{VolumeCore}
 use Rattle.monitor.specs.Deposits.{DepositsBy}
 use Rattle.meaning.specs.Layouts.{pack_of}
+use Rattle.meaning.specs.declared.layout.Layout.{Layout}
 use Rattle.monitor.specs.Serving.{Serves}
 use Rattle.monitor.specs.States.{MonitorState}
 use Rattle.monitor.specs.declared.job.Job.{Job}
@@ -24,12 +25,12 @@ use Rattle.commands.proofs.GoingLaws.{goes_on, goes_answered, goes_nowhere}
 
 module _ {D : Type 0} (state : D → DiskState) (only_now : (disk : D) (contents : Contents) → (state disk).honest
     → (state disk).left_since (state disk).clock contents → MayLeave (state disk) contents) (disk : D)
-    (map : VolumeCore) (failed : Bool) where
+    (map : VolumeCore) (failed : Bool) (layout : Layout) where
   abbrev of : MonitorState D → Machine
   of m = machine_of (state m.disk) m.map m.failed m.jobs
 
   abbrev with_jobs : List (Option Job) → MonitorState D
-  with_jobs jobs = record { disk = disk; map = map; failed = failed; jobs = jobs }
+  with_jobs jobs = record { disk = disk; map = map; failed = failed; jobs = jobs; layout = layout }
 
   stands : AlwaysStands of
   stands m honest s serves = state_stands (state m.disk) m.map m.jobs s serves.1

@@ -93,7 +93,7 @@ module _ {S : Type 0} (machine : S → Machine) where
   broken_acts p q (Looks owner answer ∷ acts) last (Broken, lists, rest) =
       (Broken, lists, broken_acts p q acts last rest)
   broken_acts p q (Looks owner answer ∷ acts) last (Serving s, lists, rest) =
-      absurd (served_apart s (sym lists.1))
+      absurd (served_apart s lists.1)
 
   -- what is kept while it serves keeps the pack in which it goes on
   acts_in : (a b c : S) (mid last : Service) (acts : List Act) → KeepsPack (machine a) (machine b) mid
@@ -107,7 +107,7 @@ module _ {S : Type 0} (machine : S → Machine) where
   kept_on a b c mid Broken acts first by next = tt
   kept_on a b c (Serving s) (Serving t) acts first by next = next ∙ first
   kept_on a b c Broken (Serving t) acts first by next =
-      absurd (served_apart t (sym (went_broken (machine b).pack acts (Serving t) by.1)))
+      absurd (served_apart t (went_broken (machine b).pack acts (Serving t) by.1))
 
   pub goes_on : (a b c : S) (acts more : List Act) → GoesBy machine a b acts → GoesBy machine b c more
       → GoesBy machine a c (acts ++ more)
