@@ -2,7 +2,7 @@
 use Rattle.std.proofs.Common.{◌≡◌, ℕ, ◌<◌, ◌≤◌, ◌==◌, inl, inr, Bool, true, false, cond, List, Option}
 use Rattle.std.proofs.Common.{Some, None, refl, sym, ap, ◌∙◌}
 use Rattle.std.specs.Bool.{Decides}
-use Rattle.std.proofs.lemmas.Bool.Decides.{Decides-and, Decides-eqb, Decides-ltb}
+use Rattle.std.proofs.lemmas.Bool.Decides.{Decides-and, Decides-or, Decides-eqb, Decides-ltb}
 use Rattle.std.proofs.lemmas.Bool.{leb-true, le-leb}
 use Rattle.std.proofs.lemmas.Slice.Eq.{slice_eq-Decides}
 use Rattle.blockdisk.specs.Disk.{Contents}
@@ -17,11 +17,12 @@ use Rattle.meaning.specs.Stands.{SettledStands, Stands}
 -- The test of a home copy.
 
 layout_told : (layout : ℕ) → Decides (is_layout layout) (IsLayout layout)
-layout_told layout = Decides-eqb layout 1
+layout_told layout = Decides-or (layout == 1) (layout == 2) (Decides-eqb layout 1) (Decides-eqb layout 2)
 
 -- a layout that an image may have isn't 0, which says that there is none
 layout_nonzero : (layout : ℕ) → IsLayout layout → (layout == 0) ≡ false
-layout_nonzero layout is = ap (λ l. l == 0) is
+layout_nonzero layout (inl one) = ap (λ l. l == 0) one
+layout_nonzero layout (inr two) = ap (λ l. l == 0) two
 
 abbrev Checked : ℕ → List ℕ → Type 0
 Checked size words = (words ≡ home_block size (home_named words)) × (IsLayout (home_named words).layout

@@ -43,7 +43,7 @@ copy_map = record {
   mapped = record {
     home = inr (
       λ other copy. some_none (sym copy.words),
-      record { words = refl; layout = refl; master_from = lit≤ tt; master_below = lit< tt },
+      record { words = refl; layout = inl refl; master_from = lit≤ tt; master_below = lit< tt },
     );
     master = directory_kept master_words IsMasterEntry v1 v1_untouched_copy v1_map.chain _ v1_has_map.mapped.master
         (λ n h. kept n (omega arith));

@@ -1,6 +1,6 @@
 -- V1 with one change: the faults that it has.
-use Rattle.std.proofs.Common.{◌≡◌, ℕ, ◌+◌, ◌/◌, ◌^◌, ◌<◌, ◌≤◌, inl, inr, cond, List, [], ◌∷◌, length, replicate, get_or}
-use Rattle.std.proofs.Common.{Option, Some, refl, sym, ap, ◌∙◌, arith, lit<, lit≤}
+use Rattle.std.proofs.Common.{◌≡◌, ℕ, ◌+◌, ◌/◌, ◌^◌, ◌<◌, ◌≤◌, inl, inr, ⊎_elim, cond, List, [], ◌∷◌, length, replicate}
+use Rattle.std.proofs.Common.{get_or, Option, Some, refl, sym, ap, ◌∙◌, arith, lit<, lit≤}
 use Rattle.std.proofs.lemmas.Bool.{ne_eqb}
 use Rattle.blockdisk.specs.Disk.{Contents}
 use Rattle.meaning.specs.declared.put.Put.{Put}
@@ -70,7 +70,7 @@ abbrev pub foo_place : Place
 foo_place = place_of owner foo_txt
 
 pub home_stands : (c : Contents) → c 1 ≡ Some home_words → IsHome 64 c (record { layout = 1; master = 15 })
-home_stands c home = inl (record { words = home; layout = refl; master_from = lit≤ tt; master_below = lit< tt })
+home_stands c home = inl (record { words = home; layout = inl refl; master_from = lit≤ tt; master_below = lit< tt })
 
 at_master : (c : Contents) → c 1 ≡ Some home_words → IsMasterWalk 64 c 1 [] 15
 at_master c home = record { volume = v1_has_map.volume; master = 15; home = home_stands c home; walk = refl }
@@ -143,7 +143,7 @@ no_third : (c : Contents) (n : ℕ) → c n ≡ Some third_home → (home : Home
 no_third c n is home copy =
     let same : third_home ≡ home_block 64 home = some_same (sym is ∙ copy.words) in
     let third : 3 ≡ home.layout = ap (λ words. get_or words 1 0) same in
-    absurd (let one : home.layout ≡ 1 = copy.layout in omega arith)
+    absurd (⊎_elim (λ (one : home.layout ≡ 1). omega arith) (λ (two : home.layout ≡ 2). omega arith) copy.layout)
 
 pub bad_home : HasFault 64 v1_bad_home BadHome
 bad_home = settled_fault v1_bad_home BadHome refl (record {

@@ -140,7 +140,7 @@ pub v1_has_map : HasMap 64 v1 v1_map
 v1_has_map = record {
   volume = record { small = lit≤ tt; large = lit≤ tt };
   mapped = record {
-    home = inl (record { words = refl; layout = refl; master_from = lit≤ tt; master_below = lit< tt });
+    home = inl (record { words = refl; layout = inl refl; master_from = lit≤ tt; master_below = lit< tt });
     master = master;
     directories = λ ppn d is. ⊎_elim
         (λ new. subst (λ z. IsWhole 1 v1 z d) (sym new.0) (subst (IsWhole 1 v1 owner) (sym new.1) whole))
@@ -227,7 +227,7 @@ bare_has_map : HasMap 64 settled bare_map
 bare_has_map = record {
   volume = record { small = lit≤ tt; large = lit≤ tt };
   mapped = record {
-    home = inl (record { words = refl; layout = refl; master_from = lit≤ tt; master_below = lit< tt });
+    home = inl (record { words = refl; layout = inl refl; master_from = lit≤ tt; master_below = lit< tt });
     master = bare_master_stands;
     directories = λ ppn d is. absurd (no_directory ppn d is);
   };

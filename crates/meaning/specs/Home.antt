@@ -14,9 +14,9 @@ pub record Home : Type 0 where
   pub master : ℕ
 
 -- The layouts that an image may have. What a layout says of dates and quotas is a parameter of the other
--- definitions, so that a second one is one more case here.
+-- definitions.
 abbrev pub IsLayout : ℕ → Type 0
-IsLayout layout = layout ≡ 1
+IsLayout layout = (layout ≡ 1) ⊎ (layout ≡ 2)
 
 abbrev pub home_block : ℕ → Home → List ℕ
 home_block size home = filser_word ∷ home.layout ∷ size ∷ table_blocks size ∷ log_images size ∷ home.master

@@ -1,6 +1,6 @@
 -- Which layout contents have, and which files they stand for in it. A home copy names a layout, and the first valid
 -- copy counts, so the layout is a function of the contents.
-use Rattle.std.specs.Prelude.{◌≡◌, ℕ, ◌==◌, ◌&&◌, nat_le, nat_lt, Bool, if◌then◌else◌, List, get_or, Option, Some, None}
+use Rattle.std.specs.Prelude.{◌≡◌, ℕ, ◌==◌, ◌&&◌, ◌||◌, nat_le, nat_lt, Bool, if◌then◌else◌, List, get_or, Option, Some, None}
 use Rattle.std.specs.Cmp.Lexicographic.{pointwise}
 use Rattle.blockdisk.specs.Disk.{Contents, DiskState}
 use Rattle.meaning.specs.Files.{File, Files}
@@ -20,7 +20,7 @@ layout_number Two = 2
 
 -- an image may have it
 abbrev pub is_layout : ℕ → Bool
-is_layout layout = layout == 1
+is_layout layout = layout == 1 || layout == 2
 
 -- what the words of a home copy name
 abbrev pub home_named : List ℕ → Home

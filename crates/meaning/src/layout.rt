@@ -145,7 +145,7 @@ pub fn are_zeros(words: &[Word]) -> bool
 /// How an image spells dates and quotas, by the number that its home copies have for it.
 #[derive(Clone, Copy, Debug, PartialEq, Eq)]
 pub enum Layout {
-    /// Layout 1: dates of twelve bits, and no quotas. The only one that opens so far.
+    /// Layout 1: dates of twelve bits, and no quotas.
     One,
     /// Layout 2: dates of fifteen bits, and quotas.
     Two,

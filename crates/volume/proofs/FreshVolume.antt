@@ -11,7 +11,8 @@ use Rattle.meaning.specs.Blocks.{head_or_zero}
 use Rattle.meaning.specs.Regions.{IsVolumeSize, table_blocks, table_start, space_start}
 use Rattle.meaning.specs.Log.{open_gate, IsGateOpen}
 use Rattle.meaning.specs.Table.{table_bit}
-use Rattle.meaning.specs.Layouts.{pack_in, StandsOn}
+use Rattle.meaning.specs.Layouts.{layout_number, pack_in, StandsOn}
+use Rattle.meaning.specs.declared.layout.Layout.{Layout}
 use Rattle.meaning.specs.Stands.{HasMap, files_of}
 use Rattle.meaning.proofs.MapLaws.{some_same}
 use Rattle.meaning.proofs.Reading.{map_stands}
@@ -19,15 +20,17 @@ use Rattle.alloctab.specs.TableBlocks.{table_words}
 use Rattle.alloctab.proofs.WordLaws.{table_words_spell}
 use Rattle.alloctab.proofs.TableReading.{table_bit_at, table_bit_past, in_or_past}
 use Rattle.volume.specs.Homes.{IsInitBlock, IsBare, bare_map, fresh_bit, fresh_words, zero_words}
+use Rattle.volume.proofs.HomeCopies.{is_allowed}
 use Rattle.volume.proofs.FreshTable.{bit_below_few, fresh_bit_past, fresh_bit_is}
 
 -- Writing it.
 
-pub written_more : (size from n : ℕ) (c d : Contents) → ((m : ℕ) → from ≤ m → m < n → c m ≡ Some (fresh_words size m))
+pub written_more : (layout size from n : ℕ) (c d : Contents)
+    → ((m : ℕ) → from ≤ m → m < n → c m ≡ Some (fresh_words layout size m))
     → ((m : ℕ) → (m ≡ n → ⊥) → d m ≡ c m)
-    → d n ≡ Some (fresh_words size n) → (m : ℕ) → from ≤ m → m < n + 1 → d m ≡ Some (fresh_words size m)
-written_more size from n c d before others here m low high = ⊎_elim
-    (λ is. ap d is ∙ here ∙ ap (λ (k : ℕ). Some (fresh_words size k)) (sym is))
+    → d n ≡ Some (fresh_words layout size n) → (m : ℕ) → from ≤ m → m < n + 1 → d m ≡ Some (fresh_words layout size m)
+written_more layout size from n c d before others here m low high = ⊎_elim
+    (λ is. ap d is ∙ here ∙ ap (λ (k : ℕ). Some (fresh_words layout size k)) (sym is))
     (λ other. others m other ∙ before m low (omega arith)) (cases_eq m n)
 
 pub first_modified : (s s' : DiskState) → Modifies (λ n. (0 ≤ n) × (n < 5)) s s' → Modifies (IsInitBlock s.size) s s'
@@ -44,7 +47,8 @@ volume_modified s s' s'' start end at until first second =
 
 -- What it holds.
 
-module _ (size : ℕ) (c : Contents) (volume : IsVolumeSize size) (bare : IsBare size c) where
+module _ (layout : Layout) (size : ℕ) (c : Contents) (volume : IsVolumeSize size)
+    (bare : IsBare (layout_number layout) size c) where
   table_is_some : (i : ℕ) → i < table_blocks size → IsSome (c (table_start size + i))
   table_is_some i below = let e = bare.table i below in cc
 
@@ -56,11 +60,11 @@ module _ (size : ℕ) (c : Contents) (volume : IsVolumeSize size) (bare : IsBare
       (λ past. table_bit_past size c n past ∙ sym (fresh_bit_past size n volume past))
       (in_or_past (n / 4608) (table_blocks size))
 
-  pub fresh_has_map : HasMap size c (bare_map size)
-  fresh_has_map = map_stands size 1 c ((space_start size, []) ∷ []) [] volume
+  pub fresh_has_map : HasMap size c (bare_map (layout_number layout) size)
+  fresh_has_map = map_stands size (layout_number layout) c ((space_start size, []) ∷ []) [] volume
       (inl (record {
         words = bare.home;
-        layout = refl;
+        layout = is_allowed layout;
         master_from = omega arith;
         master_below = let small = volume.small in omega arith;
       }))
@@ -75,18 +79,19 @@ module _ (size : ℕ) (c : Contents) (volume : IsVolumeSize size) (bare : IsBare
       let first : head_or_zero zero_words ≡ head_or_zero open_gate = ap head_or_zero words in
       absurd (omega arith)
 
-  pub no_files : files_of (bare_map size) ≡ empty
+  pub no_files : files_of (bare_map (layout_number layout) size) ≡ empty
   unfolding empty entries
   no_files = refl
 
-  pub fresh_stands : StandsOn (pack_in 1 size) c empty
-  fresh_stands = (c, inl (fresh_shut, λ n. refl), (bare_map size, fresh_has_map, no_files, refl))
+  pub fresh_stands : StandsOn (pack_in (layout_number layout) size) c empty
+  fresh_stands = (c, inl (fresh_shut, λ n. refl), (bare_map (layout_number layout) size, fresh_has_map, no_files, refl))
 
-pub fresh_rest : (size : ℕ) (s : DiskState) → s.size ≡ size → IsVolumeSize size → IsBare size s.contents
-    → NoneOpen s → AtRest s (λ c. StandsOn (pack_in 1 size) c empty)
-fresh_rest size s same volume bare none = record {
-  shut = λ c left is. fresh_shut size s.contents volume bare
+pub fresh_rest : (layout : Layout) (size : ℕ) (s : DiskState) → s.size ≡ size → IsVolumeSize size
+    → IsBare (layout_number layout) size s.contents → NoneOpen s
+    → AtRest s (λ c. StandsOn (pack_in (layout_number layout) size) c empty)
+fresh_rest layout size s same volume bare none = record {
+  shut = λ c left is. fresh_shut layout size s.contents volume bare
       (subst (λ (n : ℕ). IsGateOpen n s.contents) same (subst (IsGateOpen s.size) (none_open_leaves s none c left) is));
-  all = λ c left. subst (λ (d : Contents). StandsOn (pack_in 1 size) d empty) (sym (none_open_leaves s none c left))
-      (fresh_stands size s.contents volume bare);
+  all = λ c left. subst (λ (d : Contents). StandsOn (pack_in (layout_number layout) size) d empty)
+      (sym (none_open_leaves s none c left)) (fresh_stands layout size s.contents volume bare);
 }

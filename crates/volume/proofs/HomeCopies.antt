@@ -1,6 +1,6 @@
 -- What the words of a home copy say.
 use Rattle.std.proofs.Common.{◌≡◌, Bool, ◌==◌, ℕ, ◌<◌, ◌≤◌, List, [], ◌∷◌, length, get_or, replicate, Some, refl, sym}
-use Rattle.std.proofs.Common.{◌∙◌, ap, subst, arith, slice_index}
+use Rattle.std.proofs.Common.{inl, inr, ◌∙◌, ap, subst, arith, slice_index, Option, None, IfNone}
 use Rattle.std.specs.Bool.{Decides}
 use Rattle.std.specs.Cmp.Lexicographic.{pointwise}
 use Rattle.std.proofs.lemmas.Bool.Decides.{Decides-eqb}
@@ -8,11 +8,29 @@ use Rattle.std.proofs.lemmas.Slice.Eq.{slice_eq-Decides}
 use Rattle.blockdisk.specs.Disk.{Contents}
 use Rattle.meaning.specs.Regions.{space_start}
 use Rattle.meaning.specs.Home.{filser_word, home_block, IsHomeCopy, IsLayout}
+use Rattle.meaning.specs.Layouts.{layout_number}
 use Rattle.meaning.specs.Faults.{InSpace, HasName}
+use Rattle.meaning.specs.declared.layout.Layout.{Layout}
+use Rattle.meaning.specs.declared.layout.Layout.TheVariants.{One, Two}
 use Rattle.meaning.proofs.MapLaws.{some_same}
 use Rattle.volume.specs.declared.home.HomeCopy.{HomeCopy}
 use Rattle.volume.specs.declared.home.HomeCopy.TheVariants.{Valid, Named, Unnamed}
 use Rattle.volume.specs.Homes.{home_in, IsNoCopy, IsFound, holds_words}
+
+-- the number of a layout is one that an image may have
+pub is_allowed : (layout : Layout) → IsLayout (layout_number layout)
+is_allowed One = inl refl
+is_allowed Two = inr refl
+
+-- a number that an image may have is that of a layout
+pub layout_for : (number : ℕ) → IsLayout number → (layout : Layout) × (layout_number layout ≡ number)
+layout_for number (inl one) = (One, sym one)
+layout_for number (inr two) = (Two, sym two)
+
+pub no_layout : (word number : ℕ) (found : Option Layout) → number ≡ word
+    → IfNone found ((layout : Layout) → layout_number layout ≡ number → ⊥) → IfNone found (IsLayout word → ⊥)
+no_layout word number (Some layout) is none = tt
+no_layout word number None is none = λ allowed. let one = layout_for word allowed in none one.0 (one.1 ∙ sym is)
 
 -- words that begin with the name
 pub has_name : (words : List ℕ) (n cell first : ℕ) → length words ≡ 128 → first ≡ get_or words 0 cell

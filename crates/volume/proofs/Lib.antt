@@ -107,3 +107,4 @@ pub mod RunsRead
 pub mod PrimesRead
 pub mod HomesKept
 pub mod PublishingHomes
+pub mod Migrations

@@ -56,23 +56,23 @@ abbrev pub zero_words : List ℕ
 zero_words = replicate 128 0
 
 -- Its blocks, as far as they are written.
-pub record IsBare (size : ℕ) (contents : Contents) : Type 0 where
+pub record IsBare (layout size : ℕ) (contents : Contents) : Type 0 where
   pub first : contents 0 ≡ Some zero_words
-  pub home : contents 1 ≡ Some (home_block size (home_in 1 (space_start size)))
-  pub second_home : contents 2 ≡ Some (home_block size (home_in 1 (space_start size)))
+  pub home : contents 1 ≡ Some (home_block size (home_in layout (space_start size)))
+  pub second_home : contents 2 ≡ Some (home_block size (home_in layout (space_start size)))
   pub gate : contents 3 ≡ Some zero_words
   pub log_header : contents 4 ≡ Some zero_words
   pub table : (i : ℕ) → i < table_blocks size → contents (table_start size + i) ≡ Some (table_words (fresh_bit size) i)
   pub master : contents (space_start size) ≡ Some zero_words
 
 -- its map: a master directory of one empty block
-abbrev pub bare_map : ℕ → DiskMap
-bare_map size = found_map 1 ((space_start size, []) ∷ []) []
+abbrev pub bare_map : ℕ → ℕ → DiskMap
+bare_map layout size = found_map layout ((space_start size, []) ∷ []) []
 
 -- the words that block n of it gets
-abbrev pub fresh_words : ℕ → ℕ → List ℕ
-fresh_words size n =
-    if n == 1 then home_block size (home_in 1 (space_start size)) else
-    if n == 2 then home_block size (home_in 1 (space_start size)) else
+abbrev pub fresh_words : ℕ → ℕ → ℕ → List ℕ
+fresh_words layout size n =
+    if n == 1 then home_block size (home_in layout (space_start size)) else
+    if n == 2 then home_block size (home_in layout (space_start size)) else
     if nat_lt n (table_start size) then zero_words else
     if nat_lt n (space_start size) then table_words (fresh_bit size) (n - table_start size) else zero_words

@@ -25,3 +25,4 @@ pub mod Moving
 pub mod HomeBlocks
 pub mod PrimeBlocks
 pub mod Quotas
+pub mod Migrating

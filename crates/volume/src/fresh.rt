@@ -3,7 +3,7 @@ ghost use Rattle.blockdisk.specs.Disk.{LeavesOnly, Near, SameDisk, Modifies, Non
 ghost use Rattle.blockdisk.specs.declared.fault.Fault.TheVariants.{Device as Failed, Damaged};
 ghost use Rattle.alloctab.specs.TableBlocks.{number_of, table_words};
 ghost use Rattle.changeset.specs.Rest.{AtRest};
-ghost use Rattle.meaning.specs.Layouts.{StandsOn, pack_in};
+ghost use Rattle.meaning.specs.Layouts.{StandsOn, layout_number, pack_in};
 ghost use Rattle.meaning.specs.Maps.{empty};
 ghost use Rattle.meaning.specs.Regions.{IsVolumeSize};
 ghost use Rattle.meaning.specs.Log.{IsGateOpen};
@@ -21,27 +21,29 @@ use meaning::layout::{
 };
 use words36::{BLOCK_WORDS, Block, Word};
 
-/// Makes a volume with no directory of a disk of 64 to 131072 blocks. The blocks behind the master
-/// directory's first, and the log's images, stay as they are. A disk whose making was stopped by a crash
-/// may be anything.
+/// Makes a volume with no directory, in a layout, of a disk of 64 to 131072 blocks. The blocks behind the
+/// master directory's first, and the log's images, stay as they are. A disk whose making was stopped by a
+/// crash may be anything.
 ///
 /// # Errors
 ///
 /// `NotVolume` where the disk has another number of blocks, with nothing written; `Device` where the
 /// device failed.
-pub fn init<D: Disk>(disk: &mut D) -> Result<(), VolumeError>
-    // The disk is a volume then, and stands for no files: whatever a crash leaves.
+pub fn init_layout<D: Disk>(disk: &mut D, layout: Layout) -> Result<(), VolumeError>
+    // The disk is a volume of that layout then, and stands for no files: whatever a crash leaves.
     ensures stands { (D.state disk.new).honest
-        → OnOk result (AtRest (D.state disk.new) (λ c. StandsOn (pack_in 1 (D.state disk.old).size) c empty)) }
+        → OnOk result (AtRest (D.state disk.new)
+        (λ c. StandsOn (pack_in (layout_number layout) (D.state disk.old).size) c empty)) }
     ensures map { (D.state disk.new).honest
-        → OnOk result (HasMap (D.state disk.old).size (D.state disk.new).contents (bare_map (D.state disk.old).size)) }
+        → OnOk result (HasMap (D.state disk.old).size (D.state disk.new).contents
+        (bare_map (layout_number layout) (D.state disk.old).size)) }
     ensures settled { (D.state disk.new).honest → OnOk result (NoneOpen (D.state disk.new)) }
     ensures shut { (D.state disk.new).honest
         → OnOk result (IsGateOpen (D.state disk.old).size (D.state disk.new).contents → ⊥) }
 
     // What is written, and where.
     ensures bare { (D.state disk.new).honest
-        → OnOk result (IsBare (D.state disk.old).size (D.state disk.new).contents) }
+        → OnOk result (IsBare (layout_number layout) (D.state disk.old).size (D.state disk.new).contents) }
     ensures modified { (D.state disk.new).honest
         → OnOk result (Modifies (IsInitBlock (D.state disk.old).size) (D.state disk.old) (D.state disk.new)) }
     ensures near { (D.state disk.new).honest
@@ -59,17 +61,17 @@ pub fn init<D: Disk>(disk: &mut D) -> Result<(), VolumeError>
     if !is_volume_size(disk.blocks()) {
         return Err(VolumeError::NotVolume);
     }
-    match write_volume(disk) {
+    match write_volume(disk, layout) {
         Ok(()) => Ok(()),
         Err(_) => Err(VolumeError::Device),
     }
 }
 
-/// Writes the blocks of a volume with no directory, and waits until they are on the disk.
-fn write_volume<D: Disk>(disk: &mut D) -> Result<(), Fault>
+/// Writes the blocks of a volume of a layout with no directory, and waits until they are on the disk.
+fn write_volume<D: Disk>(disk: &mut D, layout: Layout) -> Result<(), Fault>
     requires { IsVolumeSize (D.state disk.old).size }
     ensures bare { (D.state disk.new).honest
-        → OnOk result (IsBare (D.state disk.old).size (D.state disk.new).contents) }
+        → OnOk result (IsBare (layout_number layout) (D.state disk.old).size (D.state disk.new).contents) }
     ensures settled { (D.state disk.new).honest → OnOk result (NoneOpen (D.state disk.new)) }
     ensures modified { (D.state disk.new).honest
         → OnOk result (Modifies (IsInitBlock (D.state disk.old).size) (D.state disk.old) (D.state disk.new)) }
@@ -82,17 +84,17 @@ fn write_volume<D: Disk>(disk: &mut D) -> Result<(), Fault>
     ensures served { OnOk result ((D.state disk.new).failures ≡ (D.state disk.old).failures) }
 {
     let size = disk.blocks();
-    write_fresh(disk, 0, LOG_START)?;
-    write_fresh(disk, table_start(size), space_start(size) + 1)?;
+    write_fresh(disk, layout, 0, LOG_START)?;
+    write_fresh(disk, layout, table_start(size), space_start(size) + 1)?;
     disk.sync()
 }
 
-/// Writes the blocks from `from` to before `end` as a volume with no directory has them.
-fn write_fresh<D: Disk>(disk: &mut D, from: u32, end: u32) -> Result<(), Fault>
+/// Writes the blocks from `from` to before `end` as a volume of a layout with no directory has them.
+fn write_fresh<D: Disk>(disk: &mut D, layout: Layout, from: u32, end: u32) -> Result<(), Fault>
     requires volume { IsVolumeSize (D.state disk.old).size }
     requires inside { end ≤ (D.state disk.old).size }
     ensures written { (D.state disk.new).honest → OnOk result ((n : ℕ) → from ≤ n → n < end
-        → (D.state disk.new).contents n ≡ Some (fresh_words (D.state disk.old).size n)) }
+        → (D.state disk.new).contents n ≡ Some (fresh_words (layout_number layout) (D.state disk.old).size n)) }
     ensures modified { (D.state disk.new).honest
         → Modifies (λ n. (from ≤ n) × (n < end)) (D.state disk.old) (D.state disk.new) }
     ensures same { SameDisk (D.state disk.old) (D.state disk.new) }
@@ -102,21 +104,21 @@ fn write_fresh<D: Disk>(disk: &mut D, from: u32, end: u32) -> Result<(), Fault>
 {
     let size = disk.blocks();
     for n in from..end {
-        disk.write(n, &fresh_block(size, n))?;
+        disk.write(n, &fresh_block(layout, size, n))?;
     }
     Ok(())
 }
 
-/// The words that a block gets when a volume is made.
-fn fresh_block(size: u32, n: u32) -> Block
+/// The words that a block gets when a volume of a layout is made.
+fn fresh_block(layout: Layout, size: u32, n: u32) -> Block
     requires volume { IsVolumeSize size }
     requires inside { n < size }
-    ensures { result ≡ fresh_words size n }
+    ensures { result ≡ fresh_words (layout_number layout) size n }
 {
     let space = space_start(size);
     if HOME_COPIES.contains(&n) {
         let home = Home {
-            layout: Layout::One,
+            layout,
             master: space,
         };
         home_block(size, home)

@@ -64,10 +64,7 @@ fn layout_at(word: Word) -> Option<Layout>
     ensures some { IfSome result (λ layout. (layout_number layout ≡ word) × IsLayout word) }
     ensures none { IfNone result (IsLayout word → ⊥) }
 {
-    match word.bits() {
-        1 => Some(Layout::One),
-        _ => None,
-    }
+    Layout::from_number(word.bits())
 }
 
 /// What the words of a home copy name on a disk of so many blocks; `None` if the layout is none that an image may have,

@@ -18,12 +18,13 @@ ghost use Rattle.volume.specs.Rest.{IsAtRest, RestsAt, StandsLike, StandsLikeBef
 ghost use Rattle.volume.specs.declared.error.VolumeError.TheVariants.{NotVolume, Device};
 
 use crate::VolumeError;
-use crate::fresh::init;
+use crate::fresh::init_layout;
 use crate::live::keep;
 use crate::map::{DiskMap, Volume};
 use crate::open::read_map;
 use blockdisk::{Disk, NoMemory};
 use changeset::{LogError, recover};
+use meaning::layout::Layout;
 use std::alloc::Global;
 
 /// Recovers a disk and reads all that it reaches, each block once, and its allocation table.
@@ -82,12 +83,11 @@ pub fn read_volume<D: Disk>(alloc: Global, disk: &mut D) -> Result<DiskMap, Volu
 }
 
 impl<D: Disk> Volume<D> {
-    /// Makes an empty volume on a disk, in layout 1: the fixed regions and the first block of the master
-    /// directory are written, and nothing else. It isn't safe against a stop.
+    /// Makes an empty volume on a disk, in layout 1, as `init_layout` does.
     ///
     /// # Errors
     ///
-    /// `NotVolume` where the disk has not from 64 to 131072 blocks, with nothing written; `Device`.
+    /// Those of `init_layout`.
     pub fn init(disk: &mut D) -> Result<(), VolumeError>
         ensures stands { (D.state disk.new).honest
             → OnOk result (AtRest (D.state disk.new) (λ c. StandsOn (pack_in 1 (D.state disk.old).size) c empty)) }
@@ -95,7 +95,7 @@ impl<D: Disk> Volume<D> {
         ensures shut { (D.state disk.new).honest
             → OnOk result (IsGateOpen (D.state disk.old).size (D.state disk.new).contents → ⊥) }
         ensures bare { (D.state disk.new).honest
-            → OnOk result (IsBare (D.state disk.old).size (D.state disk.new).contents) }
+            → OnOk result (IsBare 1 (D.state disk.old).size (D.state disk.new).contents) }
         ensures modified { (D.state disk.new).honest
             → OnOk result (Modifies (IsInitBlock (D.state disk.old).size) (D.state disk.old) (D.state disk.new)) }
         ensures near { (D.state disk.new).honest
@@ -108,7 +108,37 @@ impl<D: Disk> Volume<D> {
         ensures failed { IsErrOf result Device → (D.state disk.new).failures ≡ one_more (D.state disk.old).failures }
         ensures served { (IsErrOf result Device → ⊥) → (D.state disk.new).failures ≡ (D.state disk.old).failures }
     {
-        init(disk)
+        init_layout(disk, Layout::One)
+    }
+
+    /// Makes an empty volume on a disk, in a layout: the fixed regions and the first block of the master
+    /// directory are written, and nothing else. It isn't safe against a stop.
+    ///
+    /// # Errors
+    ///
+    /// `NotVolume` where the disk has not from 64 to 131072 blocks, with nothing written; `Device`.
+    pub fn init_layout(disk: &mut D, layout: Layout) -> Result<(), VolumeError>
+        ensures stands { (D.state disk.new).honest
+            → OnOk result (AtRest (D.state disk.new)
+            (λ c. StandsOn (pack_in (layout_number layout) (D.state disk.old).size) c empty)) }
+        ensures settled { (D.state disk.new).honest → OnOk result (NoneOpen (D.state disk.new)) }
+        ensures shut { (D.state disk.new).honest
+            → OnOk result (IsGateOpen (D.state disk.old).size (D.state disk.new).contents → ⊥) }
+        ensures bare { (D.state disk.new).honest
+            → OnOk result (IsBare (layout_number layout) (D.state disk.old).size (D.state disk.new).contents) }
+        ensures modified { (D.state disk.new).honest
+            → OnOk result (Modifies (IsInitBlock (D.state disk.old).size) (D.state disk.old) (D.state disk.new)) }
+        ensures near { (D.state disk.new).honest
+            → LeavesOnly (D.state disk.old) (D.state disk.new)
+            (Near (IsInitBlock (D.state disk.old).size) (D.state disk.old)) }
+        ensures range { IsErrOf result NotVolume ↔ (IsVolumeSize (D.state disk.old).size → ⊥) }
+        ensures untouched { IsErrOf result NotVolume → disk.new ≡ disk.old }
+        ensures only { IfErr result (λ error. (error ≡ NotVolume) ⊎ (error ≡ Device)) }
+        ensures same { SameDisk (D.state disk.old) (D.state disk.new) }
+        ensures failed { IsErrOf result Device → (D.state disk.new).failures ≡ one_more (D.state disk.old).failures }
+        ensures served { (IsErrOf result Device → ⊥) → (D.state disk.new).failures ≡ (D.state disk.old).failures }
+    {
+        init_layout(disk, layout)
     }
 
     /// Opens the volume on a disk: recovers it first, and then reads every block that it reaches. It is opened only

@@ -1,5 +1,6 @@
 use Rattle.std.proofs.Common.{ℕ, ◌<◌, ◌≤◌, Some, refl, ◌∙◌, ap, arith}
 use Rattle.blockdisk.specs.Laws.{same_disk_start, same_disk_on, modifies_start, modifies_write}
+use Rattle.meaning.specs.Layouts.{layout_number}
 use Rattle.volume.specs.Homes.{fresh_words}
 use Rattle.volume.proofs.FreshVolume.{written_more}
 use Rattle.volume.proofs.fresh.write_fresh.Goals as goal
@@ -31,8 +32,8 @@ loop-n-preserved g c =
           (omega arith, omega (arith, c.loop-n-test.true))
           (c.loop-n.invariant.modified (c.write.ensures.same.was_honest h)) (c.write.ensures.writes h);
       written = λ h.
-          written_more s.size c.args.from c.loop-n.n now.contents new.contents
+          written_more (layout_number c.args.layout) s.size c.args.from c.loop-n.n now.contents new.contents
           (c.loop-n.invariant.written (c.write.ensures.same.was_honest h)) (c.write.ensures.writes h).contents
           (c.in_ok-write.ensures.put h
-          ∙ ap Some (c.fresh_block.ensures ∙ ap (λ (size : ℕ). fresh_words size c.loop-n.n) c.blocks-size.ensures));
+          ∙ ap Some (c.fresh_block.ensures ∙ ap (λ (size : ℕ). fresh_words (layout_number c.args.layout) size c.loop-n.n) c.blocks-size.ensures));
     }

@@ -1,5 +1,6 @@
 use Rattle.std.proofs.Common.{◌≡◌, ◌<◌, ◌≤◌, ℕ, Some}
 use Rattle.blockdisk.specs.Disk.{Modifies, SameDisk}
+use Rattle.meaning.specs.Layouts.{layout_number}
 use Rattle.volume.specs.Homes.{fresh_words}
 use Rattle.volume.proofs.fresh.write_fresh.Given as goal
 
@@ -10,5 +11,5 @@ invariant-loop-n g l = record {
   modified : (g.D.Disk.state l.disk).honest
       → Modifies (λ n. (l.from ≤ n) × (n < l.end)) (g.D.Disk.state l.initial.disk) (g.D.Disk.state l.disk);
   written : (g.D.Disk.state l.disk).honest → (n : ℕ) → l.from ≤ n → n < l.n
-      → (g.D.Disk.state l.disk).contents n ≡ Some (fresh_words (g.D.Disk.state l.initial.disk).size n);
+      → (g.D.Disk.state l.disk).contents n ≡ Some (fresh_words (layout_number l.layout) (g.D.Disk.state l.initial.disk).size n);
 }

@@ -4,8 +4,8 @@ use Rattle.blockdisk.specs.Laws.{leaves_start, near_self}
 use Rattle.meaning.specs.Regions.{IsVolumeSize}
 use Rattle.volume.specs.Homes.{IsInitBlock}
 use Rattle.volume.proofs.FreshVolume.{fresh_has_map, fresh_rest}
-use Rattle.volume.proofs.fresh.init.Given
-use Rattle.volume.proofs.fresh.init.Goals as goal
+use Rattle.volume.proofs.fresh.init_layout.Given
+use Rattle.volume.proofs.fresh.init_layout.Goals as goal
 
 pub returns-then-not-is_volume_size-clause-near : goal.returns-then-not-is_volume_size-clause-near
 returns-then-not-is_volume_size-clause-near g c h =
@@ -19,10 +19,10 @@ is_volume g c = subst IsVolumeSize c.blocks-2.ensures
 
 pub returns-in-Ok-clause-stands : goal.returns-in-Ok-clause-stands
 returns-in-Ok-clause-stands g c h =
-    fresh_rest (g.D.Disk.state c.args.disk.now).size (g.D.Disk.state c.write_volume.new.disk)
+    fresh_rest c.args.layout (g.D.Disk.state c.args.disk.now).size (g.D.Disk.state c.write_volume.new.disk)
     c.write_volume.ensures.same.size (is_volume g c) (c.in-Ok.ensures.bare h) (c.in-Ok.ensures.settled h)
 
 pub returns-in-Ok-clause-map : goal.returns-in-Ok-clause-map
 returns-in-Ok-clause-map g c h =
-    fresh_has_map (g.D.Disk.state c.args.disk.now).size (g.D.Disk.state c.write_volume.new.disk).contents
+    fresh_has_map c.args.layout (g.D.Disk.state c.args.disk.now).size (g.D.Disk.state c.write_volume.new.disk).contents
     (is_volume g c) (c.in-Ok.ensures.bare h)

@@ -1,0 +1,47 @@
+-- The migration to layout 2: what a crash leaves of it, and what it makes of a disk.
+use Rattle.std.specs.Prelude.{◌≡◌, ◌⊎◌, ℕ, List, Some}
+use Rattle.blockdisk.specs.Disk.{Contents, DiskState, MayLeave, SameOutside}
+use Rattle.changeset.specs.Crashes.{IsGateOrLog}
+use Rattle.meaning.specs.Files.{File, Files}
+use Rattle.meaning.specs.Home.{home_block, IsHome}
+use Rattle.meaning.specs.Layouts.{pack_in, StandsOn}
+use Rattle.meaning.specs.Log.{IsGateOpen, IsSettled}
+use Rattle.volume.specs.Homes.{home_in}
+use Rattle.volume.specs.declared.migrate.Migrated.{Migrated}
+use Rattle.volume.specs.declared.migrate.Migrated.TheVariants.{Done, Already}
+
+-- the same files, in the layout that they had or in layout 2
+abbrev pub StandsOrRaised : ℕ → ℕ → Files File → Contents → Type 0
+StandsOrRaised size layout files c = StandsOn (pack_in layout size) c files ⊎ StandsOn (pack_in 2 size) c files
+
+-- It stands for whatever something stood for that a crash could leave at s, in the same layout or in layout 2.
+abbrev pub RaisedLikeBefore : DiskState → Contents → Type 0
+RaisedLikeBefore s c = (d : Contents) × MayLeave s d × ((layout : ℕ) (files : Files File)
+    → StandsOn (pack_in layout s.size) d files → StandsOrRaised s.size layout files c)
+
+-- It stands for whatever the contents at s stand for, in the same layout or in layout 2.
+abbrev pub RaisedLike : DiskState → Contents → Type 0
+RaisedLike s c = (layout : ℕ) (files : Files File) → StandsOn (pack_in layout s.size) s.contents files
+    → StandsOrRaised s.size layout files c
+
+-- what is answered where the files stood in this layout
+abbrev pub IsTold : ℕ → Migrated → Type 0
+IsTold layout Done = layout ≡ 1
+IsTold layout Already = layout ≡ 2
+
+abbrev pub IsHomeBlock : ℕ → Type 0
+IsHomeBlock n = (n ≡ 1) ⊎ (n ≡ 2)
+
+abbrev pub AreCopies : List ℕ → Contents → Type 0
+AreCopies words c = (c 1 ≡ Some words) × (c 2 ≡ Some words)
+
+-- The contents are now those that settled before, with the gate closed and both home copies for layout 2. They name the
+-- master directory that the first valid copy named.
+pub record IsMigrated (size : ℕ) (before now : Contents) : Type 0 where
+  pub settled : Contents
+  pub is_settled : IsSettled size before settled
+  pub others : SameOutside (λ n. IsGateOrLog size n ⊎ IsHomeBlock n) settled now
+  pub gate : IsGateOpen size now → ⊥
+  pub master : ℕ
+  pub home : IsHome size settled (home_in 1 master)
+  pub copies : AreCopies (home_block size (home_in 2 master)) now
