@@ -2,23 +2,23 @@ use crate::fault::report;
 use crate::{Status, Task};
 use commands::{Misfit, Reason, RefusedLines, SessionError, Tally};
 use std::io::Write;
-
-/// The last date that a volume of layout 1 has room for.
-const LAST_DATE: u32 = 4095;
+use volume::Layout;
 
 /// What lines and files come from, as people are told.
 const INPUT: &str = "standard input";
 
-/// Tells people that every call will be refused, if the date of a task is past those of the volume.
-pub(crate) fn tell_late_date<E: Write>(errors: &mut E, task: &Task) {
+/// Tells people that every call will be refused, if the date of a task is past those of the volume. A task has no date
+/// past those of layout 2, so the day that is told is the last one of layout 1.
+pub(crate) fn tell_late_date<E: Write>(errors: &mut E, task: &Task, layout: Layout) {
     let Some(at) = task.moment() else {
         return;
     };
     let date = at.date;
-    if date > LAST_DATE {
+    let last = layout.last_date();
+    if date > last {
         let _ = writeln!(
             errors,
-            "filser: --date {date}: this volume has dates up to {LAST_DATE} (4-Jan-1975)"
+            "filser: --date {date}: this volume has dates up to {last} (4-Jan-1975)"
         );
     }
 }

@@ -125,7 +125,7 @@ fn serve<D: Disk + Drop, R: Read, W: Write, E: Write>(
 {
     match Monitor::start(alloc, disk) {
         Ok(mut monitor) => {
-            tell_late_date(errors, &task);
+            tell_late_date(errors, &task, monitor.layout());
             let attended = attend(alloc, task, reader, writer, &mut monitor);
             let status = ending(attended);
             tell_refusal(errors, status, &attended);

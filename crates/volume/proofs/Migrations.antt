@@ -22,16 +22,13 @@ use Rattle.meaning.proofs.HomeChanges.{homes_raised}
 use Rattle.meaning.proofs.Layouts.{layout_is, settled_layout, settled_in_any}
 use Rattle.meaning.proofs.Settled.{settled_same}
 use Rattle.volume.specs.Migrating.{RaisedLike, RaisedLikeBefore, StandsOrRaised, IsHomeBlock, AreCopies, IsMigrated}
+use Rattle.volume.specs.Migrating.{home_puts}
 use Rattle.volume.specs.declared.map.DiskMap.{DiskMap as CoreMap}
 use Rattle.volume.specs.Cores.{known_of}
 use Rattle.volume.specs.Homes.{home_in}
 use Rattle.volume.specs.Rest.{IsAtRest, StandsLike, StandsLikeBefore}
 use Rattle.volume.proofs.Packs.{pack_held}
 use Rattle.volume.proofs.Starting.{stands_ignores_log, stands_ignores_gate}
-
--- the puts of the change
-abbrev pub home_puts : List ℕ → List Put
-home_puts words = record { block = 1; words = words } ∷ record { block = 2; words = words } ∷ []
 
 -- Every layout fits into layout 2.
 

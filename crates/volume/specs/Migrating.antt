@@ -1,7 +1,8 @@
 -- The migration to layout 2: what a crash leaves of it, and what it makes of a disk.
-use Rattle.std.specs.Prelude.{◌≡◌, ◌⊎◌, ℕ, List, Some}
+use Rattle.std.specs.Prelude.{◌≡◌, ◌⊎◌, ℕ, List, [], ◌∷◌, Some}
 use Rattle.blockdisk.specs.Disk.{Contents, DiskState, MayLeave, SameOutside}
 use Rattle.changeset.specs.Crashes.{IsGateOrLog}
+use Rattle.meaning.specs.declared.put.Put.{Put}
 use Rattle.meaning.specs.Files.{File, Files}
 use Rattle.meaning.specs.Home.{home_block, IsHome}
 use Rattle.meaning.specs.Layouts.{pack_in, StandsOn}
@@ -34,6 +35,10 @@ IsHomeBlock n = (n ≡ 1) ⊎ (n ≡ 2)
 
 abbrev pub AreCopies : List ℕ → Contents → Type 0
 AreCopies words c = (c 1 ≡ Some words) × (c 2 ≡ Some words)
+
+-- the change of both copies
+abbrev pub home_puts : List ℕ → List Put
+home_puts words = record { block = 1; words = words } ∷ record { block = 2; words = words } ∷ []
 
 -- The contents are now those that settled before, with the gate closed and both home copies for layout 2. They name the
 -- master directory that the first valid copy named.

@@ -1,6 +1,6 @@
-ghost use Rattle.std.specs.Prelude.{◌≡◌, ◌⊎◌, ◌≤◌, ℕ, [], ◌∷◌, length, OnOk, IfOk, IfErr, IsErrOf};
+ghost use Rattle.std.specs.Prelude.{◌≡◌, ◌⊎◌, ◌≤◌, ℕ, length, OnOk, IfOk, IfErr, IsErrOf};
 ghost use Rattle.blockdisk.specs.Disk.{LeavesOnly, Modifies, NoneOpen, SameDisk, Still, one_more};
-ghost use Rattle.changeset.specs.Crashes.{IsGateOrLog, IsRecovered, SyncsFirst};
+ghost use Rattle.changeset.specs.Crashes.{AllOrNone, IsGateOrLog, IsRecovered, IsShut, SyncsFirst};
 ghost use Rattle.changeset.specs.Puts.{replaced};
 ghost use Rattle.changeset.specs.Rest.{AtRest};
 ghost use Rattle.meaning.specs.Blocks.{head_or_zero};
@@ -12,7 +12,7 @@ ghost use Rattle.meaning.specs.Stands.{DiskMap, HasMap, files_of};
 ghost use Rattle.volume.specs.FaultsFound.{NamesInSpace, Refuses};
 ghost use Rattle.volume.specs.Homes.{home_in};
 ghost use Rattle.volume.specs.Migrating.{RaisedLike, RaisedLikeBefore, StandsOrRaised, IsTold, IsHomeBlock};
-ghost use Rattle.volume.specs.Migrating.{AreCopies, IsMigrated};
+ghost use Rattle.volume.specs.Migrating.{AreCopies, IsMigrated, home_puts};
 ghost use Rattle.volume.specs.declared.error.VolumeError.{VolumeError};
 ghost use Rattle.volume.specs.declared.error.VolumeError.TheVariants.{Device};
 ghost use Rattle.volume.specs.declared.migrate.Migrated.TheVariants.{Done, Already};
@@ -39,7 +39,7 @@ pub enum Migrated {
 
 /// The change that gives both home copies these words.
 fn home_puts(words: &Block) -> ChangeSet
-    ensures { result ≡ record { block = 1; words = words.now } ∷ record { block = 2; words = words.now } ∷ [] }
+    ensures { result ≡ home_puts words.now }
 {
     let [first, second] = HOME_COPIES;
     let mut set = ChangeSet::new();
@@ -77,6 +77,10 @@ fn raise<D: Disk>(disk: &mut D, master: u32) -> Result<(), VolumeError>
         → AtRest (D.state disk.old) (λ c. HasMap (D.state disk.old).size c m)
         → OnOk result (AtRest (D.state disk.new)
         (λ c. SettledStandsOn (pack_in 2 (D.state disk.old).size) c (files_of m))) }
+    // It is one change: none of its puts is made, or both are.
+    ensures one { (D.state disk.new).honest → IsShut (D.state disk.old)
+        → LeavesOnly (D.state disk.old) (D.state disk.new)
+        (AllOrNone (home_puts (home_block (D.state disk.old).size (home_in 2 master))) (D.state disk.old)) }
     // Which blocks are written, and what the copies have then.
     ensures modified { (D.state disk.new).honest
         → OnOk result (Modifies (λ n. IsGateOrLog (D.state disk.old).size n ⊎ IsHomeBlock n)

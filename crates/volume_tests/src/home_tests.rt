@@ -76,7 +76,9 @@ fn no_copy_has_the_name(rt: HostRuntime) {
 #[test]
 fn a_copy_with_a_wrong_word_is_bad(rt: HostRuntime) {
     let copies = [
-        beginning(&[HOME[0], 2, 0o100, 1, 0o11, 0o17]),
+        beginning(&[HOME[0], 0, 0o100, 1, 0o11, 0o17]),
+        beginning(&[HOME[0], 3, 0o100, 1, 0o11, 0o17]),
+        beginning(&[HOME[0], 0o1000001, 0o100, 1, 0o11, 0o17]),
         beginning(&[HOME[0], 1, 0o101, 1, 0o11, 0o17]),
         beginning(&[HOME[0], 1, 0o100, 2, 0o11, 0o17]),
         beginning(&[HOME[0], 1, 0o100, 1, 0o12, 0o17]),

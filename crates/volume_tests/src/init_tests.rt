@@ -6,7 +6,7 @@ use blockdisk::{MemDisk, NoMemory};
 use std::alloc::Global;
 use std::process::Abort;
 use std::test::Fail;
-use volume::{DiskMap, VolumeError};
+use volume::{DiskMap, Layout, Volume, VolumeError};
 
 /// The master directory has this one block, there is no other directory, and nothing else is in use.
 fn expect_bare(rt: &impl Abort, map: &DiskMap, master: u32) {
@@ -118,5 +118,22 @@ fn other_sizes_are_refused(rt: HostRuntime) -> Result<(), Fail> {
         let mut disk = of_size(&rt, rt.alloc(), size)?;
         expect_unmade(&rt, &mut disk, VolumeError::Device, 1);
     }
+    Ok(())
+}
+
+/// A volume of layout 2 has the blocks of one of layout 1, but for the home copies.
+#[test]
+fn a_volume_of_layout_2_is_made(rt: HostRuntime) -> Result<(), Fail> {
+    let mut disk = MemDisk::new(rt.alloc(), SIZE, 8)?;
+    fill(&rt, &mut disk, 0, SIZE, 0o252525252525);
+    assert!(rt; Volume::init_layout(&mut disk, Layout::Two) == Ok(()));
+    let home = beginning(&[HOME[0], 2, 0o100, 1, 0o11, 0o17]);
+    expect_block(&rt, &mut disk, 1, &home);
+    expect_block(&rt, &mut disk, 2, &home);
+    load(&rt, &mut disk, 1, &beginning(&HOME));
+    load(&rt, &mut disk, 2, &beginning(&HOME));
+    expect_small(&rt, &mut disk);
+    expect_filled(&rt, &mut disk, 5, 14, 0o252525252525);
+    expect_filled(&rt, &mut disk, 16, SIZE, 0o252525252525);
     Ok(())
 }

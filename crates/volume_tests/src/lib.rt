@@ -21,6 +21,8 @@ mod init_tests;
 #[cfg(test)]
 mod make_tests;
 #[cfg(test)]
+mod migrate_tests;
+#[cfg(test)]
 mod open_tests;
 #[cfg(test)]
 mod quota_tests;

@@ -77,3 +77,19 @@ fn quotas_of_a_long_master_directory(rt: HostRuntime) -> Result<(), Fail> {
     }
     Ok(())
 }
+
+/// Layout 2 has quotas, and bits 9 to 17 of the word are zero in it, too.
+#[test]
+fn a_quota_in_layout_2(rt: HostRuntime) -> Result<(), Fail> {
+    for (protection, wanted) in [
+        (0o775000000000, Ok(4)),
+        (0o775000000001, Ok(4)),
+        (0o775000777777, Ok(4)),
+        (0o775001000000, Err(VolumeError::BadDirectory(15))),
+    ] {
+        let mut disk = v1_with(&rt, rt.alloc(), protection)?;
+        put(&rt, &mut disk, 1, &[HOME[0], 2, 0o100, 1, 0o11, 0o17]);
+        expect_booked(&rt, rt.alloc(), disk, wanted);
+    }
+    Ok(())
+}
