@@ -1,5 +1,5 @@
 //! The arguments of subcommands, as values of `clap`'s, and the texts of their help.
-ghost use Rattle.std.specs.Prelude.{◌≡◌, IfOk, codes, false};
+ghost use Rattle.std.specs.Prelude.{◌≡◌, IfOk, Some, codes, false};
 ghost use Rattle.clap.specs.Words.{app_of, new_rule, rule_of, with_rule};
 ghost use Rattle.clap.specs.declared.builder.command.Command.TheViews.{out-Command as fields_of};
 ghost use Rattle.arguments.specs.CommandLine.{date_rule, dated, filed, flag, form_rule, formed, numbered, optional};
@@ -12,6 +12,7 @@ use std::alloc::{AllocError, Global};
 pub(crate) fn wanted<'a>(alloc: Global, id: &'a str, help: &'a str) -> Arg<'a>
     ensures rule { rule_of result ≡ wanted id.entry.now }
     ensures local { result.global ≡ false }
+    ensures help { result.help ≡ Some help.entry }
 {
     Arg::new(alloc, id).required(true).help(help)
 }
@@ -67,6 +68,7 @@ pub(crate) fn with_argument<'a>(
 pub(crate) fn about<'a>(command: Command<'a>, text: &'a str) -> Command<'a>
     ensures app { app_of result ≡ app_of command.entry }
     ensures local { (fields_of result).has_globals ≡ (fields_of command.entry).has_globals }
+    ensures text { (fields_of result).about ≡ Some text.entry }
 {
     command.about(text)
 }
@@ -116,6 +118,8 @@ pub(crate) fn formed<'a>(alloc: Global, command: Command<'a>) -> Result<Command<
 pub(crate) fn shown<'a>(command: Command<'a>, example: &'a str) -> Command<'a>
     ensures app { app_of result ≡ app_of command.entry }
     ensures local { (fields_of result).has_globals ≡ (fields_of command.entry).has_globals }
+    ensures about { (fields_of result).about ≡ (fields_of command.entry).about }
+    ensures text { (fields_of result).after_help ≡ Some example.entry }
 {
     command.after_help(example)
 }

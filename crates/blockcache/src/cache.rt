@@ -1,5 +1,5 @@
 ghost use Rattle.std.specs.Prelude.{◌≡◌, ◌+◌, ◌<◌, ◌≤◌, ◌^◌, ℕ, List, Some, None, Ok, IfOk, IfErr, OnOk, OnErr, IfSome};
-ghost use Rattle.std.specs.Prelude.{[], Contains, length, nat_eq};
+ghost use Rattle.std.specs.Prelude.{[], ◌∷◌, Contains, IfNone, get_or, length, nat_eq};
 ghost use Rattle.std.specs.NonZero.{non_zero_usize_get};
 ghost use Rattle.std.specs.Map.{lookup};
 ghost use Rattle.lru.specs.LruCache.{lru_cache};
@@ -136,6 +136,14 @@ impl<D: Disk> Disk for Cached<D> {
         ensures within { IfOk result (IsWithin first (first + length blocks.old)) }
         ensures reads { IsRunRead first (D.state self.old.inner) (D.state self.new.inner) blocks.new result }
         ensures passes_by { (length blocks.old ≡ 1 → ⊥) → self.new.cache ≡ self.old.cache }
+        ensures recalled { length blocks.old ≡ 1 → IfSome (lookup (nat_eq first) self.old.cache.entries)
+            (λ block. (result ≡ Ok None) × (blocks.new ≡ block ∷ []) × (self.new.inner ≡ self.old.inner)
+            × (self.new.cache ≡ used first self.old.cache)) }
+        ensures keeps_block { length blocks.old ≡ 1 → lookup (nat_eq first) self.old.cache.entries ≡ None
+            → IfOk result (λ bad. IfNone bad
+            (IsCached first (get_or blocks.new 0 []) self.old.cache self.new.cache)) }
+        ensures keeps_none { length blocks.old ≡ 1 → lookup (nat_eq first) self.old.cache.entries ≡ None
+            → (result ≡ Ok None → ⊥) → self.new.cache ≡ self.old.cache }
     {
         if blocks.len() != 1 {
             return self.inner.read_run(first, blocks);
@@ -179,6 +187,9 @@ impl<D: Disk> Disk for Cached<D> {
             → self.new.cache ≡ without_run first (length blocks.now) self.old.cache }
         ensures none { (length blocks.now ≡ 1 → ⊥) → (n : ℕ) → IsInRun first (length blocks.now) n
             → lookup (nat_eq n) self.new.cache.entries ≡ None }
+        ensures keeps_block { length blocks.now ≡ 1
+            → OnOk result (IsCached first (get_or blocks.now 0 []) (without first self.old.cache) self.new.cache) }
+        ensures forgets_block { length blocks.now ≡ 1 → OnErr result (self.new.cache ≡ without first self.old.cache) }
     {
         if blocks.len() == 1 {
             return self.write(first, &blocks[0]);

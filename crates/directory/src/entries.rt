@@ -1,6 +1,6 @@
 ghost use Rattle.std.specs.Prelude.{◌≡◌, ◌<◌, ◌++◌, ◌∷◌, [], IfOk, OnOk, OnErr, IsErrOf, IfSome, IfNone, None, Some};
 ghost use Rattle.std.specs.Prelude.{suc};
-ghost use Rattle.std.specs.Prelude.{length, map, swap_remove, slice_get, slice_set, take, drop};
+ghost use Rattle.std.specs.Prelude.{length, map, get_or, swap_remove, slice_get, slice_set, take, drop};
 ghost use Rattle.std.specs.FinMap.Entries.{find};
 ghost use Rattle.meaning.specs.Maps.{EachOnce};
 ghost use Rattle.directory.specs.Edits.{StandsAt};
@@ -174,7 +174,8 @@ impl<E: Entry> Entries<E> {
     /// Takes out the entry at a place; the last one moves there.
     pub fn swap_remove(&mut self, i: usize) -> E
         requires { i < length self.old }
-        ensures { self.new ≡ swap_remove self.old i result }
+        ensures value { result ≡ get_or self.old i result }
+        ensures entries { self.new ≡ swap_remove self.old i result }
     {
         take_place(&mut self.order, &self.list, i);
         self.list.swap_remove(i)

@@ -61,11 +61,12 @@ IsFaultOfFile size layout contents reached place prime (BadData n) = IsDamagedDa
 
 -- Block n, of a version that an entry names, is not as it should be.
 pub record IsBadFileOf (size layout : ℕ) (contents : Contents) (ppn : ℕ) (entries : List FileEntry) (n : ℕ) : Type 0
-    where
-  pub name : FileName
-  pub prime : ℕ
-  pub entry : find name_cmp name entries ≡ Some prime
-  pub bad : IsBadVersion size contents layout prime n ⊎ ((n ≡ prime) × IsOtherPlace layout contents (place_of ppn name) prime)
+  where
+    pub name : FileName
+    pub prime : ℕ
+    pub entry : find name_cmp name entries ≡ Some prime
+    pub bad : IsBadVersion size contents layout prime n
+        ⊎ ((n ≡ prime) × IsOtherPlace layout contents (place_of ppn name) prime)
 
 -- Block n is a damaged data block.
 pub record IsBadDataOf (layout : ℕ) (contents : Contents) (ppn : ℕ) (entries : List FileEntry) (n : ℕ) : Type 0 where

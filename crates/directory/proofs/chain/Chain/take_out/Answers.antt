@@ -9,7 +9,7 @@ invariant_of-self g c = (
       (record { blocks = c.self.inside.blocks.items; entries = c.self.inside.entries }) c.args.self.now
       c.args.i c.swap_remove.result
       c.pop_empty-freed.new.blocks.items c.pop_empty-freed.result c.swap_remove.new.self c.self.view_is
-      c.self.invariant.0 c.requires.within c.pop_empty-freed.ensures.blocks c.swap_remove.ensures
+      c.self.invariant.0 c.requires.within c.pop_empty-freed.ensures.blocks c.swap_remove.ensures.entries
       (c.pop_empty-freed.ensures.counted ∙ ap directory_cost c.len.ensures),
   c.pop_empty-freed.ensures.places,
 )
@@ -19,7 +19,7 @@ returns-clause-entries g c =
     removed_entries g.met.E.Entry.total g.E.Entry.IsEntry g.E.Entry.view
     (record { blocks = c.self.inside.blocks.items; entries = c.self.inside.entries }) c.args.self.now
     c.args.i c.swap_remove.result
-    c.swap_remove.new.self c.self.view_is c.requires.within c.swap_remove.ensures
+    c.swap_remove.new.self c.self.view_is c.requires.within c.swap_remove.ensures.entries
 
 pub returns-clause-put : goal.returns-clause-put
 returns-clause-put g c =
@@ -28,6 +28,6 @@ returns-clause-put g c =
     c.args.i c.swap_remove.result
     c.pop_empty-freed.new.blocks.items c.deref.result.now c.pop_empty-freed.result c.swap_remove.new.self
     c.as_slice.result.now c.args.set.now c.put_hole.new.set
-    c.self.view_is c.self.invariant.0 c.requires.within c.pop_empty-freed.ensures.blocks c.swap_remove.ensures
+    c.self.view_is c.self.invariant.0 c.requires.within c.pop_empty-freed.ensures.blocks c.swap_remove.ensures.entries
     (c.pop_empty-freed.ensures.counted ∙ ap directory_cost c.len.ensures)
     c.deref.ensures.value c.as_slice.ensures c.put_hole.ensures.one c.put_hole.ensures.both

@@ -1,11 +1,14 @@
-use Rattle.std.proofs.Common.{◌≡◌, ◌+◌, ℕ, refl, subst, sym, ◌∙◌}
+use Rattle.std.proofs.Common.{◌≡◌, ◌+◌, ℕ, Some, refl, ap, subst, sym, ◌∙◌}
+use Rattle.meaning.specs.Jobs.{slot}
 use Rattle.meaning.specs.Layouts.{layout_number, pack_in, pack_of}
 use Rattle.meaning.specs.Retrieval.{date_limit}
 use Rattle.meaning.specs.Runs.{Service, Answers}
 use Rattle.meaning.specs.declared.call.Call.TheVariants.{Reset}
 use Rattle.meaning.specs.declared.call.Event.TheVariants.{Call as Calls}
 use Rattle.meaning.specs.declared.call.Reply.TheVariants.{Done, NoJob, DateRange}
+use Rattle.meaning.proofs.SlotLaws.{slot-set_other}
 use Rattle.monitor.specs.Serving.{Serves}
+use Rattle.monitor.specs.Sides.{reset_job}
 use Rattle.monitor.proofs.Answering.{late}
 use Rattle.monitor.proofs.Dates.{late_in, timely_in}
 use Rattle.monitor.proofs.Dropped.{leaves_none}
@@ -122,3 +125,10 @@ returns-clause-in_layout g c =
     (timely_in (layout_number v.layout) c.last_date.result c.args.moment.date
     (subst (λ l. c.last_date.result + 1 ≡ date_limit (layout_number l)) c.layout-layout.ensures.value
     c.last_date.ensures) c.if-moment-last_date.false) (c.reset.ensures.found c.if-not-reset.false)))
+
+pub returns-clause-others : goal.returns-clause-others
+returns-clause-others g c m other =
+    let found = c.reset.ensures.found c.if-not-reset.false in
+    ap (λ js. slot js m) found.2
+    ∙ slot-set_other c.self.inside.jobs c.args.job m (Some (reset_job found.0)) other
+    ∙ ap (λ s. slot s.jobs m) c.self.view_is
