@@ -1,7 +1,8 @@
 //! A volume: directories and files on a disk of blocks. What the layer keeps:
 //!
-//! 1. `Volume::init` makes a volume with no directory on every disk of 64 to 131072 blocks: at Ok no block
-//!    is open, and whatever a crash leaves from then on stands for no files. It writes the fixed regions but
+//! 1. `Volume::init` makes a volume with no directory on every disk of 64 to 131072 blocks, in layout 1, and
+//!    `init_layout` in the one that is named: at Ok no block
+//!    is open, and whatever a crash leaves from then on stands for no files, in that layout. It writes the fixed regions but
 //!    for the log's images, and the first block of the master directory. (`stands`, `settled`, `bare`,
 //!    `modified`, `near`)
 //! 2. `Volume::open` recovers the disk first and then reads every block that it reaches, each once. Where it
@@ -49,7 +50,11 @@
 //! 14. `copy_image` copies a volume to another disk of as many blocks: what `open` says of its disk holds of the one
 //!    that is copied, and at Ok the copy stands for the same files, with its gate closed and no block open. (`files`,
 //!    `settled`, `copied`, `crash`, `refused`)
-//! 15. No call after `open` writes a home copy: on an honest disk blocks 0 to 2 stay, except after `Device`, and a
+//! 15. `migrate` gives a volume layout 2: both home copies change as one, and no other block but those of gate and log.
+//!    A crash at any moment leaves what stands for the files that it stood for, in the layout that they had or in
+//!    layout 2; where it answers Ok, in layout 2. It refuses what `open` refuses. (`crash`, `synced`, `files`, `done`,
+//!    `already`, `refused`, `kept`)
+//! 16. No call after `open` writes a home copy: on an honest disk blocks 0 to 2 stay, except after `Device`, and a
 //!    crash at any moment of a call leaves there what one could leave before it. (`homes`, `home_blocks`)
 //!
 //! Between two calls the volume knows the map of its disk: the chains of its directories with their entries

@@ -1,6 +1,6 @@
 use crate::open_tests::{
-    HOME, beginning, damage, expect_block, expect_booked, failing, filled, load, map_of, only_version, put, v1,
-    v1_to_recover,
+    HOME, beginning, damage, expect_block, expect_booked, failing, filled, load, map_of,
+    only_version, put, v1, v1_to_recover,
 };
 use blockdisk::{Disk, Fail, FuseDisk, MemDisk, NoMemory, Pick};
 use meaning::layout::Layout;
@@ -134,7 +134,12 @@ fn the_first_copy_names_the_master_directory(rt: HostRuntime) -> Result<(), Test
 fn a_refused_volume_isnt_migrated(rt: HostRuntime) -> Result<(), TestFail> {
     let mut disk = v1(&rt, rt.alloc(), 100)?;
     damage(&rt, &mut disk, 17);
-    expect_migrated(&rt, rt.alloc(), &mut disk, Err(VolumeError::BadRetrieval(17)));
+    expect_migrated(
+        &rt,
+        rt.alloc(),
+        &mut disk,
+        Err(VolumeError::BadRetrieval(17)),
+    );
     expect_block(&rt, &mut disk, 1, &home(1));
     let mut disk = v1(&rt, rt.alloc(), 100)?;
     load(&rt, &mut disk, 1, &home(3));
@@ -161,7 +166,12 @@ fn stopped(
 }
 
 /// What a crash left of a stopped migration is opened, has the file, and has layout 1 or 2: layout 2 if it was done.
-fn expect_either(rt: &impl Abort, alloc: Global, passing: u64, pick: Pick) -> Result<bool, NoMemory> {
+fn expect_either(
+    rt: &impl Abort,
+    alloc: Global,
+    passing: u64,
+    pick: Pick,
+) -> Result<bool, NoMemory> {
     let (done, mut disk) = stopped(rt, alloc, passing, pick)?;
     let map = map_of(rt, alloc, &mut disk);
     assert!(rt; map.layout == Layout::Two || !done);
