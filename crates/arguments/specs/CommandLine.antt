@@ -38,6 +38,15 @@ form_rule = record (new_rule (codes "form")) {
   parser = Some (vp.Signed (pos 1) (pos 2));
 }
 
+-- the layout of a new volume, 1 or 2, which may be left out, and is 1 then
+abbrev pub layout_rule : Rule
+layout_rule = record (new_rule (codes "layout")) {
+  long = Some (codes "layout");
+  value_names = 1;
+  defaults = codes "1" ∷ [];
+  parser = Some (vp.Signed (pos 1) (pos 2));
+}
+
 -- with the form of an image
 unfoldable pub formed : App → App
 formed app = with_rule app form_rule
@@ -46,8 +55,12 @@ formed app = with_rule app form_rule
 unfoldable pub sized : App → App
 sized app = with_rule app (numbered (codes "BLOCKS") 64 131072)
 
+-- with the layout of a new volume
+unfoldable pub laid_out : App → App
+laid_out app = with_rule app layout_rule
+
 unfoldable pub init_app : App
-init_app = formed (sized (with_rule (new_app (codes "init")) (wanted (codes "IMAGE"))))
+init_app = formed (laid_out (sized (with_rule (new_app (codes "init")) (wanted (codes "IMAGE")))))
 
 -- with the date and the minute of what is written
 unfoldable pub dated : App → App

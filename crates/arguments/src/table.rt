@@ -8,7 +8,7 @@ ghost use Rattle.arguments.specs.CommandLine.{filing, get_app, init_app, list_ap
 ghost use Rattle.arguments.specs.CommandLine.{versioned};
 
 use crate::arguments::{
-    about, dated, filed, formed, place, shown, sized, tsv, wanted, with_argument,
+    about, dated, filed, formed, laid_out, place, shown, sized, tsv, wanted, with_argument,
 };
 use clap::Command;
 use std::alloc::{AllocError, Global};
@@ -77,7 +77,8 @@ fn init_command<'a>(alloc: Global) -> Result<Command<'a>, AllocError>
     );
     let command = shown(command, "Example:\n  filser init DISK.IMG 4096");
     let command = with_argument(command, wanted(alloc, "IMAGE", "The image file to make"))?;
-    formed(alloc, sized(alloc, command)?)
+    let command = sized(alloc, command)?;
+    formed(alloc, laid_out(alloc, command)?)
 }
 
 #[tactic(auto, unfolding(crate::specs::CommandLine::run_app))]
