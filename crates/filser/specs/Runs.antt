@@ -44,8 +44,9 @@ abbrev pub IsRequestRun : {H L N M F D I : Type 0} → HostFacts H → Views M F
 IsRequestRun facts views things Fresh source left sink full status =
     IsOnFresh views source left sink full things.memory status × (things.image ≡ Unasked things.opening)
     × (things.new ≡ Unasked things.making)
-IsRequestRun facts views things (Init path blocks form) source left sink full status =
-    (left ≡ source) × IsOnNew facts views path.now form blocks things.v sink full things.new status
+IsRequestRun facts views things (Init path blocks form layout) source left sink full status =
+    (left ≡ source) × IsOnNew facts views path.now form blocks layout things.v sink full things.new
+    status
     × (things.image ≡ Unasked things.opening) × (things.memory ≡ Nothing)
 IsRequestRun facts views things (Work path form task) source left sink full status =
     IsOnImage facts views path.now form things.u task source left sink full things.image status
