@@ -98,8 +98,11 @@ check_app = formed (with_rule (new_app (codes "check")) (wanted (codes "IMAGE"))
 unfoldable pub convert_app : App
 convert_app = formed (with_rule (with_rule (new_app (codes "convert")) (wanted (codes "IMAGE"))) (wanted (codes "NEW")))
 
--- the subcommands: those that make an image and serve an input on it, that bring a file in and out, that look, and the
--- one that converts
+unfoldable pub migrate_app : App
+migrate_app = formed (with_rule (new_app (codes "migrate")) (wanted (codes "IMAGE")))
+
+-- the subcommands: those that make an image and serve an input on it, that bring a file in and out, that look, and
+-- those that convert and migrate
 unfoldable pub serving : App → App
 serving app = with_subcommand (with_subcommand (with_subcommand app init_app.top) run_app.top) calls_app.top
 
@@ -110,7 +113,7 @@ unfoldable pub looking : App → App
 looking app = with_subcommand (with_subcommand app list_app.top) check_app.top
 
 unfoldable pub converting : App → App
-converting app = with_subcommand app convert_app.top
+converting app = with_subcommand (with_subcommand app convert_app.top) migrate_app.top
 
 -- a command of this name, which can be asked for its version
 abbrev pub versioned : Text → App
