@@ -16,7 +16,7 @@ use Rattle.meaning.specs.declared.style.Style.TheVariants.{Table}
 use Rattle.commands.specs.DayTexts.{IsDayText}
 use Rattle.commands.specs.Files.{IsFileName, IsOwnerName}
 use Rattle.filser.specs.declared.asked.Request.{Request}
-use Rattle.filser.specs.declared.asked.Request.TheVariants.{Fresh, Init, Work, Convert}
+use Rattle.filser.specs.declared.asked.Request.TheVariants.{Fresh, Init, Work, Convert, Migrate}
 use Rattle.filser.specs.declared.error.WrongArgument.{WrongArgument}
 use Rattle.filser.specs.declared.error.WrongArgument.TheVariants.{Owner, Name, Date}
 use Rattle.filser.specs.declared.task.NamedFile.{NamedFile}
@@ -115,6 +115,8 @@ IsAsked name rows (Work image form task) = HasText rows (codes "IMAGE") image.no
 IsAsked name rows (Convert image new form) =
     (name ≡ codes "convert") × HasText rows (codes "IMAGE") image.now × HasText rows (codes "NEW") new.now
     × HasForm rows form
+IsAsked name rows (Migrate image form) =
+    (name ≡ codes "migrate") × HasText rows (codes "IMAGE") image.now × HasForm rows form
 
 -- without a subcommand a fresh volume is asked for
 abbrev pub Asks : Option (Text × List Row) → Request → Type 0
@@ -122,6 +124,7 @@ Asks None Fresh = Unit
 Asks None (Init image blocks form layout) = ⊥
 Asks None (Work image form task) = ⊥
 Asks None (Convert image new form) = ⊥
+Asks None (Migrate image form) = ⊥
 Asks (Some found) request = IsAsked found.0 found.1 request
 
 -- Why nothing is asked for.
@@ -175,6 +178,7 @@ InRange Fresh = Unit
 InRange (Init image blocks form layout) = (64 ≤ blocks) × (blocks ≤ 131072)
 InRange (Work image form task) = Unit
 InRange (Convert image new form) = Unit
+InRange (Migrate image form) = Unit
 
 -- the path of the image that is named: of two, of the one that is there
 abbrev pub image_named : Request → Option Text
@@ -182,3 +186,4 @@ image_named Fresh = None
 image_named (Init image blocks form layout) = Some image.now
 image_named (Work image form task) = Some image.now
 image_named (Convert image new form) = Some image.now
+image_named (Migrate image form) = Some image.now

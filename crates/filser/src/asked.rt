@@ -16,6 +16,8 @@ pub enum Request<'a> {
     Work(&'a str, Form, Task),
     /// `convert`: write what is on the first image, which has this form, to a new one of the other form.
     Convert(&'a str, &'a str, Form),
+    /// `migrate`: give the volume of this image, which has this form, layout 2.
+    Migrate(&'a str, Form),
 }
 
 impl<'a> Request<'a> {
@@ -25,9 +27,8 @@ impl<'a> Request<'a> {
     {
         match self {
             Request::Fresh => None,
-            Request::Init(path, _, _, _)
-            | Request::Work(path, _, _)
-            | Request::Convert(path, _, _) => { Some(*path) }
+            Request::Init(path, _, _, _) | Request::Work(path, _, _) => Some(*path),
+            Request::Convert(path, _, _) | Request::Migrate(path, _) => Some(*path),
         }
     }
 }

@@ -24,6 +24,7 @@ use crate::convert::{Conversion, convert_image};
 use crate::fault::report;
 use crate::image::{NewVolume, make_image};
 use crate::lines::LineReader;
+use crate::migrating::migrate_image;
 use crate::outcome::Outcome;
 use crate::serving::{say, serve_fresh, serve_image};
 use crate::streams::stream_at;
@@ -265,6 +266,10 @@ fn perform<H: Host, R: Read, W: Write, E: Write>(
                 telling,
             };
             convert_image(host, alloc, &conversion, leaves, writer, errors)
+        }
+        Request::Migrate(path, form) => {
+            let migrated = migrate_image(host, alloc, path, form, leaves.image, writer, errors);
+            on_image(migrated, leaves.new)
         }
     }
 }

@@ -103,6 +103,7 @@ fn subcommand<'a>(name: &'a str, matches: &ArgMatches<'a>) -> Option<Request<'a>
             Some(Request::Init(image, blocks, form, layout(matches)?))
         }
         "convert" => Some(Request::Convert(image, text(matches, "NEW")?, form)),
+        "migrate" => Some(Request::Migrate(image, form)),
         _ => Some(Request::Work(image, form, task(name, matches)?)),
     }
 }
