@@ -1,6 +1,7 @@
 -- What becomes of images and their disks.
 use Rattle.std.proofs.Common.{◌≡◌, ◌⊎◌, inl, inr, ⊎_elim, ℕ, List, Option, Some, Result, Ok, Err, OnOk, refl}
-use Rattle.std.proofs.Common.{sym, subst, ◌∙◌, ◌+◌, ◌-◌, ◌*◌, ◌^◌, min, true, is_some, IfOk, ap, length, replicate, arith}
+use Rattle.std.proofs.Common.{sym, subst, ◌∙◌, ◌+◌, ◌-◌, ◌*◌, ◌^◌, min, true, is_some, IfOk, ap, length, replicate}
+use Rattle.std.proofs.Common.{arith}
 use Rattle.std.proofs.lemmas.List.{length-replicate}
 use Rattle.std.specs.Prelude.{IsErrOf, option_map, None as Nothing}
 use Rattle.std.specs.declared.io.Error.{Error}

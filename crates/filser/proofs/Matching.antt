@@ -224,8 +224,8 @@ convert_is_no_task name Check is asked = other_task name (codes "convert") Check
 pub no_convert : (name : Text) (rows : List Row) → name ≡ codes "convert"
     → ((t : Text) → HasText rows (codes "NEW") t → ⊥) → (r : Request) → IsAsked name rows r → ⊥
 no_convert name rows is none Fresh asked = asked
-no_convert name rows is none (Init image blocks form layout) asked = differ name (codes "convert") (codes "init") 321 325 refl
-    refl (λ e. omega arith) is asked.0
+no_convert name rows is none (Init image blocks form layout) asked = differ name (codes "convert") (codes "init")
+    321 325 refl refl (λ e. omega arith) is asked.0
 no_convert name rows is none (Work image form task) asked = convert_is_no_task name task is asked.2.0
 no_convert name rows is none (Convert image new form) asked = none new.now asked.2
 no_convert name rows is none (Migrate image form) asked = differ name (codes "convert") (codes "migrate") 321 319 refl

@@ -4,7 +4,8 @@ use Rattle.filser.proofs.image.volume_on.Goals as goal
 
 pub returns-in-Ok-clause-empty : goal.returns-in-Ok-clause-empty
 returns-in-Ok-clause-empty c =
-    empty_volume c.args.layout c.args.disk.blocks _ c.in-Ok.ensures.same.size c.in-Ok.ensures.stands c.in-Ok.ensures.settled
+    empty_volume c.args.layout c.args.disk.blocks _ c.in-Ok.ensures.same.size c.in-Ok.ensures.stands
+    c.in-Ok.ensures.settled
 
 pub returns-in-Err-clause-denied : goal.returns-in-Err-clause-denied
 returns-in-Err-clause-denied c = (
