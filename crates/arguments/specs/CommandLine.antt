@@ -38,6 +38,15 @@ form_rule = record (new_rule (codes "form")) {
   parser = Some (vp.Signed (pos 1) (pos 2));
 }
 
+-- the layout of a new volume, 1 or 2, which may be left out, and is 1 then
+abbrev pub layout_rule : Rule
+layout_rule = record (new_rule (codes "layout")) {
+  long = Some (codes "layout");
+  value_names = 1;
+  defaults = codes "1" ∷ [];
+  parser = Some (vp.Signed (pos 1) (pos 2));
+}
+
 -- with the form of an image
 unfoldable pub formed : App → App
 formed app = with_rule app form_rule
@@ -46,8 +55,12 @@ formed app = with_rule app form_rule
 unfoldable pub sized : App → App
 sized app = with_rule app (numbered (codes "BLOCKS") 64 131072)
 
+-- with the layout of a new volume
+unfoldable pub laid_out : App → App
+laid_out app = with_rule app layout_rule
+
 unfoldable pub init_app : App
-init_app = formed (sized (with_rule (new_app (codes "init")) (wanted (codes "IMAGE"))))
+init_app = formed (laid_out (sized (with_rule (new_app (codes "init")) (wanted (codes "IMAGE")))))
 
 -- with the date and the minute of what is written
 unfoldable pub dated : App → App
@@ -85,8 +98,11 @@ check_app = formed (with_rule (new_app (codes "check")) (wanted (codes "IMAGE"))
 unfoldable pub convert_app : App
 convert_app = formed (with_rule (with_rule (new_app (codes "convert")) (wanted (codes "IMAGE"))) (wanted (codes "NEW")))
 
--- the subcommands: those that make an image and serve an input on it, that bring a file in and out, that look, and the
--- one that converts
+unfoldable pub migrate_app : App
+migrate_app = formed (with_rule (new_app (codes "migrate")) (wanted (codes "IMAGE")))
+
+-- the subcommands: those that make an image and serve an input on it, that bring a file in and out, that look, and
+-- those that convert and migrate
 unfoldable pub serving : App → App
 serving app = with_subcommand (with_subcommand (with_subcommand app init_app.top) run_app.top) calls_app.top
 
@@ -97,7 +113,7 @@ unfoldable pub looking : App → App
 looking app = with_subcommand (with_subcommand app list_app.top) check_app.top
 
 unfoldable pub converting : App → App
-converting app = with_subcommand app convert_app.top
+converting app = with_subcommand (with_subcommand app convert_app.top) migrate_app.top
 
 -- a command of this name, which can be asked for its version
 abbrev pub versioned : Text → App

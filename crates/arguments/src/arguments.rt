@@ -2,8 +2,8 @@
 ghost use Rattle.std.specs.Prelude.{◌≡◌, IfOk, Some, codes, false};
 ghost use Rattle.clap.specs.Words.{app_of, new_rule, rule_of, with_rule};
 ghost use Rattle.clap.specs.declared.builder.command.Command.TheViews.{out-Command as fields_of};
-ghost use Rattle.arguments.specs.CommandLine.{date_rule, dated, filed, flag, form_rule, formed, numbered, optional};
-ghost use Rattle.arguments.specs.CommandLine.{sized, wanted};
+ghost use Rattle.arguments.specs.CommandLine.{date_rule, dated, filed, flag, form_rule, formed, laid_out};
+ghost use Rattle.arguments.specs.CommandLine.{layout_rule, numbered, optional, sized, wanted};
 
 use clap::{Arg, ArgAction, Command};
 use std::alloc::{AllocError, Global};
@@ -112,6 +112,28 @@ pub(crate) fn formed<'a>(alloc: Global, command: Command<'a>) -> Result<Command<
     ensures local { IfOk result (λ c. (fields_of c).has_globals ≡ (fields_of command.entry).has_globals) }
 {
     with_argument(command, form(alloc))
+}
+
+/// The layout of a new volume.
+fn layout<'a>(alloc: Global) -> Arg<'a>
+    ensures rule { rule_of result ≡ layout_rule }
+    ensures local { result.global ≡ false }
+{
+    Arg::new(alloc, "layout")
+        .long("layout")
+        .value_name("N")
+        .help("Layout of the volume: 1, or 2 with dates up to 32767")
+        .default_value("1")
+        .value_parser(clap::value_parser!(u32).range(1..=2))
+}
+
+/// A command with the layout of a new volume.
+#[tactic(auto, unfolding(crate::specs::CommandLine::laid_out))]
+pub(crate) fn laid_out<'a>(alloc: Global, command: Command<'a>) -> Result<Command<'a>, AllocError>
+    ensures app { IfOk result (λ c. app_of c ≡ laid_out (app_of command.entry)) }
+    ensures local { IfOk result (λ c. (fields_of c).has_globals ≡ (fields_of command.entry).has_globals) }
+{
+    with_argument(command, layout(alloc))
 }
 
 /// A command with this text below its help.

@@ -4,11 +4,11 @@ ghost use Rattle.std.specs.Prelude.{◌≡◌, IfOk, codes, false};
 ghost use Rattle.clap.specs.Words.{app_of, with_subcommand};
 ghost use Rattle.clap.specs.declared.builder.command.Command.TheViews.{out-Command as fields_of};
 ghost use Rattle.arguments.specs.CommandLine.{calls_app, check_app, command_line, convert_app, converting};
-ghost use Rattle.arguments.specs.CommandLine.{filing, get_app, init_app, list_app, looking, put_app, run_app, serving};
-ghost use Rattle.arguments.specs.CommandLine.{versioned};
+ghost use Rattle.arguments.specs.CommandLine.{filing, get_app, init_app, list_app, looking, migrate_app, put_app};
+ghost use Rattle.arguments.specs.CommandLine.{run_app, serving, versioned};
 
 use crate::arguments::{
-    about, dated, filed, formed, place, shown, sized, tsv, wanted, with_argument,
+    about, dated, filed, formed, laid_out, place, shown, sized, tsv, wanted, with_argument,
 };
 use clap::Command;
 use std::alloc::{AllocError, Global};
@@ -77,7 +77,8 @@ fn init_command<'a>(alloc: Global) -> Result<Command<'a>, AllocError>
     );
     let command = shown(command, "Example:\n  filser init DISK.IMG 4096");
     let command = with_argument(command, wanted(alloc, "IMAGE", "The image file to make"))?;
-    formed(alloc, sized(alloc, command)?)
+    let command = sized(alloc, command)?;
+    formed(alloc, laid_out(alloc, command)?)
 }
 
 #[tactic(auto, unfolding(crate::specs::CommandLine::run_app))]
@@ -192,6 +193,20 @@ fn convert_command<'a>(alloc: Global) -> Result<Command<'a>, AllocError>
     formed(alloc, command)
 }
 
+#[tactic(auto, unfolding(crate::specs::CommandLine::migrate_app))]
+fn migrate_command<'a>(alloc: Global) -> Result<Command<'a>, AllocError>
+    ensures app { IfOk result (λ c. app_of c ≡ migrate_app) }
+    ensures local { IfOk result (λ c. (fields_of c).has_globals ≡ false) }
+{
+    let command = about(
+        Command::new(alloc, "migrate"),
+        "Give the volume layout 2: dates up to 32767. Its files stay",
+    );
+    let command = shown(command, "Example:\n  filser migrate DISK.IMG");
+    let command = with_argument(command, wanted(alloc, "IMAGE", "The image file"))?;
+    formed(alloc, command)
+}
+
 /// Adds the subcommands that make an image, and serve an input on it.
 #[tactic(auto, unfolding(crate::specs::CommandLine::serving))]
 fn with_serving<'a>(alloc: Global, command: Command<'a>) -> Result<Command<'a>, AllocError>
@@ -220,12 +235,13 @@ fn with_looking<'a>(alloc: Global, command: Command<'a>) -> Result<Command<'a>, 
     with_one(command, check_command(alloc)?)
 }
 
-/// Adds the one that converts.
+/// Adds those that convert and migrate.
 #[tactic(auto, unfolding(crate::specs::CommandLine::converting))]
 fn with_converting<'a>(alloc: Global, command: Command<'a>) -> Result<Command<'a>, AllocError>
     ensures { IfOk result (λ c. app_of c ≡ converting (app_of command.entry)) }
 {
-    with_one(command, convert_command(alloc)?)
+    let command = with_one(command, convert_command(alloc)?)?;
+    with_one(command, migrate_command(alloc)?)
 }
 
 /// The program's name, version and help.

@@ -1,6 +1,7 @@
 -- What becomes of images and their disks.
 use Rattle.std.proofs.Common.{◌≡◌, ◌⊎◌, inl, inr, ⊎_elim, ℕ, List, Option, Some, Result, Ok, Err, OnOk, refl}
-use Rattle.std.proofs.Common.{sym, subst, ◌∙◌, ◌+◌, ◌-◌, ◌*◌, ◌^◌, min, true, is_some, IfOk, ap, length, replicate, arith}
+use Rattle.std.proofs.Common.{sym, subst, ◌∙◌, ◌+◌, ◌-◌, ◌*◌, ◌^◌, min, true, is_some, IfOk, ap, length, replicate}
+use Rattle.std.proofs.Common.{arith}
 use Rattle.std.proofs.lemmas.List.{length-replicate}
 use Rattle.std.specs.Prelude.{IsErrOf, option_map, None as Nothing}
 use Rattle.std.specs.declared.io.Error.{Error}
@@ -16,7 +17,8 @@ use Rattle.imagefile.specs.declared.form.Form.{Form}
 use Rattle.meaning.specs.Files.{File, Files}
 use Rattle.meaning.specs.Maps.{empty}
 use Rattle.meaning.specs.Regions.{IsVolumeSize}
-use Rattle.meaning.specs.Layouts.{pack_in, pack_of, StandsOn}
+use Rattle.meaning.specs.Layouts.{layout_number, pack_in, pack_of, StandsOn}
+use Rattle.meaning.specs.declared.layout.Layout.{Layout}
 use Rattle.meaning.specs.Stands.{Stands}
 use Rattle.meaning.proofs.Layouts.{stands_in_any}
 use Rattle.monitor.proofs.Along.{no_fault}
@@ -58,11 +60,11 @@ seen found Nothing is p = cc
 
 -- A new volume.
 
-pub empty_volume : (size : ℕ) (new : DiskState) → new.size ≡ size
-    → (new.honest → AtRest new (λ c. StandsOn (pack_in 1 size) c empty)) → (new.honest → NoneOpen new)
-    → IsEmptyVolume new
-empty_volume size new same rests settled = record {
-  rests = λ h. subst (λ n. AtRest new (λ c. StandsOn (pack_in 1 n) c empty)) (sym same) (rests h);
+pub empty_volume : (layout : Layout) (size : ℕ) (new : DiskState) → new.size ≡ size
+    → (new.honest → AtRest new (λ c. StandsOn (pack_in (layout_number layout) size) c empty))
+    → (new.honest → NoneOpen new) → IsEmptyVolume layout new
+empty_volume layout size new same rests settled = record {
+  rests = λ h. subst (λ n. AtRest new (λ c. StandsOn (pack_in (layout_number layout) n) c empty)) (sym same) (rests h);
   settled = settled;
 }
 

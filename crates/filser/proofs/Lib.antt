@@ -1,6 +1,7 @@
 mod Since
 mod Printing
 mod Imaging
+mod Raising
 mod Attending
 mod Matching
 mod Unasked

@@ -15,12 +15,14 @@ use Rattle.clap.proofs.WalkLemmas.{first_value-rows, one_text-rows}
 use Rattle.words36.specs.declared.moment.Moment.{Moment}
 use Rattle.imagefile.specs.declared.form.Form.{Form}
 use Rattle.meaning.specs.Lines.{upper}
+use Rattle.meaning.specs.declared.layout.Layout.{Layout}
 use Rattle.commands.specs.DayTexts.{IsDayText}
 use Rattle.commands.specs.Files.{IsFileName, IsOwnerName}
 use Rattle.arguments.specs.CommandLine.{command_line, serving, filing, looking, init_app, run_app, calls_app, put_app}
 use Rattle.arguments.specs.CommandLine.{get_app, list_app, check_app, convert_app, converting, dated, filed, formed}
-use Rattle.arguments.specs.CommandLine.{sized}
+use Rattle.arguments.specs.CommandLine.{laid_out, migrate_app, sized}
 use Rattle.filser.specs.Requests.{Asks, IsAsked, IsTask, IsAt, IsNamedFile, IsListedPlace, HasForm, HasText, HasNumber}
+use Rattle.filser.specs.Requests.{HasLayout}
 use Rattle.filser.specs.Requests.{HasDate, IsDateNumber, IsMistaken, IsUsage, NamesNoDate, SaysDate, Spells, task_name}
 use Rattle.filser.specs.declared.task.NamedFile.{NamedFile}
 use Rattle.filser.specs.declared.task.Task.{Task}
@@ -29,18 +31,18 @@ use Rattle.filser.specs.declared.error.RequestError.{RequestError}
 use Rattle.filser.specs.declared.error.WrongArgument.{WrongArgument}
 use Rattle.filser.specs.declared.error.RequestError.TheVariants.{Usage}
 use Rattle.filser.specs.declared.asked.Request.{Request}
-use Rattle.filser.specs.declared.asked.Request.TheVariants.{Fresh, Init, Work, Convert}
+use Rattle.filser.specs.declared.asked.Request.TheVariants.{Fresh, Init, Work, Convert, Migrate}
 
 -- The command line is one of those whose matches `clap` computes.
 
 pub line-simple : is_simple command_line ≡ true
 unfolding clap_on_literals command_line serving filing looking init_app dated filed run_app calls_app put_app get_app
-    list_app check_app convert_app converting formed sized
+    list_app check_app convert_app migrate_app converting formed sized laid_out
 line-simple = refl
 
 pub line-free : is_simple_and_free command_line ≡ true
 unfolding clap_on_literals command_line serving filing looking init_app dated filed run_app calls_app put_app get_app
-    list_app check_app convert_app converting formed sized
+    list_app check_app convert_app migrate_app converting formed sized laid_out
 line-free = refl
 
 -- Texts and numbers.
@@ -186,11 +188,24 @@ init_is_no_task name Check is asked = other_task name (codes "init") Check 325 r
 pub no_init : (name : Text) (rows : List Row) → name ≡ codes "init"
     → ((n : ℕ) → HasNumber rows (codes "BLOCKS") 64 131072 n → ⊥) → (r : Request) → IsAsked name rows r → ⊥
 no_init name rows is none Fresh asked = asked
-no_init name rows is none (Init image blocks form) asked = none blocks asked.2
+no_init name rows is none (Init image blocks form layout) asked = none blocks asked.2
 no_init name rows is none (Work image form task) asked = init_is_no_task name task is asked.2.0
 no_init name rows is none (Convert image new form) asked = differ name (codes "init")
     (codes "convert") 325 321 refl refl
     (λ e. omega arith) is asked.0
+no_init name rows is none (Migrate image form) asked = differ name (codes "init") (codes "migrate") 325 319 refl refl
+    (λ e. omega arith) is asked.0
+
+pub no_layout : (name : Text) (rows : List Row) → name ≡ codes "init" → ((l : Layout) → HasLayout rows l → ⊥)
+    → (r : Request) → IsAsked name rows r → ⊥
+no_layout name rows is none Fresh asked = asked
+no_layout name rows is none (Init image blocks form layout) asked = none layout asked.4
+no_layout name rows is none (Work image form task) asked = init_is_no_task name task is asked.2.0
+no_layout name rows is none (Convert image new form) asked = differ name (codes "init")
+    (codes "convert") 325 321 refl refl
+    (λ e. omega arith) is asked.0
+no_layout name rows is none (Migrate image form) asked = differ name (codes "init") (codes "migrate") 325 319 refl
+    refl (λ e. omega arith) is asked.0
 
 convert_is_no_task : (name : Text) (task : Task) → name ≡ codes "convert" → name ≡ task_name task → ⊥
 convert_is_no_task name (Run at) is asked = other_task name (codes "convert") (Run at) 321 refl (λ e. omega arith) is
@@ -209,24 +224,28 @@ convert_is_no_task name Check is asked = other_task name (codes "convert") Check
 pub no_convert : (name : Text) (rows : List Row) → name ≡ codes "convert"
     → ((t : Text) → HasText rows (codes "NEW") t → ⊥) → (r : Request) → IsAsked name rows r → ⊥
 no_convert name rows is none Fresh asked = asked
-no_convert name rows is none (Init image blocks form) asked = differ name (codes "convert") (codes "init") 321 325 refl
-    refl (λ e. omega arith) is asked.0
+no_convert name rows is none (Init image blocks form layout) asked = differ name (codes "convert") (codes "init")
+    321 325 refl refl (λ e. omega arith) is asked.0
 no_convert name rows is none (Work image form task) asked = convert_is_no_task name task is asked.2.0
 no_convert name rows is none (Convert image new form) asked = none new.now asked.2
+no_convert name rows is none (Migrate image form) asked = differ name (codes "convert") (codes "migrate") 321 319 refl
+    refl (λ e. omega arith) is asked.0
 
 pub no_form : (name : Text) (rows : List Row) → ((f : Form) → HasForm rows f → ⊥) → (r : Request)
     → IsAsked name rows r → ⊥
 no_form name rows none Fresh asked = asked
-no_form name rows none (Init image blocks form) asked = none form asked.3
+no_form name rows none (Init image blocks form layout) asked = none form asked.3
 no_form name rows none (Work image form task) asked = none form asked.1
 no_form name rows none (Convert image new form) asked = none form asked.3
+no_form name rows none (Migrate image form) asked = none form asked.2
 
 pub no_work : (name : Text) (rows : List Row) → (name ≡ codes "init" → ⊥) → (name ≡ codes "convert" → ⊥)
-    → ((t : Task) → IsTask name rows t → ⊥) → (r : Request) → IsAsked name rows r → ⊥
-no_work name rows other another none Fresh asked = asked
-no_work name rows other another none (Init image blocks form) asked = other asked.0
-no_work name rows other another none (Work image form task) asked = none task asked.2
-no_work name rows other another none (Convert image new form) asked = another asked.0
+    → (name ≡ codes "migrate" → ⊥) → ((t : Task) → IsTask name rows t → ⊥) → (r : Request) → IsAsked name rows r → ⊥
+no_work name rows other another third none Fresh asked = asked
+no_work name rows other another third none (Init image blocks form layout) asked = other asked.0
+no_work name rows other another third none (Work image form task) asked = none task asked.2
+no_work name rows other another third none (Convert image new form) asked = another asked.0
+no_work name rows other another third none (Migrate image form) asked = third asked.0
 
 -- A task of a word has what belongs to that word.
 

@@ -11,7 +11,8 @@ use Rattle.imagefile.specs.declared.form.Form.{Form}
 use Rattle.meaning.specs.Files.{File as StoredFile, Files}
 use Rattle.meaning.specs.Maps.{empty}
 use Rattle.meaning.specs.Regions.{IsVolumeSize}
-use Rattle.meaning.specs.Layouts.{pack_in, pack_of, StandsOn}
+use Rattle.meaning.specs.Layouts.{layout_number, pack_in, pack_of, StandsOn}
+use Rattle.meaning.specs.declared.layout.Layout.{Layout}
 use Rattle.volume.specs.Copying.{HomesComeLast}
 use Rattle.volume.specs.Rest.{RestsAt, StandsLikeBefore}
 use Rattle.volume.specs.declared.error.CopyError.{CopyError}
@@ -111,18 +112,18 @@ pub record IsNewDisk {H M F D I : Type 0} (facts : HostFacts H) (views : Views M
   pub size : (views.disk disk).size ≡ blocks
   pub whole : IsWhole form u (views.disk disk)
 
--- an empty volume of layout 1 is on it: whatever a crash leaves of it stands for no files
-pub record IsEmptyVolume (d : DiskState) : Type 0 where
-  pub rests : d.honest → AtRest d (λ c. StandsOn (pack_in 1 d.size) c empty)
+-- an empty volume of this layout is on it: whatever a crash leaves of it stands for no files
+pub record IsEmptyVolume (layout : Layout) (d : DiskState) : Type 0 where
+  pub rests : d.honest → AtRest d (λ c. StandsOn (pack_in (layout_number layout) d.size) c empty)
   pub settled : d.honest → NoneOpen d
 
 -- What became of one that was asked for: it is there, and nothing was printed; or there is none, for a reason that
 -- stands.
-abbrev pub IsOnNew : {H L M F D I : Type 0} → HostFacts H → Views M F D I → List ℕ → Form → ℕ → Unseen
+abbrev pub IsOnNew : {H L M F D I : Type 0} → HostFacts H → Views M F D I → List ℕ → Form → ℕ → Layout → Unseen
     → Option (List ℕ) → Option (List ℕ) → Disks L F D I → Status → Type 0
-IsOnNew {D = D} facts views path form blocks u sink full disks status =
+IsOnNew {D = D} facts views path form blocks layout u sink full disks status =
     ((disk : D) × (right : RemovalRight) × (disks ≡ Made disk right) × IsNewDisk facts views path form blocks u disk
-    × IsEmptyVolume (views.disk disk) × (full ≡ sink) × (status ≡ Done))
+    × IsEmptyVolume layout (views.disk disk) × (full ≡ sink) × (status ≡ Done))
     ⊎ ((fault : ImageFault) × IsNotMade facts views path form blocks u fault disks
     × IsExplained sink full status fault)
 

@@ -11,4 +11,5 @@ pub mod Tasks
 pub mod Views
 pub mod Denials
 pub mod Images
+pub mod Migrations
 pub mod Runs

@@ -8,13 +8,15 @@ use Rattle.words36.specs.declared.moment.Moment.{Moment}
 use Rattle.meaning.specs.Lines.{upper}
 use Rattle.imagefile.specs.declared.form.Form.{Form}
 use Rattle.imagefile.specs.declared.form.Form.TheVariants.{Wide, Packed}
+use Rattle.meaning.specs.Layouts.{layout_number}
+use Rattle.meaning.specs.declared.layout.Layout.{Layout}
 use Rattle.meaning.specs.declared.encoding.Encoding.TheVariants.{Words}
 use Rattle.meaning.specs.declared.style.Style.{Style}
 use Rattle.meaning.specs.declared.style.Style.TheVariants.{Table}
 use Rattle.commands.specs.DayTexts.{IsDayText}
 use Rattle.commands.specs.Files.{IsFileName, IsOwnerName}
 use Rattle.filser.specs.declared.asked.Request.{Request}
-use Rattle.filser.specs.declared.asked.Request.TheVariants.{Fresh, Init, Work, Convert}
+use Rattle.filser.specs.declared.asked.Request.TheVariants.{Fresh, Init, Work, Convert, Migrate}
 use Rattle.filser.specs.declared.error.WrongArgument.{WrongArgument}
 use Rattle.filser.specs.declared.error.WrongArgument.TheVariants.{Owner, Name, Date}
 use Rattle.filser.specs.declared.task.NamedFile.{NamedFile}
@@ -99,23 +101,30 @@ form_number Packed = 2
 abbrev pub HasForm : List Row → Form → Type 0
 HasForm rows form = HasNumber rows (codes "form") 1 2 (form_number form)
 
+-- the layout of a new volume
+abbrev pub HasLayout : List Row → Layout → Type 0
+HasLayout rows layout = HasNumber rows (codes "layout") 1 2 (layout_number layout)
+
 abbrev pub IsAsked : Text → List Row → Request → Type 0
 IsAsked name rows Fresh = ⊥
-IsAsked name rows (Init image blocks form) =
+IsAsked name rows (Init image blocks form layout) =
     (name ≡ codes "init") × HasText rows (codes "IMAGE") image.now × HasNumber rows (codes "BLOCKS") 64 131072 blocks
-    × HasForm rows form
+    × HasForm rows form × HasLayout rows layout
 IsAsked name rows (Work image form task) = HasText rows (codes "IMAGE") image.now × HasForm rows form
     × IsTask name rows task
 IsAsked name rows (Convert image new form) =
     (name ≡ codes "convert") × HasText rows (codes "IMAGE") image.now × HasText rows (codes "NEW") new.now
     × HasForm rows form
+IsAsked name rows (Migrate image form) =
+    (name ≡ codes "migrate") × HasText rows (codes "IMAGE") image.now × HasForm rows form
 
 -- without a subcommand a fresh volume is asked for
 abbrev pub Asks : Option (Text × List Row) → Request → Type 0
 Asks None Fresh = Unit
-Asks None (Init image blocks form) = ⊥
+Asks None (Init image blocks form layout) = ⊥
 Asks None (Work image form task) = ⊥
 Asks None (Convert image new form) = ⊥
+Asks None (Migrate image form) = ⊥
 Asks (Some found) request = IsAsked found.0 found.1 request
 
 -- Why nothing is asked for.
@@ -166,13 +175,15 @@ IsUsage kinds found e = IsAmong (kind_of e) kinds
 -- the numbers are in their ranges
 abbrev pub InRange : Request → Type 0
 InRange Fresh = Unit
-InRange (Init image blocks form) = (64 ≤ blocks) × (blocks ≤ 131072)
+InRange (Init image blocks form layout) = (64 ≤ blocks) × (blocks ≤ 131072)
 InRange (Work image form task) = Unit
 InRange (Convert image new form) = Unit
+InRange (Migrate image form) = Unit
 
 -- the path of the image that is named: of two, of the one that is there
 abbrev pub image_named : Request → Option Text
 image_named Fresh = None
-image_named (Init image blocks form) = Some image.now
+image_named (Init image blocks form layout) = Some image.now
 image_named (Work image form task) = Some image.now
 image_named (Convert image new form) = Some image.now
+image_named (Migrate image form) = Some image.now

@@ -6,11 +6,12 @@ use Rattle.filser.specs.Denials.{IsExplained, of_host}
 use Rattle.filser.specs.Endings.{AsksForHelp, EndsUnasked}
 use Rattle.filser.specs.Hosts.{HostFacts}
 use Rattle.filser.specs.Images.{IsOnBoth, IsOnFresh, IsOnImage, IsOnNew}
+use Rattle.filser.specs.Migrations.{IsOnMigrated}
 use Rattle.filser.specs.Requests.{Asks, IsMistaken, IsUsage, image_named}
 use Rattle.filser.specs.Streams.{AreNeeded, IsStreamAt}
 use Rattle.filser.specs.Views.{Views}
 use Rattle.filser.specs.declared.asked.Request.{Request}
-use Rattle.filser.specs.declared.asked.Request.TheVariants.{Fresh, Init, Work, Convert}
+use Rattle.filser.specs.declared.asked.Request.TheVariants.{Fresh, Init, Work, Convert, Migrate}
 use Rattle.filser.specs.declared.disks.Disks.{Disks}
 use Rattle.filser.specs.declared.disks.Disks.TheVariants.{Unasked}
 use Rattle.filser.specs.declared.error.RequestError.{RequestError}
@@ -44,8 +45,9 @@ abbrev pub IsRequestRun : {H L N M F D I : Type 0} → HostFacts H → Views M F
 IsRequestRun facts views things Fresh source left sink full status =
     IsOnFresh views source left sink full things.memory status × (things.image ≡ Unasked things.opening)
     × (things.new ≡ Unasked things.making)
-IsRequestRun facts views things (Init path blocks form) source left sink full status =
-    (left ≡ source) × IsOnNew facts views path.now form blocks things.v sink full things.new status
+IsRequestRun facts views things (Init path blocks form layout) source left sink full status =
+    (left ≡ source) × IsOnNew facts views path.now form blocks layout things.v sink full things.new
+    status
     × (things.image ≡ Unasked things.opening) × (things.memory ≡ Nothing)
 IsRequestRun facts views things (Work path form task) source left sink full status =
     IsOnImage facts views path.now form things.u task source left sink full things.image status
@@ -53,6 +55,9 @@ IsRequestRun facts views things (Work path form task) source left sink full stat
 IsRequestRun facts views things (Convert path other form) source left sink full status =
     (left ≡ source) × IsOnBoth facts views path.now other.now form things.u things.v things.opening things.making sink
     full things.image things.new status × (things.memory ≡ Nothing)
+IsRequestRun facts views things (Migrate path form) source left sink full status =
+    (left ≡ source) × IsOnMigrated facts views path.now form things.u sink full things.image status
+    × (things.new ≡ Unasked things.making) × (things.memory ≡ Nothing)
 
 -- No standard stream leads to the image that is named.
 abbrev pub IsApart : {H : Type 0} → HostFacts H → Option (List ℕ) → Type 0

@@ -31,8 +31,8 @@ abbrev pub IsEnding : Status → Result Tally SessionError → Type 0
 IsEnding status (Ok tally) = status_code status ≡ max (if tally.refused then 1 else 0) (if tally.broke then 4 else 0)
 IsEnding status (Err error) = status ≡ Fault
 
--- A start took the disk: it stood for these files, which are served now, in the same layout. Nothing but the recovery was written, and at
--- each moment a crash left what stands for the same files.
+-- A start took the disk: it stood for these files, which are served now, in the same layout. Nothing but the recovery
+-- was written, and at each moment a crash left what stands for the same files.
 pub record IsStarted {D : Type 0} (state : D → DiskState) (begun : DiskState) (m : MonitorState D) : Type 0 where
   pub files : Files File
   pub stood : StandsOn (pack_of (state m.disk)) begun.contents files

@@ -3,18 +3,21 @@ ghost use Rattle.filser.specs.Requests.{image_named};
 
 use crate::Task;
 use imagefile::Form;
+use meaning::layout::Layout;
 
 /// What the words of a command line ask for. An image is named by its path.
 #[derive(Clone, Copy, Debug, PartialEq, Eq)]
 pub enum Request<'a> {
     /// No subcommand: serve the input on a fresh volume that nobody keeps.
     Fresh,
-    /// `init`: make this image, of so many blocks, in this form.
-    Init(&'a str, u32, Form),
+    /// `init`: make this image, of so many blocks, in this form, with a volume of this layout.
+    Init(&'a str, u32, Form, Layout),
     /// Do this on this image, which has this form.
     Work(&'a str, Form, Task),
     /// `convert`: write what is on the first image, which has this form, to a new one of the other form.
     Convert(&'a str, &'a str, Form),
+    /// `migrate`: give the volume of this image, which has this form, layout 2.
+    Migrate(&'a str, Form),
 }
 
 impl<'a> Request<'a> {
@@ -24,8 +27,8 @@ impl<'a> Request<'a> {
     {
         match self {
             Request::Fresh => None,
-            Request::Init(path, _, _) | Request::Work(path, _, _) | Request::Convert(path, _, _) =>
-                { Some(*path) }
+            Request::Init(path, _, _, _) | Request::Work(path, _, _) => Some(*path),
+            Request::Convert(path, _, _) | Request::Migrate(path, _) => Some(*path),
         }
     }
 }

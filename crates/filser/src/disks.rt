@@ -12,7 +12,7 @@ pub enum Disks<L, F, D, I> {
     NoImage(F),
     /// The disk of an image of which no service was made.
     Unserved(D),
-    /// The disk of an image that was served, or that a start refused.
+    /// The disk of an image that was served or migrated, or that a start refused.
     Served(I),
     /// The disk of a new image that is whole, and the right to remove its file, of which no use was made.
     Made(D, RemovalRight),

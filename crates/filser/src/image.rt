@@ -22,6 +22,7 @@ use blockcache::Cached;
 use blockdisk::{Disk, NoMemory};
 use commands::Volume;
 use imagefile::{Durable, Form, HostFile, ImageDisk, ImageError, Supposition};
+use meaning::layout::Layout;
 use std::alloc::Global;
 use std::fs::TryLockError;
 use std::io::{ErrorKind, Write};
@@ -30,6 +31,17 @@ use volume::VolumeError;
 
 /// How many blocks of an image are kept in memory while it is served.
 const KEPT_BLOCKS: usize = 256;
+
+/// The volume of a new image.
+#[derive(Clone, Copy, Debug, PartialEq, Eq)]
+pub(crate) struct NewVolume {
+    /// How many blocks it has.
+    pub(crate) blocks: u32,
+    /// The form of its image.
+    pub(crate) form: Form,
+    /// Its layout.
+    pub(crate) layout: Layout,
+}
 
 /// Why an image isn't served, and what is left of its disk.
 pub(crate) type Denied = (ImageFault, ImageDisks);
@@ -345,14 +357,18 @@ pub(crate) fn zeros_in<H: Host, E: Write>(
     }
 }
 
-/// Makes an empty volume on the disk of a new image, and hands it back.
+/// Makes an empty volume of this layout on the disk of a new image, and hands it back.
 ///
 /// # Errors
 ///
 /// `NotVolume` where the disk has a number of blocks that is no volume's, `Device` where the device failed.
-fn volume_on(disk: ImageDisk<HostFile>, blocks: u32) -> Result<ImageDisk<HostFile>, NotMade>
+fn volume_on(
+    disk: ImageDisk<HostFile>,
+    blocks: u32,
+    layout: Layout,
+) -> Result<ImageDisk<HostFile>, NotMade>
     requires { (⟦<ImageDisk<HostFile> as Disk>⟧.state disk).failures ≡ 0 }
-    ensures empty { IfOk result (λ made. IsEmptyVolume (⟦<ImageDisk<HostFile> as Disk>⟧.state made)) }
+    ensures empty { IfOk result (λ made. IsEmptyVolume layout (⟦<ImageDisk<HostFile> as Disk>⟧.state made)) }
     ensures same { IfOk result (λ made. SameDisk (⟦<ImageDisk<HostFile> as Disk>⟧.state disk)
         (⟦<ImageDisk<HostFile> as Disk>⟧.state made)) }
     ensures denied { IfErr result (λ denied. (left : _) × (denied.1 ≡ disks.Unserved left)
@@ -360,7 +376,7 @@ fn volume_on(disk: ImageDisk<HostFile>, blocks: u32) -> Result<ImageDisk<HostFil
         (⟦<ImageDisk<HostFile> as Disk>⟧.state left).failures blocks denied.0) }
 {
     let mut disk = disk;
-    match Volume::init(&mut disk) {
+    match Volume::init_layout(&mut disk, layout) {
         Ok(()) => Ok(disk),
         Err(error) => Err((
             ImageFault {
@@ -372,7 +388,7 @@ fn volume_on(disk: ImageDisk<HostFile>, blocks: u32) -> Result<ImageDisk<HostFil
     }
 }
 
-/// Makes a volume of as many blocks in a file that was made at a path.
+/// Makes this volume in a file that was made at a path.
 ///
 /// # Errors
 ///
@@ -381,24 +397,31 @@ fn volume_in<H: Host, E: Write>(
     host: &H,
     file: H::File,
     path: &str,
-    form: Form,
-    blocks: u32,
+    volume: &NewVolume,
     supposed: Supposition,
     errors: &mut E,
 ) -> Result<ImageDisk<HostFile>, NotMade>
     requires { (H.facts host.now).created path.now (Ok file) }
-    ensures made { IfOk result (λ disk. IsNewDisk (H.facts host.now) (⟦<Run as Seen>⟧.views) path.now form
-        blocks (unseen_in supposed) disk) }
-    ensures empty { IfOk result (λ disk. IsEmptyVolume (⟦<ImageDisk<HostFile> as Disk>⟧.state disk)) }
-    ensures denied { IfErr result (λ denied. IsNotMade (H.facts host.now) (⟦<Run as Seen>⟧.views) path.now form
-        blocks (unseen_in supposed) denied.0 denied.1) }
+    ensures made { IfOk result (λ disk. IsNewDisk (H.facts host.now) (⟦<Run as Seen>⟧.views) path.now
+        volume.now.form volume.now.blocks (unseen_in supposed) disk) }
+    ensures empty { IfOk result (λ disk. IsEmptyVolume volume.now.layout (⟦<ImageDisk<HostFile> as Disk>⟧.state disk)) }
+    ensures denied { IfErr result (λ denied. IsNotMade (H.facts host.now) (⟦<Run as Seen>⟧.views) path.now
+        volume.now.form volume.now.blocks (unseen_in supposed) denied.0 denied.1) }
 {
-    let disk = zeros_in(host, file, path, form, blocks, supposed, errors)?;
-    volume_on(disk, blocks)
+    let disk = zeros_in(
+        host,
+        file,
+        path,
+        volume.form,
+        volume.blocks,
+        supposed,
+        errors,
+    )?;
+    volume_on(disk, volume.blocks, volume.layout)
 }
 
-/// Makes an image of this form and of as many blocks with no directory on it. All of them are written. The right to
-/// remove its file is handed back with its disk.
+/// Makes an image with this volume, which has no directory. All of its blocks are written. The right to remove its file
+/// is handed back with its disk.
 ///
 /// # Errors
 ///
@@ -407,22 +430,22 @@ fn volume_in<H: Host, E: Write>(
 pub(crate) fn make_image<H: Host, E: Write>(
     host: &H,
     path: &str,
-    form: Form,
-    blocks: u32,
+    volume: &NewVolume,
     leave: MakingLeave,
     errors: &mut E,
 ) -> Result<(ImageDisk<HostFile>, RemovalRight), NotMade>
-    ensures made { IfOk result (λ made. IsNewDisk (H.facts host.now) (⟦<Run as Seen>⟧.views) path.now form
-        blocks (unseen_in leave.supposed) made.0) }
-    ensures empty { IfOk result (λ made. IsEmptyVolume (⟦<ImageDisk<HostFile> as Disk>⟧.state made.0)) }
-    ensures denied { IfErr result (λ denied. IsNotMade (H.facts host.now) (⟦<Run as Seen>⟧.views) path.now form
-        blocks (unseen_in leave.supposed) denied.0 denied.1) }
+    ensures made { IfOk result (λ made. IsNewDisk (H.facts host.now) (⟦<Run as Seen>⟧.views) path.now
+        volume.now.form volume.now.blocks (unseen_in leave.supposed) made.0) }
+    ensures empty { IfOk result (λ made. IsEmptyVolume volume.now.layout
+        (⟦<ImageDisk<HostFile> as Disk>⟧.state made.0)) }
+    ensures denied { IfErr result (λ denied. IsNotMade (H.facts host.now) (⟦<Run as Seen>⟧.views) path.now
+        volume.now.form volume.now.blocks (unseen_in leave.supposed) denied.0 denied.1) }
 {
     let (made, supposed) = match new_file(host, path, leave) {
         Ok(made) => made,
         Err(fault) => return Err((fault, Disks::None)),
     };
-    match volume_in(host, made.file, path, form, blocks, supposed, errors) {
+    match volume_in(host, made.file, path, volume, supposed, errors) {
         Ok(disk) => Ok((disk, made.right)),
         Err(denied) => {
             let _ = host.remove(path, made.right);

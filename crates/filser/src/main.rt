@@ -17,7 +17,9 @@
 //! 7. The file of an image was opened at its path, has the number of no standard stream, and is locked if the system
 //!    has locks for it. (`IsOpened`) The disk that is served is that file's from before its first call. (`IsOnImage`)
 //! 8. Every task on an image is done by one function, `serve`: it starts a service on the disk, or says why there is
-//!    none, and hands the disk back. (`IsTaskRun`)
+//!    none, and hands the disk back. (`IsTaskRun`) A new image has the layout that was asked for. (`IsEmptyVolume`)
+//!    A migration writes the home copies alone, and its line is printed only if the volume has layout 2.
+//!    (`IsMigrationRun`)
 //! 9. A refusal has its cause (`IsDenied`, `IsNotMade`), and its line is printed whole, or a beginning of it if the
 //!    writer fails. (`IsExplained`, `IsLine`)
 //! 10. A run hands back the images that it worked on, so that its contract says what became of them. (`WasRun`)
@@ -35,6 +37,7 @@ mod identity;
 mod image;
 mod lines;
 mod message;
+mod migrating;
 mod outcome;
 mod program;
 mod progress;

@@ -22,8 +22,9 @@ ghost use Rattle.filser.specs.declared.status.Status.TheVariants.{Done, BadArgum
 
 use crate::convert::{Conversion, convert_image};
 use crate::fault::report;
-use crate::image::make_image;
+use crate::image::{NewVolume, make_image};
 use crate::lines::LineReader;
+use crate::migrating::migrate_image;
 use crate::outcome::Outcome;
 use crate::serving::{say, serve_fresh, serve_image};
 use crate::streams::stream_at;
@@ -33,7 +34,6 @@ use crate::{
 };
 use blockdisk::MemDisk;
 use clap::Error;
-use imagefile::Form;
 use std::alloc::Global;
 use std::io::{self, Read, Write};
 
@@ -235,8 +235,13 @@ fn perform<H: Host, R: Read, W: Write, E: Write>(
 {
     match *asked {
         Request::Fresh => on_memory(serve_fresh(alloc, reader, writer, errors), leaves),
-        Request::Init(path, blocks, form) => {
-            let made = init_image(host, path, form, blocks, leaves.new, writer, errors);
+        Request::Init(path, blocks, form, layout) => {
+            let volume = NewVolume {
+                blocks,
+                form,
+                layout,
+            };
+            let made = init_image(host, path, &volume, leaves.new, writer, errors);
             on_new(made, leaves.image)
         }
         Request::Work(path, form, task) => {
@@ -261,6 +266,10 @@ fn perform<H: Host, R: Read, W: Write, E: Write>(
                 telling,
             };
             convert_image(host, alloc, &conversion, leaves, writer, errors)
+        }
+        Request::Migrate(path, form) => {
+            let migrated = migrate_image(host, alloc, path, form, leaves.image, writer, errors);
+            on_image(migrated, leaves.new)
         }
     }
 }
@@ -310,17 +319,16 @@ fn on_new(made: (Status, NewDisks), leave: OpeningLeave) -> Outcome
 fn init_image<H: Host, W: Write, E: Write>(
     host: &H,
     path: &str,
-    form: Form,
-    blocks: u32,
+    volume: &NewVolume,
     leave: MakingLeave,
     writer: &mut W,
     errors: &mut E,
 ) -> (Status, NewDisks)
     ensures serving { result.0 ≢ BadArguments }
-    ensures ran { IsOnNew (H.facts host.now) (⟦<Run as Seen>⟧.views) path.now form blocks (unseen_in leave.supposed)
-        (W.contents writer.old) (W.contents writer.new) result.1 result.0 }
+    ensures ran { IsOnNew (H.facts host.now) (⟦<Run as Seen>⟧.views) path.now volume.now.form volume.now.blocks
+        volume.now.layout (unseen_in leave.supposed) (W.contents writer.old) (W.contents writer.new) result.1 result.0 }
 {
-    match make_image(host, path, form, blocks, leave, errors) {
+    match make_image(host, path, volume, leave, errors) {
         Ok((disk, right)) => (Status::Done, Disks::Made(disk, right)),
         Err((fault, disks)) => (refuse_image(fault, path, writer, errors), disks),
     }

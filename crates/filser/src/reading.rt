@@ -6,12 +6,13 @@ ghost use Rattle.clap.specs.declared.error.Error.{Error as ClapError};
 ghost use Rattle.clap.specs.declared.error.kind.ErrorKind.TheVariants.{OutOfMemory};
 ghost use Rattle.arguments.specs.CommandLine.{command_line};
 ghost use Rattle.filser.specs.Requests.{Asks, IsAsked, IsAt, IsNamedFile};
-ghost use Rattle.filser.specs.Requests.{IsListedPlace, IsStyle, IsTask, HasForm, HasText};
+ghost use Rattle.filser.specs.Requests.{IsListedPlace, IsStyle, IsTask, HasForm, HasLayout, HasText};
 ghost use Rattle.filser.specs.Requests.{HasDate, HasNumber, IsFaultIn, IsMistaken, IsUsage, IsWrong, NamesDate};
 ghost use Rattle.filser.specs.Requests.{IsDateNumber, LacksDate, NamesFile, NamesNoDate, NamesOwner, SaysDate};
 ghost use Rattle.filser.specs.Requests.{InRange};
 ghost use Rattle.words36.specs.declared.moment.Moment.{Moment as Moments};
 ghost use Rattle.imagefile.specs.declared.form.Form.{Form as Forms};
+ghost use Rattle.meaning.specs.declared.layout.Layout.{Layout as Layouts};
 ghost use Rattle.filser.specs.declared.task.NamedFile.{NamedFile as NamedFiles};
 ghost use Rattle.filser.specs.declared.task.Task.{Task as Tasks};
 ghost use Rattle.meaning.specs.declared.encoding.Encoding.TheVariants.{Words};
@@ -27,6 +28,7 @@ use clap::error::ErrorKind;
 use clap::{ArgMatches, Error};
 use commands::{Encoding, Style, date_named, file_named, owner_named};
 use imagefile::Form;
+use meaning::layout::Layout;
 use std::alloc::{AllocError, Global};
 use std::num::IntErrorKind;
 use words36::{Moment, Ppn};
@@ -96,8 +98,12 @@ fn subcommand<'a>(name: &'a str, matches: &ArgMatches<'a>) -> Option<Request<'a>
     let image = text(matches, "IMAGE")?;
     let form = form(matches)?;
     match name {
-        "init" => Some(Request::Init(image, number(matches, "BLOCKS", 64, 131072)?, form)),
+        "init" => {
+            let blocks = number(matches, "BLOCKS", 64, 131072)?;
+            Some(Request::Init(image, blocks, form, layout(matches)?))
+        }
         "convert" => Some(Request::Convert(image, text(matches, "NEW")?, form)),
+        "migrate" => Some(Request::Migrate(image, form)),
         _ => Some(Request::Work(image, form, task(name, matches)?)),
     }
 }
@@ -110,6 +116,17 @@ fn form(matches: &ArgMatches) -> Option<Form>
     match number(matches, "form", 1, 2)? {
         1 => Some(Form::Wide),
         _ => Some(Form::Packed),
+    }
+}
+
+/// The layout of a new volume.
+fn layout(matches: &ArgMatches) -> Option<Layout>
+    ensures { MatchOption result ((l : Layouts) → HasLayout (rows_of (found_of matches.now)) l → ⊥)
+        (HasLayout (rows_of (found_of matches.now))) }
+{
+    match number(matches, "layout", 1, 2)? {
+        1 => Some(Layout::One),
+        _ => Some(Layout::Two),
     }
 }
 

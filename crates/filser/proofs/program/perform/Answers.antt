@@ -15,3 +15,7 @@ returns-in-Work-clause-ran g c =
 pub returns-in-Convert-clause-ran : goal.returns-in-Convert-clause-ran
 returns-in-Convert-clause-ran g c =
     rw c.in-Convert.is (refl, c.convert_image.ensures.ran, c.convert_image.ensures.memory)
+
+pub returns-in-Migrate-clause-ran : goal.returns-in-Migrate-clause-ran
+returns-in-Migrate-clause-ran g c =
+    rw (c.in-Migrate.is, c.on_image-in-Migrate.ensures) (refl, c.migrate_image-migrated.ensures.ran, refl, refl)

@@ -7,6 +7,7 @@ pub returns-in-Ok-clause-ran : goal.returns-in-Ok-clause-ran
 returns-in-Ok-clause-ran g c =
     let p = c.serve-status.ensures in
     let served = served_image (g.H.Host.facts c.args.host.now) _ c.args.path.now c.args.form
-    (unseen_in c.args.leave.supposed) c.args.task _ _ _ _ c.serve-status.result.0 c.in-Ok.image c.serve-status.result.1 c.in-Ok.ensures.opened
+    (unseen_in c.args.leave.supposed) c.args.task _ _ _ _ c.serve-status.result.0 c.in-Ok.image
+    c.serve-status.result.1 c.in-Ok.ensures.opened
     c.in-Ok.ensures.began c.in-Ok.ensures.counted p.size p.was_honest p.ran in
     inl (c.serve-status.result.1, refl, served.0, served.1, served.2)

@@ -1,0 +1,80 @@
+-- What became of an image that was to get layout 2. `begun` is its disk before anything was asked of it.
+use Rattle.std.specs.Prelude.{◌≡◌, ◌⊎◌, ℕ, List, Option, codes}
+use Rattle.blockdisk.specs.Disk.{DiskState, LeavesOnly, NoneOpen, Still, one_more}
+use Rattle.changeset.specs.Crashes.{IsRecovered}
+use Rattle.changeset.specs.Rest.{AtRest}
+use Rattle.imagefile.specs.Began.{begun_image}
+use Rattle.imagefile.specs.Unseen.{Unseen}
+use Rattle.imagefile.specs.declared.form.Form.{Form}
+use Rattle.meaning.specs.Files.{File, Files}
+use Rattle.meaning.specs.Layouts.{pack_in, SettledStandsOn, StandsOn}
+use Rattle.meaning.specs.Stands.{Stands}
+use Rattle.volume.specs.FaultsFound.{NamesInSpace, Refuses}
+use Rattle.volume.specs.Migrating.{IsMigrated, RaisedLikeBefore}
+use Rattle.volume.specs.declared.error.VolumeError.{VolumeError}
+use Rattle.volume.specs.declared.error.VolumeError.TheVariants.{Device, NoMemory}
+use Rattle.filser.specs.Denials.{IsExplained}
+use Rattle.filser.specs.Hosts.{HostFacts, IsOpened}
+use Rattle.filser.specs.Images.{IsDenied, IsWhole}
+use Rattle.filser.specs.Lines.{IsLine}
+use Rattle.filser.specs.Refusals.{start_code, start_text}
+use Rattle.filser.specs.Views.{Views}
+use Rattle.filser.specs.declared.disks.Disks.{Disks}
+use Rattle.filser.specs.declared.disks.Disks.TheVariants.{Served}
+use Rattle.filser.specs.declared.fault.ImageFault.{ImageFault}
+use Rattle.filser.specs.declared.status.Status.{Status}
+
+-- It stood for these files, in layout 1 or in layout 2, and all that a crash leaves now stands for them in layout 2. Of
+-- layout 1 it was recovered, and both home copies were written; of layout 2 it was recovered and nothing else. At each
+-- moment a crash left what stands for the same files, in the same layout or in layout 2.
+pub record IsRaised (begun end : DiskState) : Type 0 where
+  pub layout : ℕ
+  pub files : Files File
+  pub stood : StandsOn (pack_in layout begun.size) begun.contents files
+  pub rests : AtRest end (λ c. SettledStandsOn (pack_in 2 begun.size) c files)
+  pub settled : NoneOpen end
+  pub crash : LeavesOnly begun end (RaisedLikeBefore begun)
+  pub done : ((layout ≡ 1) × IsMigrated begun.size begun.contents end.contents)
+      ⊎ ((layout ≡ 2) × IsRecovered begun.size begun.contents end.contents)
+
+-- The same, with what holds of every disk: no call on it failed.
+pub record IsMigration (begun end : DiskState) : Type 0 where
+  pub size : end.size ≡ begun.size
+  pub failures : end.failures ≡ begun.failures
+  pub was_honest : end.honest → begun.honest
+  pub raised : end.honest → IsRaised begun end
+
+-- It was refused for a fault that stands there, or for want of memory or a fault of the device, which alone are left
+-- where the disk stood for files. But for a fault of the device it is as it was, or recovered at most; and at each
+-- moment a crash left what stands for the same files, in the same layout or in layout 2.
+pub record IsKeptBack (begun end : DiskState) (error : VolumeError) : Type 0 where
+  pub refuses : Refuses begun.size end.contents error
+  pub faultless : (files : Files File) → Stands begun.size begun.contents files
+      → (error ≡ NoMemory) ⊎ (error ≡ Device)
+  pub kept : (error ≡ Device → ⊥) → Still begun end ⊎ IsRecovered begun.size begun.contents end.contents
+  pub crash : LeavesOnly begun end (RaisedLikeBefore begun)
+
+-- The same, with what holds of every disk: a refusal for the device has a fault of it as its cause.
+pub record IsMigrationRefused (begun end : DiskState) (error : VolumeError) : Type 0 where
+  pub size : end.size ≡ begun.size
+  pub named : NamesInSpace begun.size error
+  pub failed : error ≡ Device → end.failures ≡ one_more begun.failures
+  pub sound : (error ≡ Device → ⊥) → end.failures ≡ begun.failures
+  pub was_honest : end.honest → begun.honest
+  pub why : end.honest → IsKeptBack begun end error
+
+-- what became of its disk, and what was printed
+abbrev pub IsMigrationRun : DiskState → DiskState → Option (List ℕ) → Option (List ℕ) → Status → Type 0
+IsMigrationRun begun end sink full status =
+    (IsMigration begun end × IsLine sink full status 0 (codes "Layout 2"))
+    ⊎ ((error : VolumeError) × IsMigrationRefused begun end error
+    × IsLine sink full status (start_code error) (start_text error))
+
+-- What became of the image of this form at a path: it was opened, and its disk has layout 2, or was refused, by asking
+-- that disk alone since the file was opened; or it wasn't opened, for a reason that stands.
+abbrev pub IsOnMigrated : {H L M F D I : Type 0} → HostFacts H → Views M F D I → List ℕ → Form → Unseen
+    → Option (List ℕ) → Option (List ℕ) → Disks L F D I → Status → Type 0
+IsOnMigrated {I = I} facts views path form u sink full disks status =
+    ((image : I) × (disks ≡ Served image) × IsOpened facts path u × IsWhole form u (views.image image)
+    × IsMigrationRun (begun_image form (views.image image).size u) (views.image image) sink full status)
+    ⊎ ((fault : ImageFault) × IsDenied facts views path form u fault disks × IsExplained sink full status fault)
