@@ -1,5 +1,5 @@
 #!/usr/bin/env python3
-"""Tests put, get, list, check and convert: what each prints, its exit status, and the bytes that it leaves.
+"""Tests put, get, list, check, convert and migrate: what each prints, its exit status, and the bytes that it leaves.
 
 usage: tests/put_get_list_convert.py PROGRAM
 
@@ -332,6 +332,69 @@ def converts(tries):
         tries.expect(["convert", *words], b"", [b""], 2)
 
 
+def homes(first, second):
+    """The words that name these layouts in the home copies."""
+    return [(1, 1, first), (2, 1, second)]
+
+
+def migrates(tries):
+    """A migrated image has layout 2, with the same words elsewhere but for the log, and then later dates."""
+    done, rest = [b"Layout 2\n"], image_of()[14 * BLOCK :]
+    tries.write("M.IMG", image_of())
+    tries.expect(["put", "M.IMG", "10,20", "BAR", "--date", "4096"], HELLO, [b"?Date out of range\n"], 1)
+    tries.expect(["run", "M.IMG", "--date", "4096"], b"LOGIN [10,20]\nCOPY A=FOO.TXT\n",
+                 [b"Job 1 [10,20]\n?Date out of range\n"], 1)
+    for _ in range(2):
+        tries.expect(["migrate", "M.IMG"], b"ignored", done, 0)
+        tries.holds("M.IMG", 64 * BLOCK, 0, image_of(homes(2, 2))[: 4 * BLOCK])
+        tries.holds("M.IMG", 64 * BLOCK, 14 * BLOCK, rest)
+    foo = b"FOO    TXT     1  <057>   4-Jan-1975\n"
+    tries.expect(["list", "M.IMG"], b"", [foo + b"Total 1 blocks in 1 files [10,20]\n"], 0)
+    for date, day in [("4096", b" 5-Jan-1975"), ("1-Feb-2052", b" 1-Feb-2052")]:
+        tries.expect(["put", "M.IMG", "10,20", "BAR", "--date", date], HELLO, [b"OK\n"], 0)
+        listed = b"BAR            1  <057>  " + day + b"\n" + foo + b"Total 2 blocks in 2 files [10,20]\n"
+        tries.expect(["list", "M.IMG", "10,20"], b"", [listed], 0)
+    tries.expect(["put", "M.IMG", "10,20", "BAR", "--date", "32768"], HELLO, [b""], 2)
+    # A conversion keeps the layout, and images of form 2 are migrated, too.
+    tries.expect(["convert", "M.IMG", "K.IMG"], b"", [b"Converted 64 blocks\n"], 0)
+    tries.expect(["list", "K.IMG", "--form", "2"], b"", [listed], 0)
+    tries.write("L.IMG", image_of())
+    tries.expect(["convert", "L.IMG", "L2.IMG"], b"", [b"Converted 64 blocks\n"], 0)
+    tries.expect(["migrate", "L2.IMG"], b"", [b"?Not a volume\n"], 3)
+    tries.expect(["migrate", "L2.IMG", "--form", "2"], b"", done, 0)
+    tries.expect(["put", "L2.IMG", "10,20", "BAR", "--date", "4096", "--form", "2"], HELLO, [b"OK\n"], 0)
+    # The first valid copy tells the layout: one of layout 2 is left as it is, and so is the copy behind it.
+    for first, second, left in [(1, 2, (2, 2)), (2, 1, (2, 1)), (3, 2, (3, 2)), (0, 1, (2, 2))]:
+        tries.write("C.IMG", image_of(homes(first, second)))
+        tries.expect(["migrate", "C.IMG"], b"", done, 0)
+        tries.holds("C.IMG", 64 * BLOCK, BLOCK, image_of(homes(*left))[BLOCK : 3 * BLOCK])
+        tries.expect(["put", "C.IMG", "10,20", "BAR", "--date", "4096"], HELLO, [b"OK\n"], 0)
+    # What a start refuses isn't changed.
+    for changes, line in [(homes(3, 0), b"?Bad home blocks\n"), ([(17, 5, 0o201)], b"?Bad retrieval block 17\n")]:
+        spoiled = image_of(changes)
+        tries.write("S.IMG", spoiled)
+        tries.expect(["migrate", "S.IMG"], b"", [line], 3)
+        tries.same("S.IMG", spoiled)
+    tries.expect(["migrate", "NONE.IMG"], b"", [b"?Device fault\n"], 4)
+    for words in [[], ["M.IMG", "X"], ["M.IMG", "--form", "3"], ["M.IMG", "--date", "1"]]:
+        tries.expect(["migrate", *words], b"", [b""], 2)
+
+
+def layouts(tries):
+    """A new image has the layout that is asked for, and 1 if none is."""
+    for words, layout, printed in [([], 1, b"?Date out of range\n"), (["--layout", "1"], 1, b"?Date out of range\n"),
+                                   (["--layout", "2"], 2, b"OK\n")]:
+        tries.expect(["init", "I.IMG", "64", *words], b"", [b""], 0)
+        tries.holds("I.IMG", 64 * BLOCK, 0, image_of(homes(layout, layout))[: 4 * BLOCK])
+        tries.expect(["run", "I.IMG"], b"LOGIN [10,20]\nMAKDIR [10,20]\n", [b"Job 1 [10,20]\nOK\n"], 0)
+        tries.expect(["put", "I.IMG", "10,20", "FOO", "--date", "4096"], HELLO, [printed], 2 - layout)
+        os.remove(tries.path("I.IMG"))
+    for layout in ["0", "3", "one"]:
+        tries.expect(["init", "I.IMG", "64", "--layout", layout], b"", [b""], 2)
+    tries.expect(["init", "I.IMG", "64", "--form", "2", "--layout", "2"], b"", [b""], 0)
+    tries.expect(["migrate", "I.IMG", "--form", "2"], b"", [b"Layout 2\n"], 0)
+
+
 def progress(tries):
     """A conversion of many blocks tells a terminal how far it is, and nobody else; one of few blocks tells nothing."""
     convert = ["convert", "H.IMG", "N.IMG"]
@@ -396,7 +459,7 @@ def main():
         return 2
     with tempfile.TemporaryDirectory() as folder:
         tries = Tries(os.path.abspath(sys.argv[1]), folder)
-        for part in [check, row, lists, tables, days, back, converts, progress, refusals]:
+        for part in [check, row, lists, tables, days, back, converts, migrates, layouts, progress, refusals]:
             part(tries)
     print(f"put_get_list_convert: {tries.count - tries.failed} as they should be, {tries.failed} not")
     return 1 if tries.failed else 0
