@@ -1,6 +1,7 @@
 -- Which layout contents have, and which files they stand for in it. A home copy names a layout, and the first valid
 -- copy counts, so the layout is a function of the contents.
-use Rattle.std.specs.Prelude.{◌≡◌, ℕ, ◌==◌, ◌&&◌, ◌||◌, nat_le, nat_lt, Bool, if◌then◌else◌, List, get_or, Option, Some, None}
+use Rattle.std.specs.Prelude.{◌≡◌, ℕ, ◌==◌, ◌&&◌, ◌||◌, nat_le, nat_lt, Bool, if◌then◌else◌, List, get_or, Option}
+use Rattle.std.specs.Prelude.{Some, None}
 use Rattle.std.specs.Cmp.Lexicographic.{pointwise}
 use Rattle.blockdisk.specs.Disk.{Contents, DiskState}
 use Rattle.meaning.specs.Files.{File, Files}

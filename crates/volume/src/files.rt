@@ -154,8 +154,8 @@ pub fn read_file<D: Disk>(
     requires marks { length reached.old ≡ (D.state disk.old).size }
     // The version that was read, of this name, with its blocks marked.
     ensures ok { (D.state disk.new).honest
-        → IfOk result (λ v. IsFileFound (layout_number layout) (D.state disk.old).contents (place_of ppn name) prime v.prime
-        v.version) }
+        → IfOk result (λ v. IsFileFound (layout_number layout) (D.state disk.old).contents (place_of ppn name) prime
+        v.prime v.version) }
     ensures name { IfOk result (λ v. v.prime.file ≡ name) }
     ensures ppn { IfOk result (λ v. v.prime.ppn ≡ ppn) }
     ensures marks { IfOk result (λ v. (n : ℕ)

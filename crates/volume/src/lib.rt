@@ -1,10 +1,9 @@
 //! A volume: directories and files on a disk of blocks. What the layer keeps:
 //!
 //! 1. `Volume::init` makes a volume with no directory on every disk of 64 to 131072 blocks, in layout 1, and
-//!    `init_layout` in the one that is named: at Ok no block
-//!    is open, and whatever a crash leaves from then on stands for no files, in that layout. It writes the fixed regions but
-//!    for the log's images, and the first block of the master directory. (`stands`, `settled`, `bare`,
-//!    `modified`, `near`)
+//!    `init_layout` in the one that is named: at Ok no block is open, and whatever a crash leaves from then on
+//!    stands for no files, in that layout. It writes the fixed regions but for the log's images, and the first
+//!    block of the master directory. (`stands`, `settled`, `bare`, `modified`, `near`)
 //! 2. `Volume::open` recovers the disk first and then reads every block that it reaches, each once. Where it
 //!    answers Ok on an honest disk, the disk stood for some files, nothing but the recovery was done to it, the
 //!    contents have the map that is kept in core, the files are those that the disk stood for before, the gate

@@ -100,8 +100,8 @@ fn read_tree<D: Disk>(
     // What was read, or met where it is refused.
     ensures read { (D.state disk.new).honest
         → IsHome (D.state disk.old).size (D.state disk.old).contents (home_in (layout_number layout) first)
-        → IfOk result (λ tree. IsMapFound (D.state disk.old).size (D.state disk.old).contents (layout_number layout) first
-        (viewed master_view tree.0) (map known_directory tree.1.items) (digit_at reached.new)) }
+        → IfOk result (λ tree. IsMapFound (D.state disk.old).size (D.state disk.old).contents (layout_number layout)
+        first (viewed master_view tree.0) (map known_directory tree.1.items) (digit_at reached.new)) }
     ensures fault { (D.state disk.new).honest
         → IsHome (D.state disk.old).size (D.state disk.old).contents (home_in (layout_number layout) first)
         → IfErr result (SettledRefuses (D.state disk.old).size (D.state disk.old).contents) }

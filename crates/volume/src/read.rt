@@ -91,13 +91,13 @@ fn add_file<D: Disk>(
     // What was read, or met where it is refused.
     ensures read { (D.state disk.new).honest
         → OnOk result (IsAdded known_version versions.old.items versions.new.items
-        (IsMarkedFile (layout_number layout) (D.state disk.old).contents ppn (file_view entry.now) (digit_at reached.old)
-        (digit_at reached.new))) }
+        (IsMarkedFile (layout_number layout) (D.state disk.old).contents ppn (file_view entry.now)
+        (digit_at reached.old) (digit_at reached.new))) }
     ensures marked { OnOk result (IsAdded known_version versions.old.items versions.new.items (λ v. (n : ℕ)
         → digit_at reached.new n ≡ digit_at reached.old n + times n (blocks_reached entry.now.prime v.version))) }
     ensures fault { (D.state disk.new).honest
-        → IfErr result (IsFaultOfFile (D.state disk.old).size (layout_number layout) (D.state disk.old).contents reached.old
-        (place_of ppn entry.now.name) entry.now.prime) }
+        → IfErr result (IsFaultOfFile (D.state disk.old).size (layout_number layout) (D.state disk.old).contents
+        reached.old (place_of ppn entry.now.name) entry.now.prime) }
     ensures named { IfErr result (NamesInSpace (D.state disk.old).size) }
     // It is as a map has to be.
     ensures whole { OnOk result (IsAdded known_version versions.old.items versions.new.items IsWholeVersion) }
@@ -134,13 +134,13 @@ fn read_files<D: Disk>(
     requires marks { length reached.old ≡ (D.state disk.old).size }
     // What was read, or met where it is refused.
     ensures read { (D.state disk.new).honest
-        → IfOk result (λ versions. AreFilesRead (layout_number layout) (D.state disk.old).contents ppn (map file_view entries.now)
-        (map known_version versions.items) (digit_at reached.old) (digit_at reached.new)) }
+        → IfOk result (λ versions. AreFilesRead (layout_number layout) (D.state disk.old).contents ppn (map file_view
+        entries.now) (map known_version versions.items) (digit_at reached.old) (digit_at reached.new)) }
     ensures marked { IfOk result (λ versions. (n : ℕ) → digit_at reached.new n ≡ digit_at reached.old n
         + reaches_in_entries n (map file_view entries.now) (map known_version versions.items)) }
     ensures fault { (D.state disk.new).honest
-        → IfErr result (IsFaultOfFiles (D.state disk.old).size (layout_number layout) (D.state disk.old).contents (digit_at reached.old) ppn
-        (map file_view entries.now)) }
+        → IfErr result (IsFaultOfFiles (D.state disk.old).size (layout_number layout) (D.state disk.old).contents
+        (digit_at reached.old) ppn (map file_view entries.now)) }
     ensures named { IfErr result (NamesInSpace (D.state disk.old).size) }
     // It is as a map has to be.
     ensures whole { IfOk result (λ versions. AllByRecursion IsWholeVersion (map known_version versions.items)) }
@@ -176,8 +176,8 @@ fn read_directory<D: Disk>(
     requires marks { length reached.old ≡ (D.state disk.old).size }
     // What was read, or met where it is refused.
     ensures read { (D.state disk.new).honest
-        → IfOk result (λ directory. IsDirectoryFound (layout_number layout) (D.state disk.old).contents (master_view entry.now)
-        (known_directory directory) (digit_at reached.old) (digit_at reached.new)) }
+        → IfOk result (λ directory. IsDirectoryFound (layout_number layout) (D.state disk.old).contents
+        (master_view entry.now) (known_directory directory) (digit_at reached.old) (digit_at reached.new)) }
     ensures marked { IfOk result (λ directory. (n : ℕ)
         → digit_at reached.new n ≡ digit_at reached.old n + reaches_in_known n (known_directory directory)) }
     ensures fault { (D.state disk.new).honest
@@ -217,8 +217,8 @@ fn add_directory<D: Disk>(
     // What was read, or met where it is refused.
     ensures read { (D.state disk.new).honest
         → OnOk result (IsAdded known_directory directories.old.items directories.new.items
-        (λ d. IsDirectoryFound (layout_number layout) (D.state disk.old).contents (master_view entry.now) d (digit_at reached.old)
-        (digit_at reached.new))) }
+        (λ d. IsDirectoryFound (layout_number layout) (D.state disk.old).contents (master_view entry.now) d
+        (digit_at reached.old) (digit_at reached.new))) }
     ensures marked { OnOk result (IsAdded known_directory directories.old.items directories.new.items (λ d. (n : ℕ)
         → digit_at reached.new n ≡ digit_at reached.old n + reaches_in_known n d)) }
     ensures fault { (D.state disk.new).honest
@@ -261,13 +261,14 @@ pub fn read_directories<D: Disk>(
     requires marks { length reached.old ≡ (D.state disk.old).size }
     // What was read, or met where it is refused.
     ensures read { (D.state disk.new).honest
-        → IfOk result (λ directories. AreDirectoriesRead (layout_number layout) (D.state disk.old).contents (map master_view entries.now)
+        → IfOk result (λ directories. AreDirectoriesRead (layout_number layout) (D.state disk.old).contents
+        (map master_view entries.now)
         (map known_directory directories.items) (digit_at reached.old) (digit_at reached.new)) }
     ensures marked { IfOk result (λ directories. (n : ℕ) → digit_at reached.new n
         ≡ digit_at reached.old n + total (reaches_in_known n) (map known_directory directories.items)) }
     ensures fault { (D.state disk.new).honest
-        → IfErr result (IsFaultOfDirectories (D.state disk.old).size (layout_number layout) (D.state disk.old).contents (digit_at reached.old)
-        (map master_view entries.now)) }
+        → IfErr result (IsFaultOfDirectories (D.state disk.old).size (layout_number layout) (D.state disk.old).contents
+        (digit_at reached.old) (map master_view entries.now)) }
     ensures named { IfErr result (NamesInSpace (D.state disk.old).size) }
     // It is as a map has to be.
     ensures whole { IfOk result (λ directories. AllByRecursion (IsWholeDirectory (D.state disk.old).size)
