@@ -1,3 +1,5 @@
+ghost use Rattle.std.specs.Prelude.{◌<◌};
+
 use crate::open_tests::{HOME, expect_booked, load, put, replaced, v1, word};
 use blockdisk::{MemDisk, NoMemory};
 use std::alloc::Global;
