@@ -1,5 +1,5 @@
 #!/usr/bin/env python3
-"""Tests put, get, list, check and convert: what each prints, its exit status, and the bytes that it leaves.
+"""Tests put, get, list, check, convert and migrate: what each prints, its exit status, and the bytes that it leaves.
 
 usage: tests/put_get_list_convert.py PROGRAM
 
@@ -332,6 +332,43 @@ def converts(tries):
         tries.expect(["convert", *words], b"", [b""], 2)
 
 
+def layouts(tries):
+    """A volume is made in a layout, or given layout 2: its files stay, and home copies, gate and log alone change."""
+    one, two = ["--layout", "1"], ["--layout", "2"]
+    for name, words, layout in [("LAYOUT.IMG", [], 1), ("LAYOUT1.IMG", one, 1), ("LAYOUT2.IMG", two, 2)]:
+        tries.expect(["init", name, "64", *words], b"", [b""], 0)
+        for copy in [1, 2]:
+            tries.holds(name, 64 * BLOCK, copy * BLOCK + 8, layout.to_bytes(8, "big"))
+    tries.same("LAYOUT1.IMG", tries.read("LAYOUT.IMG"))
+    for layout in ["0", "3", "", "two"]:
+        tries.expect(["init", "X.IMG", "64", "--layout", layout], b"", [b""], 2)
+    # A second time it says the same.
+    raised = image_of([(1, 1, 2), (2, 1, 2)])
+    tries.write("M.IMG", image_of())
+    for _ in range(2):
+        tries.expect(["migrate", "M.IMG"], b"", [b"Layout 2\n"], 0)
+        tries.holds("M.IMG", 64 * BLOCK, 0, raised[: 3 * BLOCK])
+        tries.holds("M.IMG", 64 * BLOCK, 14 * BLOCK, raised[14 * BLOCK :])
+    tries.expect(["get", "M.IMG", "10,20", "FOO.TXT"], b"", [HELLO], 0)
+    tries.expect(["check", "M.IMG"], b"", [b"Volume of 64 blocks, room 45\n"], 0)
+    for image in ["M.IMG", "LAYOUT2.IMG"]:
+        tries.run(["run", image], b"LOGIN [10,20]\nMAKDIR [10,20]\n")
+        tries.expect(["put", image, "10,20", "NEW", "--date", "32767"], HELLO, [b"OK\n"], 0)
+    # Form 2.
+    tries.expect(["init", "F.IMG", "64", "--form", "2"], b"", [b""], 0)
+    tries.expect(["migrate", "F.IMG"], b"", [b"?Not a volume\n"], 3)
+    tries.expect(["migrate", "F.IMG", "--form", "2"], b"", [b"Layout 2\n"], 0)
+    tries.expect(["check", "F.IMG", "--form", "2"], b"", [b"Volume of 64 blocks, room 48\n"], 0)
+    # What is refused stays as it was.
+    refused = image_of([(15, 1, 0o53)])
+    tries.write("S.IMG", refused)
+    tries.expect(["migrate", "S.IMG"], b"", [b"?Bad directory block 15\n"], 3)
+    tries.same("S.IMG", refused)
+    tries.expect(["migrate", "NONE.IMG"], b"", [b"?Device fault\n"], 4)
+    for words in [[], ["M.IMG", "N.IMG"], ["M.IMG", "--layout", "2"], ["M.IMG", "--form", "3"]]:
+        tries.expect(["migrate", *words], b"", [b""], 2)
+
+
 def progress(tries):
     """A conversion of many blocks tells a terminal how far it is, and nobody else; one of few blocks tells nothing."""
     convert = ["convert", "H.IMG", "N.IMG"]
@@ -396,7 +433,7 @@ def main():
         return 2
     with tempfile.TemporaryDirectory() as folder:
         tries = Tries(os.path.abspath(sys.argv[1]), folder)
-        for part in [check, row, lists, tables, days, back, converts, progress, refusals]:
+        for part in [check, row, lists, tables, days, back, converts, layouts, progress, refusals]:
             part(tries)
     print(f"put_get_list_convert: {tries.count - tries.failed} as they should be, {tries.failed} not")
     return 1 if tries.failed else 0
