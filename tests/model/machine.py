@@ -60,7 +60,11 @@ class File:
 
     def attributes(self):
         date, minute = self.moment
-        return self.protection << 27 | self.mode << 23 | minute << 12 | date
+        return self.protection << 27 | self.mode << 23 | minute << 12 | date & 0o7777
+
+    def high_date(self):
+        """The right half of the word of the extension, in layout 2; dates of layout 1 make it 0."""
+        return self.moment[0] >> 12 << 15
 
 
 class Output:
@@ -113,12 +117,13 @@ class Job:
 
 
 class Machine:
-    """Jobs, and directories of files."""
+    """Jobs, and directories of files, on a volume of so many blocks in a layout; all calls are made at one moment."""
 
-    def __init__(self, blocks):
+    def __init__(self, blocks, layout=1, moment=(0, 0)):
         tables = up(blocks, 4608)
         self.free = blocks - (5 + tables + 8 + tables)
-        self.directories, self.jobs, self.moment = {}, {}, (0, 0)
+        self.directories, self.jobs, self.moment = {}, {}, moment
+        self.last_date = 4095 if layout == 1 else 32767
 
     # Costs.
 
@@ -155,7 +160,7 @@ class Machine:
         number, call = int(fields[0], 8), fields[1]
         if call == "LOGIN":
             return self.login(number, tuple(int(half, 8) for half in fields[2].split(",")), int(fields[3], 8))
-        if self.moment[0] > 4095 and call not in ("DEP", "EXA"):
+        if self.moment[0] > self.last_date and call not in ("DEP", "EXA"):
             return "DATE"
         job = self.jobs.get(number)
         if job is None:
@@ -342,7 +347,7 @@ class Machine:
         count = (1 << 18) - words if 0 < words <= MOST_WORDS else up(words, DATA)
         channel.input = (place, file, 1)
         channel.status &= ~ERRORS
-        job.core[e + 1] &= ~RIGHT
+        job.core[e + 1] = job.core[e + 1] & ~RIGHT | file.high_date()
         job.core[e + 2 : e + 4] = [file.attributes(), count << 18]
 
     def enter(self, job, number, e):
@@ -387,7 +392,7 @@ class Machine:
             protection = file.protection if file else job.core[e + 2] >> 27 or 0o057
             channel.output = Output(place, kind, File(protection, channel.mode, self.moment, []), 1)
         channel.status &= ~ERRORS
-        job.core[e + 1] &= ~RIGHT
+        job.core[e + 1] = job.core[e + 1] & ~RIGHT | channel.output.file.high_date()
         job.core[e + 2] = channel.output.file.attributes()
 
     def rename(self, job, number, e):

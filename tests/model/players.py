@@ -212,9 +212,9 @@ def turns(order, chance):
     return jobs
 
 
-def script(seed, order, blocks):
+def script(seed, order, blocks, layout=1, moment=(0, 0)):
     """The lines of a script, what the model answers, and the model at the end."""
-    machine = Machine(blocks)
+    machine = Machine(blocks, layout, moment)
     lines, wanted = [], []
 
     def play(line):
