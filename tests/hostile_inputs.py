@@ -75,15 +75,23 @@ def names(count):
     return [f"Z{LETTERS[n // 26]}{LETTERS[n % 26]}" for n in range(count)]
 
 
-def small_image(program):
-    """64 blocks with two directories and seven files, one of them without words."""
-    program.run(["init", "G.IMG", "64"])
+def taken(program):
+    """The bytes of the image that was made, which is removed."""
+    image = program.read("G.IMG")
+    os.remove(program.path("G.IMG"))
+    return image
+
+
+def small_image(program, layout):
+    """64 blocks with two directories and seven files, one of them without words; in layout 2 two have late dates."""
+    late = ["--date", "4096"] if layout == 2 else []
+    program.run(["init", "G.IMG", "64", "--layout", str(layout)])
     program.run(["run", "G.IMG"], b"LOGIN [10,20]\nMAKDIR [10,20]\nMAKDIR [11,5]<377>\nMAKDIR [11,7]\n")
     for number, size in enumerate([0, 5, 640, 641, 3000]):
         program.run(["put", "G.IMG", "10,20", f"F{number}.TXT"], b"A" * size)
-    program.run(["put", "--words", "G.IMG", "11,5", "W"], bytes(8 * 300))
-    program.run(["put", "G.IMG", "11,5", "FOO"], b"HELLO\r\n")
-    return program.read("G.IMG")
+    program.run(["put", "--words", "G.IMG", "11,5", "W", *late], bytes(8 * 300))
+    program.run(["put", "G.IMG", "11,5", "FOO", *late], b"HELLO\r\n")
+    return taken(program)
 
 
 def large_image(program):
@@ -96,7 +104,7 @@ def large_image(program):
     lines += [f"DELETE {name}" for name in names(235)[::2]]
     program.run(["run", "G.IMG"], "\n".join(lines + [""]).encode())
     program.run(["put", "G.IMG", "10,20", "BIG"], b"C" * (640 * 126))
-    return program.read("G.IMG")
+    return taken(program)
 
 
 def structure(image):
@@ -204,10 +212,10 @@ def same_in_form_2(program, what, image, outcome):
 def images(program, count):
     """Spoiled images: served, or refused."""
     served = 0
-    kinds = [(small_image(program), 64), (large_image(program), 512)]
+    kinds = [(small_image(program, 1), 64), (small_image(program, 2), 64), (large_image(program), 512)]
     kinds = [(image, blocks, structure(image)) for image, blocks in kinds]
     for number in range(count):
-        image, blocks, places = kinds[0 if number % 10 else 1]
+        image, blocks, places = kinds[number % 2 if number % 10 else 2]
         chance = random.Random(number)
         what = f"image {number}"
         spoiled_image = spoiled(image, places, chance)
@@ -262,7 +270,7 @@ def said(data):
 
 def inputs(program, count):
     """Inputs that make no sense, as sessions and as call scripts."""
-    image = small_image(program)
+    image = small_image(program, 1)
     for number in range(count):
         chance = random.Random(1000000 + number)
         data = noise(chance)
