@@ -1,5 +1,5 @@
 -- Acts that follow one another.
-use Rattle.std.proofs.Common.{◌≡◌, ℕ, List, [], ◌∷◌, ◌++◌, refl, sym, subst, ◌∙◌, Result}
+use Rattle.std.proofs.Common.{◌≡◌, ℕ, List, [], ◌∷◌, ◌++◌, refl, subst, ◌∙◌, Result}
 use Rattle.blockdisk.specs.Laws.{still_start, still_on}
 use Rattle.meaning.specs.Jobs.{State}
 use Rattle.meaning.specs.Room.{Pack}

@@ -14,7 +14,7 @@ use Rattle.meaning.specs.declared.code.ErrorCode.TheVariants.{NotFound}
 use Rattle.meaning.specs.Directories.{master_word}
 use Rattle.meaning.specs.Files.{File, Files, name_cmp}
 use Rattle.meaning.specs.Maps.{get}
-use Rattle.meaning.specs.Stands.{StoredFile, StoredDirectory, DiskMap, directory_of, files_of, entry_of, quota_limit}
+use Rattle.meaning.specs.Stands.{StoredFile, StoredDirectory, DiskMap, directory_of, files_of, entry_of}
 use Rattle.meaning.specs.Layouts.{pack_of}
 use Rattle.meaning.proofs.DiskMaps.{stands_same}
 use Rattle.meaning.proofs.MapLaws.{some_same}

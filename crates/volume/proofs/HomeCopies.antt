@@ -1,5 +1,5 @@
 -- What the words of a home copy say.
-use Rattle.std.proofs.Common.{◌≡◌, Bool, ◌==◌, ℕ, ◌<◌, ◌≤◌, List, [], ◌∷◌, length, get_or, replicate, Some, refl, sym}
+use Rattle.std.proofs.Common.{◌≡◌, Bool, ◌==◌, ℕ, ◌<◌, ◌≤◌, List, [], ◌∷◌, length, get_or, Some, refl, sym}
 use Rattle.std.proofs.Common.{inl, inr, ◌∙◌, ap, subst, arith, slice_index, Option, None, IfNone}
 use Rattle.std.specs.Bool.{Decides}
 use Rattle.std.specs.Cmp.Lexicographic.{pointwise}

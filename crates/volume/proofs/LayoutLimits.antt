@@ -1,5 +1,5 @@
 -- What one layout holds the wider one holds, too.
-use Rattle.std.proofs.Common.{◌≡◌, ℕ, Bool, true, false, ◌+◌, ◌*◌, ◌<◌, ◌==◌, if◌then◌else◌, ◌^◌, sym, subst, arith}
+use Rattle.std.proofs.Common.{◌≡◌, ℕ, Bool, true, false, ◌<◌, ◌==◌, if◌then◌else◌, ◌^◌, sym, subst, arith}
 use Rattle.meaning.specs.Directories.{MasterEntry, master_word}
 use Rattle.meaning.specs.Faults.{IsMasterEntryOf}
 use Rattle.meaning.specs.Retrieval.{Prime, IsPrime, date_limit}

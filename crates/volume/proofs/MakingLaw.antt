@@ -18,7 +18,7 @@ use Rattle.meaning.specs.Log.{with_puts}
 use Rattle.meaning.specs.Table.{bit_in, table_bit}
 use Rattle.meaning.specs.Directories.{MasterEntry, master_words, IsMasterEntry, master_word, file_words, IsFileEntry}
 use Rattle.meaning.specs.Directories.{items}
-use Rattle.meaning.specs.Stands.{StoredFile, StoredDirectory, DiskMap, HasMap, entry_of, quota_limit, reaches}
+use Rattle.meaning.specs.Stands.{StoredFile, StoredDirectory, DiskMap, HasMap, entry_of, reaches}
 use Rattle.meaning.specs.Changes.{TableFollows, IsMasterChain, entries_of, bare_directory}
 use Rattle.meaning.specs.Faults.{InSpace, IsMasterEntryOf}
 use Rattle.meaning.proofs.MapLaws.{some_same, some_none, entries-empty, get-insert_same, get-insert_other}

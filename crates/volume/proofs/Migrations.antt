@@ -28,7 +28,7 @@ use Rattle.volume.specs.Cores.{known_of}
 use Rattle.volume.specs.Homes.{home_in}
 use Rattle.volume.specs.Rest.{IsAtRest, StandsLike, StandsLikeBefore}
 use Rattle.volume.proofs.Packs.{pack_held}
-use Rattle.volume.proofs.Starting.{stands_ignores_log, stands_ignores_gate}
+use Rattle.volume.proofs.Starting.{stands_ignores_gate}
 
 -- Every layout fits into layout 2.
 

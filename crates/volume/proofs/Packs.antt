@@ -1,5 +1,5 @@
 -- The layout of a volume at rest: whatever map or files a disk is known to have, they are in its own layout.
-use Rattle.std.proofs.Common.{◌≡◌, ℕ, ◌≤◌, ◌<◌, ⊎_elim, inl, sym, ap, subst, ◌∙◌, refl, arith}
+use Rattle.std.proofs.Common.{◌≡◌, ℕ, ⊎_elim, inl, sym, ap, subst, ◌∙◌, refl, arith}
 use Rattle.blockdisk.specs.Disk.{Contents, DiskState, LeavesOnly}
 use Rattle.changeset.specs.Crashes.{IsShut}
 use Rattle.changeset.specs.Rest.{AtRest}
