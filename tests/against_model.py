@@ -4,32 +4,19 @@
 usage: tests/against_model.py PROGRAM [COUNT]
 
 The model is model/machine.py, and model/players.py decides what the jobs do. The volumes are small enough to be full at
-times. They have layout 1 or 2, which they were made in or migrated to, and the calls are made at a moment that fits. For each of COUNT seeds (20 if not given), the same in every run, the four jobs follow each other in three ways:
-one job after the other, in turn, and at random. Each reply, each word that a job examines, the room that is left, and
-each file at the end must be the model's.
+times, and so are the quotas of their directories. They have layout 1 or 2, which they were made in or migrated to, and
+the calls are made at a moment that fits. For each of COUNT seeds (20 if not given), the same in every run, the four
+jobs follow each other in three ways: one job after the other, in turn, and at random. Each reply, each word that a job
+examines, the room that is left, and each directory and each file at the end must be the model's.
 """
 
 import os
 import sys
 import tempfile
 
-from model.players import run, script, wrong_files
+from model.players import dated, make, moment_of, run, script, wrong_files
 
 ORDERS = ["apart", "in turn", "at random"]
-
-
-def moment_of(seed):
-    """The layout of a volume, and a moment whose date it has room for."""
-    layout = 1 + seed % 2
-    return layout, (seed * 1733 % (4096 if layout == 1 else 32768), seed * 97 % 1440)
-
-
-def make(program, folder, blocks, layout, seed):
-    """Makes the volume: one of layout 2 at once, or one of layout 1 that is migrated."""
-    made_in = 1 if seed % 4 == 1 else layout
-    run(program, folder, ["init", "J.IMG", str(blocks), "--layout", str(made_in)])
-    if made_in != layout:
-        run(program, folder, ["migrate", "J.IMG"])
 
 
 def serve(program, folder, seed, order):
@@ -37,11 +24,8 @@ def serve(program, folder, seed, order):
     blocks = [64, 96, 160][seed % 3]
     layout, moment = moment_of(seed)
     lines, wanted, machine = script(seed, order, blocks, layout, moment)
-    if os.path.exists(os.path.join(folder, "J.IMG")):
-        os.remove(os.path.join(folder, "J.IMG"))
-    make(program, folder, blocks, layout, seed)
-    dated = ["--date", str(moment[0]), "--minute", str(moment[1])]
-    text, _ = run(program, folder, ["calls", "J.IMG", *dated], "\n".join(lines + [""]).encode())
+    make(program, folder, blocks, seed)
+    text, _ = run(program, folder, ["calls", "J.IMG", *dated(moment)], "\n".join(lines + [""]).encode())
     found = text.decode("latin-1").split("\n")
     wrong = []
     for place, (line, want) in enumerate(zip(lines, wanted)):

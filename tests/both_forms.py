@@ -6,8 +6,8 @@ usage: tests/both_forms.py PROGRAM
 Each row begins with the image that its lines describe, once in form 1 and once in form 2. Its session lines go through
 `filser run`, and its calls through `filser calls`. Both forms must print the same, and end with the same status and the
 same words in each block; a row that has only sessions must print what the row wants. The top of crates/rows/stdin says
-what its lines mean. Then images of several sizes are converted there and back, one of them by processes that are
-interrupted. Prints a line for each thing that is not as it should be, and one line at the end.
+what its lines mean. Then images of several sizes and of both layouts are converted there and back, one of them by
+processes that are interrupted. Prints a line for each thing that is not as it should be, and one line at the end.
 """
 
 import os
@@ -91,6 +91,7 @@ class Row:
         self.title = title
         self.serves = kind == "ROW"
         self.blocks = []
+        self.changed = set()
         self.is_damaged = False
         self.runs = [Run(("0", "0"))]
         for line in lines:
@@ -110,15 +111,17 @@ class Row:
         fields = line.split() or [""]
         if fields[0] in ("VOLUME", "WRITTEN", "RAW"):
             self.blocks = [words_of("") for _ in range(int(fields[1]))]
-            self.is_volume = fields[0] == "VOLUME"
+            self.is_volume, self.changed = fields[0] == "VOLUME", set()
             self.serves = self.serves and len(fields) == 2
             if fields[0] == "WRITTEN":
                 for block, text in WRITTEN.items():
                     self.blocks[block] = words_of(text)
         elif fields[0] == "BLOCK":
             self.blocks[int(fields[1])] = words_of(" ".join(fields[2:]))
+            self.changed.add(int(fields[1]))
         elif fields[0] == "ALL":
             self.blocks[int(fields[1])] = [int(fields[2], 8)] * WORDS
+            self.changed.add(int(fields[1]))
         elif fields[0] == "DAMAGE":
             self.is_damaged = True
         elif fields[0] == "AT":
@@ -191,6 +194,13 @@ class Tries:
         two = self.run([command, "TWO.IMG", *moment, "--form", "2"], data)
         return one, one == two
 
+    def change(self, block, data):
+        """Gives a block of both images these words, spelled in form 1."""
+        for name, data in (("ONE.IMG", data), ("TWO.IMG", packed(data))):
+            with open(self.path(name), "r+b") as file:
+                file.seek(block * len(data))
+                file.write(data)
+
     def row(self, row):
         """A row over both forms."""
         if row.is_volume:
@@ -198,6 +208,8 @@ class Tries:
                 if os.path.exists(self.path(name)):
                     os.remove(self.path(name))
                 self.run(["init", name, str(len(row.blocks)), "--form", form])
+            for block in row.changed:
+                self.change(block, plain(row.blocks[block]))
         else:
             image = b"".join(plain(words) for words in row.blocks)
             self.write("ONE.IMG", image)
@@ -213,12 +225,12 @@ class Tries:
                 self.expect(same, f"{row.title}: calls are answered otherwise in form 2")
         self.expect(packed(self.read("ONE.IMG")) == self.read("TWO.IMG"), f"{row.title}: the images differ")
 
-    def size(self, blocks, data=b"HELLO\r\n" * 2000):
+    def size(self, blocks, data=b"HELLO\r\n" * 2000, layout=1):
         """An image of so many blocks with a file of these bytes in it, converted there and back."""
         for name in ("A.IMG", "B.IMG", "C.IMG"):
             if os.path.exists(self.path(name)):
                 os.remove(self.path(name))
-        self.run(["init", "A.IMG", str(blocks)])
+        self.run(["init", "A.IMG", str(blocks), "--layout", str(layout)])
         self.run(["run", "A.IMG"], b"LOGIN [10,20]\nMAKDIR [10,20]\n")
         self.run(["put", "A.IMG", "10,20", "FOO.TXT"], data)
         done = (f"Converted {blocks} blocks\n".encode(), 0)
@@ -260,8 +272,8 @@ def main():
         tries = Tries(os.path.abspath(sys.argv[1]), folder)
         for row in rows:
             tries.row(row)
-        for blocks in (64, 65, 4608, 4609, 10000, 131072):
-            tries.size(blocks)
+        for blocks, layout in ((64, 1), (64, 2), (65, 1), (4608, 2), (4609, 1), (10000, 2), (131072, 1)):
+            tries.size(blocks, layout=layout)
         tries.interrupted()
     print(f"both_forms: {len(rows)} rows, {tries.count - tries.failed} as they should be, {tries.failed} not")
     return 1 if tries.failed else 0

@@ -8,8 +8,8 @@ and in form 2. Each start ends, and says that the image is a volume, or why not.
 for a commit that recovery finishes. A served image has each file read, is filled to its last block and emptied, and is
 still a volume then.
 
-Inputs: random bytes, and lines that were cut and put together anew. Each line is answered, and a line that means nothing
-changes nothing.
+Inputs: random bytes, and lines that were cut and put together anew, on images of both layouts in turn. Each line is
+answered, and a line that means nothing changes nothing.
 
 COUNT images and COUNT inputs (200 if not given), the same in every run. The last line says how many were as they should
 be.
@@ -83,7 +83,8 @@ def taken(program):
 
 
 def small_image(program, layout):
-    """64 blocks with two directories and seven files, one of them without words; in layout 2 two have late dates."""
+    """64 blocks with three directories and seven files, one of them without words. In layout 2 two have late dates, and
+    two directories have quotas."""
     late = ["--date", "4096"] if layout == 2 else []
     program.run(["init", "G.IMG", "64", "--layout", str(layout)])
     program.run(["run", "G.IMG"], b"LOGIN [10,20]\nMAKDIR [10,20]\nMAKDIR [11,5]<377>\nMAKDIR [11,7]\n")
@@ -91,6 +92,8 @@ def small_image(program, layout):
         program.run(["put", "G.IMG", "10,20", f"F{number}.TXT"], b"A" * size)
     program.run(["put", "--words", "G.IMG", "11,5", "W", *late], bytes(8 * 300))
     program.run(["put", "G.IMG", "11,5", "FOO", *late], b"HELLO\r\n")
+    if layout == 2:
+        program.run(["run", "G.IMG"], b"LOGIN [1,2]\nQUOTA [11,5] 8\nQUOTA [11,7] 262143\n")
     return taken(program)
 
 
@@ -236,12 +239,14 @@ def images(program, count):
 
 GOOD = [
     "LOGIN [10,20]", "DIRECTORY", "DIRECTORY [11,5]", "COPY N.A=F1.TXT", "RENAME M=N.A", "TYPE F1.TXT", "DELETE M",
-    "PROTECT F2.TXT<155>", "MAKDIR [1,7]<377>", "COPY F1.TXT[10,20]=FOO[11,5]",
+    "PROTECT F2.TXT<155>", "MAKDIR [1,7]<377>", "COPY F1.TXT[10,20]=FOO[11,5]", "LOGIN [1,2]", "QUOTA [10,20] 9",
+    "QUOTA [11,5] 000000", "COPY FOO[11,5]=F0.TXT[10,20]",
 ]
 CALLS = [
     "1 LOGIN 10,20 1000", "1 DEP 200 17", "1 DEP 201 446353000000", "1 OPEN 1 200", "1 DEP 300 463163000000",
     "1 LOOKUP 1 300", "1 IN 1 400", "1 EXA 300", "1 GETSTS 1", "1 USETI 1 2", "1 CLOSE 1 0", "1 RESET", "2 OPEN 3 20",
-    "1 ENTER 1 300", "1 OUT 1 400", "1 RELEAS 1",
+    "1 ENTER 1 300", "1 OUT 1 400", "1 RELEAS 1", "4 LOGIN 1,2 1000", "4 DEP 300 10000020", "4 QUOTA 300",
+    "1 QUOTA 300",
 ]
 
 
@@ -270,9 +275,9 @@ def said(data):
 
 def inputs(program, count):
     """Inputs that make no sense, as sessions and as call scripts."""
-    image = small_image(program, 1)
+    kinds = [small_image(program, 1), small_image(program, 2)]
     for number in range(count):
-        chance = random.Random(1000000 + number)
+        chance, image = random.Random(1000000 + number), kinds[number % 2]
         data = noise(chance)
         program.write("T.IMG", image)
         text, status = program.run(["calls", "T.IMG"], data)

@@ -3,12 +3,13 @@
 
 usage: tests/low_memory.py PROGRAM [COUNT]
 
-The model is model/machine.py, and model/players.py decides what the jobs do. For each of COUNT seeds (10 if not given)
-the program gets as many pages of memory as it takes to start, one more, and so on, up to those with which it serves the
-whole script. Then it is served one line at a time, each with no more memory than the process has, and once more with
-ample memory if it asks for some. After a NOMEMORY everything must be as before, so each later answer must be the model's
-again; calls that take no memory must never be answered NOMEMORY. At the end the program is started anew, and its room
-and each word of each file must be the model's.
+The model is model/machine.py, and model/players.py decides what the jobs do. Volumes of both layouts are served in
+turn, at a moment that fits. For each of COUNT seeds (10 if not given) the program gets as many pages of memory as it
+takes to start, one more, and so on, up to those with which it serves the whole script. Then it is served one line at a
+time, each with no more memory than the process has, and once more with ample memory if it asks for some. After a
+NOMEMORY everything must be as before, so each later answer must be the model's again; calls that take no memory must
+never be answered NOMEMORY. At the end the program is started anew, and its room and each word of each file must be the
+model's.
 """
 
 import copy
@@ -19,7 +20,7 @@ import sys
 import tempfile
 
 from model.machine import Machine
-from model.players import JOBS, run, script, wrong_files
+from model.players import JOBS, dated, make, moment_of, run, script, wrong_files
 
 BLOCKS = 160
 PAGE = 4096
@@ -29,18 +30,20 @@ FREE_CALLS = {"DEP", "EXA", "OPEN", "INBUF", "OUTBUF", "USETI", "USETO", "GETSTS
 FREE_ANSWERS = {"DATE", "NOJOB", "NOCHANNEL", "ADDRESS", "REFUSED 5"}
 
 
-def make(program, folder):
-    """Makes a fresh image."""
-    image = os.path.join(folder, "J.IMG")
-    if os.path.exists(image):
-        os.remove(image)
-    run(program, folder, ["init", "J.IMG", str(BLOCKS)])
+def fresh_machine(seed):
+    """The model of the volume that a seed makes."""
+    return Machine(BLOCKS, *moment_of(seed))
 
 
-def serve(program, folder, lines, limit):
-    """The lines that the program prints for a script, where it may have so many bytes of memory."""
-    make(program, folder)
-    done = subprocess.run([program, "calls", "J.IMG"], input="\n".join(lines + [""]).encode(), capture_output=True,
+def calls(program, seed):
+    """The words of a run that serves a script, at the moment of its seed."""
+    return [program, "calls", "J.IMG", *dated(moment_of(seed)[1])]
+
+
+def serve(program, folder, seed, lines, limit):
+    """The lines that the program prints for a script, if it may have this many bytes of memory; and its status."""
+    make(program, folder, BLOCKS, seed)
+    done = subprocess.run(calls(program, seed), input="\n".join(lines + [""]).encode(), capture_output=True,
                           cwd=folder, check=False, timeout=60,
                           preexec_fn=lambda: resource.setrlimit(resource.RLIMIT_DATA, (limit, limit)))
     return done.stdout.decode("latin-1").split("\n")[:-1], done.returncode
@@ -51,10 +54,10 @@ def may_want(machine, line):
     return line.split()[1] not in FREE_CALLS and copy.deepcopy(machine).line(line) not in FREE_ANSWERS
 
 
-def replay(lines, found):
+def replay(seed, lines, found):
     """The model behind the events that were answered with something else than NOMEMORY, how many weren't, and the first
     answer that isn't the model's."""
-    machine, refused = Machine(BLOCKS), 0
+    machine, refused = fresh_machine(seed), 0
     for place, (line, got) in enumerate(zip(lines, found)):
         if got == "NOMEMORY" and may_want(machine, line):
             refused += 1
@@ -80,11 +83,11 @@ def ended(machine):
     return machine
 
 
-def judge(program, folder, lines, limit):
+def judge(program, folder, seed, lines, limit):
     """How many events were refused memory, and what isn't the model's. Where there is none for the text of an answer,
     the run ends with status 4: the event behind the last answer was served or wasn't."""
-    found, status = serve(program, folder, lines, limit)
-    machine, refused, wrong = replay(lines, found)
+    found, status = serve(program, folder, seed, lines, limit)
+    machine, refused, wrong = replay(seed, lines, found)
     if status == 4 and len(found) < len(lines):
         more = copy.deepcopy(machine)
         more.line(lines[len(found)])
@@ -110,12 +113,11 @@ def memory_of(process):
         return next(int(line.split()[1]) * 1024 for line in lines if line.startswith("VmData:"))
 
 
-def judge_lines(program, folder, lines):
+def judge_lines(program, folder, seed, lines):
     """How many events were refused more memory than the program had, and what isn't the model's."""
-    make(program, folder)
-    machine, refused, wrong = Machine(BLOCKS), 0, []
-    with subprocess.Popen([program, "calls", "J.IMG"], cwd=folder, stdin=subprocess.PIPE,
-                          stdout=subprocess.PIPE) as process:
+    make(program, folder, BLOCKS, seed)
+    machine, refused, wrong = fresh_machine(seed), 0, []
+    with subprocess.Popen(calls(program, seed), cwd=folder, stdin=subprocess.PIPE, stdout=subprocess.PIPE) as process:
         for place, line in enumerate(lines):
             got = ask(process, line, memory_of(process) if place else AMPLE)  # it has started behind the first
             if got == "NOMEMORY" and may_want(machine, line):
@@ -140,13 +142,14 @@ def least(low, high, serves):
 def try_seed(program, folder, seed):
     """The limits that were tried with a script, how many events were refused, how many more were and then were served
     when they were asked again, and what isn't the model's."""
-    lines, wanted, _ = script(seed, "in turn", BLOCKS)
-    starts = least(0, AMPLE // PAGE, lambda pages: serve(program, folder, lines[:1], pages * PAGE)[0] == wanted[:1])
-    serves = least(0, AMPLE // PAGE, lambda pages: serve(program, folder, lines, pages * PAGE)[0] == wanted)
-    again, wrong = judge_lines(program, folder, lines)
+    lines, wanted, _ = script(seed, "in turn", BLOCKS, *moment_of(seed))
+    starts = least(0, AMPLE // PAGE,
+                   lambda pages: serve(program, folder, seed, lines[:1], pages * PAGE)[0] == wanted[:1])
+    serves = least(0, AMPLE // PAGE, lambda pages: serve(program, folder, seed, lines, pages * PAGE)[0] == wanted)
+    again, wrong = judge_lines(program, folder, seed, lines)
     refusals, wrong = 0, [f"line by line: {what}" for what in wrong]
     for pages in range(starts, serves + 1):
-        refused, found = judge(program, folder, lines, pages * PAGE)
+        refused, found = judge(program, folder, seed, lines, pages * PAGE)
         refusals += refused
         wrong += [f"{pages} pages: {what}" for what in found]
     return serves + 1 - starts, refusals, again, wrong

@@ -1,5 +1,5 @@
 #!/usr/bin/env python3
-"""Tests put, get, list, check, convert and migrate: what each prints, its exit status, and the bytes that it leaves.
+"""Tests put, get, list, check, convert, migrate and quotas: what is printed, the exit status, and the bytes left.
 
 usage: tests/put_get_list_convert.py PROGRAM
 
@@ -57,6 +57,11 @@ def read_to_end(terminal):
         if not part:
             return text
         text += part
+
+
+def homes(first, second):
+    """The words that name these layouts in the home copies."""
+    return [(1, 1, first), (2, 1, second)]
 
 
 class Tries:
@@ -144,6 +149,15 @@ def check(tries):
         ("version 3", image_of([(1, 1, 3), (2, 1, 3)]), ["?Bad home blocks"], 3),
         ("gate open, no log", image_of(OPEN_GATE), ["?Bad log"], 3),
         ("43 entries", image_of([(15, 1, 0o53)]), ["?Bad directory block 15"], 3),
+        ("a quota in layout 1", image_of([(15, 3, 0o775000000012)]), ["?Bad directory block 15"], 3),
+        ("a quota in layout 2", image_of(homes(2, 2) + [(15, 3, 0o775000000012)]), well, 0),
+        ("a quota below the charge", image_of(homes(2, 2) + [(15, 3, 0o775000000001)]), well, 0),
+        ("the largest quota", image_of(homes(2, 2) + [(15, 3, 0o775000777777)]), well, 0),
+        ("a larger one", image_of(homes(2, 2) + [(15, 3, 0o775001000000)]), ["?Bad directory block 15"], 3),
+        ("a late date in layout 1", image_of([(17, 2, 0o647064100000)]), ["?Bad retrieval block 17"], 3),
+        ("a late date in layout 2", image_of(homes(2, 2) + [(17, 2, 0o647064100000)]), well, 0),
+        ("the latest", image_of(homes(2, 2) + [(17, 2, 0o647064700000)]), well, 0),
+        ("a later one", image_of(homes(2, 2) + [(17, 2, 0o647064740000)]), ["?Bad retrieval block 17"], 3),
         ("minute 1439", image_of([(17, 3, 0o057026377777)]), well, 0),
         ("minute 1440", image_of([(17, 3, 0o057026407777)]), ["?Bad retrieval block 17"], 3),
         ("two blocks of words", image_of([(17, 5, 0o201)]), ["?Bad retrieval block 17"], 3),
@@ -332,11 +346,6 @@ def converts(tries):
         tries.expect(["convert", *words], b"", [b""], 2)
 
 
-def homes(first, second):
-    """The words that name these layouts in the home copies."""
-    return [(1, 1, first), (2, 1, second)]
-
-
 def migrates(tries):
     """A migrated image has layout 2, with the same words elsewhere but for the log, and then later dates."""
     done, rest = [b"Layout 2\n"], image_of()[14 * BLOCK :]
@@ -393,6 +402,47 @@ def layouts(tries):
         tries.expect(["init", "I.IMG", "64", "--layout", layout], b"", [b""], 2)
     tries.expect(["init", "I.IMG", "64", "--form", "2", "--layout", "2"], b"", [b""], 0)
     tries.expect(["migrate", "I.IMG", "--form", "2"], b"", [b"Layout 2\n"], 0)
+
+
+def quotas(tries):
+    """A quota limits what a directory has, by whatever way it comes there, and is kept with the image."""
+    full, session = [b"?No room\n"], ["run", "LIMIT.IMG"]
+    tries.expect(["init", "LIMIT.IMG", "64", "--layout", "2"], b"", [b""], 0)
+    tries.expect(session, b"LOGIN [1,2]\nMAKDIR [10,20]\nQUOTA [10,20] 10\n", [b"Job 1 [1,2]\nOK\nOK\n"], 0)
+    tries.holds("LIMIT.IMG", 64 * BLOCK, 15 * BLOCK + 24, (0o775000000012).to_bytes(8, "big"))
+    # The directory has a block, and a file of eight blocks has nine: no file more, and no new version of this one.
+    tries.expect(["put", "LIMIT.IMG", "10,20", "FOO"], b"A" * 5121, full, 1)
+    tries.expect(["put", "LIMIT.IMG", "10,20", "FOO"], b"A" * 5120, [b"OK\n"], 0)
+    before = tries.read("LIMIT.IMG")
+    tries.expect(["put", "LIMIT.IMG", "10,20", "FOO"], b"", full, 1)
+    tries.expect(["put", "LIMIT.IMG", "10,20", "BAR"], b"", full, 1)
+    tries.expect(session, b"LOGIN [10,20]\nCOPY BAR=FOO\nQUOTA [10,20] 11\n",
+                 [b"Job 1 [10,20]\n?No room\n?Protection failure\n"], 1)
+    tries.same("LIMIT.IMG", before)
+    tries.expect(["check", "LIMIT.IMG"], b"", [b"Volume of 64 blocks, room 38\n"], 0)
+    # The copy in form 2 has the quota, too.
+    tries.expect(["convert", "LIMIT.IMG", "LIMIT2.IMG"], b"", [b"Converted 64 blocks\n"], 0)
+    tries.expect(["put", "LIMIT2.IMG", "10,20", "BAR", "--form", "2"], b"", full, 1)
+    tries.expect(["run", "LIMIT2.IMG", "--form", "2"], b"LOGIN [1,2]\nQUOTA [10,20] 0\n", [b"Job 1 [1,2]\nOK\n"], 0)
+    tries.expect(["put", "LIMIT2.IMG", "10,20", "BAR", "--form", "2"], b"", [b"OK\n"], 0)
+    # A name or a protection costs nothing, and another directory has to have room for the whole file.
+    tries.expect(session, b"LOGIN [1,2]\nRENAME BAR[10,20]=FOO[10,20]\nPROTECT BAR[10,20]<155>\nMAKDIR [11,5]\n"
+                 b"QUOTA [11,5] 9\nRENAME BAR[11,5]=BAR[10,20]\nQUOTA [11,5] 10\nRENAME BAR[11,5]=BAR[10,20]\n",
+                 [b"Job 1 [1,2]\nOK\nOK\nOK\nOK\n?No room\nOK\nOK\n"], 1)
+    tries.expect(["put", "LIMIT.IMG", "10,20", "FOO"], b"A" * 5120, [b"OK\n"], 0)
+    # A quota below what is there hinders nobody who reads or deletes.
+    tries.expect(session, b"LOGIN [1,2]\nQUOTA [10,20] 1\n", [b"Job 1 [1,2]\nOK\n"], 0)
+    tries.expect(["get", "LIMIT.IMG", "10,20", "FOO"], b"", [b"A" * 5120], 0)
+    tries.expect(session, b"LOGIN [10,20]\nDELETE FOO\n", [b"Job 1 [10,20]\nOK\n"], 0)
+    tries.expect(["put", "LIMIT.IMG", "10,20", "FOO"], b"", full, 1)
+    # Layout 1 has no quotas; a migrated image has none yet.
+    tries.write("LIMIT1.IMG", image_of())
+    tries.expect(["run", "LIMIT1.IMG"], b"LOGIN [1,2]\nQUOTA [10,20] 4\n", [b"Job 1 [1,2]\n?Illegal sequence\n"], 1)
+    tries.same("LIMIT1.IMG", image_of())
+    tries.expect(["migrate", "LIMIT1.IMG"], b"", [b"Layout 2\n"], 0)
+    tries.expect(["put", "LIMIT1.IMG", "10,20", "BAR"], HELLO, [b"OK\n"], 0)
+    tries.expect(["run", "LIMIT1.IMG"], b"LOGIN [1,2]\nQUOTA [10,20] 4\n", [b"Job 1 [1,2]\nOK\n"], 0)
+    tries.expect(["put", "LIMIT1.IMG", "10,20", "BAR"], HELLO, full, 1)
 
 
 def progress(tries):
@@ -459,7 +509,7 @@ def main():
         return 2
     with tempfile.TemporaryDirectory() as folder:
         tries = Tries(os.path.abspath(sys.argv[1]), folder)
-        for part in [check, row, lists, tables, days, back, converts, migrates, layouts, progress, refusals]:
+        for part in [check, row, lists, tables, days, back, converts, migrates, layouts, quotas, progress, refusals]:
             part(tries)
     print(f"put_get_list_convert: {tries.count - tries.failed} as they should be, {tries.failed} not")
     return 1 if tries.failed else 0

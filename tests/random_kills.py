@@ -6,8 +6,8 @@ usage: tests/random_kills.py PROGRAM [TIMES [SEED]]
 A process of `filser calls` writes FOO.DAT over and over, each version with one block more than the last, and each word
 of a version is its number. It is killed by SIGKILL within some 40 milliseconds. Then `filser check` must accept the
 image, `filser run` must list one file, and `filser get --words` must give a version with as many blocks, whole: that of
-the last answered CLOSE, or the next one. The last line is 'N passed, M failed'. This is no part of the gate, since it
-depends on the clock.
+the last answered CLOSE, or the next one. Half of the TIMES the image has layout 1, then layout 2. The last line is
+'N passed, M failed'. This is no part of the gate, since it depends on the clock.
 """
 import pathlib
 import random
@@ -79,16 +79,12 @@ def look(program, image, first, answered, before):
     return "", found
 
 
-def main():
-    if len(sys.argv) not in (2, 3, 4):
-        sys.exit("usage: tests/random_kills.py PROGRAM [TIMES [SEED]]")
-    program = str(pathlib.Path(sys.argv[1]).resolve())
-    times = int(sys.argv[2]) if len(sys.argv) > 2 else 200
-    rng = random.Random(int(sys.argv[3]) if len(sys.argv) > 3 else 1)
+def kill_often(program, layout, times, rng):
+    """Kills a process so often on an image of this layout. Returns how often it went wrong."""
     failed = 0
     with tempfile.TemporaryDirectory() as room:
         image = f"{room}/A.IMG"
-        run(program, ["init", image, "256"])
+        run(program, ["init", image, "256", "--layout", str(layout)])
         run(program, ["run", image], b"LOGIN [10,20]\nMAKDIR [10,20]\n")
         first = opening() + version(1, 1)
         run(program, ["calls", image], "\n".join(first).encode() + b"\n")
@@ -99,7 +95,17 @@ def main():
             next_number += MOST_BLOCKS + 1
             if why:
                 failed += 1
-                print(f"turn {turn}: {why}")
+                print(f"layout {layout}, turn {turn}: {why}")
+    return failed
+
+
+def main():
+    if len(sys.argv) not in (2, 3, 4):
+        sys.exit("usage: tests/random_kills.py PROGRAM [TIMES [SEED]]")
+    program = str(pathlib.Path(sys.argv[1]).resolve())
+    times = int(sys.argv[2]) if len(sys.argv) > 2 else 200
+    rng = random.Random(int(sys.argv[3]) if len(sys.argv) > 3 else 1)
+    failed = kill_often(program, 1, times - times // 2, rng) + kill_often(program, 2, times // 2, rng)
     print(f"{times - failed} passed, {failed} failed")
     sys.exit(1 if failed else 0)
 

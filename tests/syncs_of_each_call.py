@@ -2,11 +2,11 @@
 """Counts the syncs that the program makes: python3 tests/syncs_of_each_call.py PROGRAM.
 
 No proof covers the system's own sync: the library promises nothing about that call, so one line of the program is
-trusted to make it. The program serves a call script and a session under strace, line by line. A start syncs the image
-once, a line that changes files syncs it four times before its answer is printed, and no other line syncs. The script
-prints a line for each wrong count, for each sync that fails or is not of the image, and for each answer that differs
-from the model's (machine.py), and a line at the end. Without strace, or if it may not trace, the script says SKIPPED
-and succeeds."""
+trusted to make it. The program serves a call script and a session under strace, line by line, on an image of each
+layout. A start syncs the image once, a line that changes files syncs it four times before its answer is printed, and no
+other line syncs. The script prints a line for each wrong count, for each sync that fails or is not of the image, and
+for each answer that differs from the model's (machine.py), and a line at the end. Without strace, or if it may not
+trace, the script says SKIPPED and succeeds."""
 
 import os
 import re
@@ -20,6 +20,7 @@ from model.machine import Machine
 BLOCKS = 64
 LIMIT = 60
 START, COMMIT, NONE = 1, 4, 0
+COMMIT_2 = -4  # a commit in layout 2; layout 1 refuses
 SYNCS = ["fsync", "fdatasync", "sync_file_range", "msync", "sync", "syncfs"]
 # A process, its call, the arguments and the answer
 TRACED = re.compile(r"\d+ +(\w+)\((.*)\) += (.*)")
@@ -31,6 +32,8 @@ CALLS = [
     # directories
     ("1 DEP 200 000010000020", NONE), ("1 MAKDIR 200", COMMIT), ("1 MAKDIR 200", NONE),
     ("1 DEP 201 000010000021", NONE), ("1 MAKDIR 201", COMMIT), ("1 REMDIR 201", COMMIT), ("1 MAKDIR 201", COMMIT),
+    # a quota
+    ("1 DEP 202 000010000020", NONE), ("1 DEP 203 000050000000", NONE), ("1 QUOTA 202", COMMIT_2),
     # a new file of two words
     ("1 DEP 210 17", NONE), ("1 DEP 211 446353000000", NONE), ("1 OPEN 1 210", NONE),
     ("1 DEP 300 465757000000", NONE), ("1 DEP 301 647064000000", NONE), ("1 DEP 303 000010000020", NONE),
@@ -67,6 +70,8 @@ LINES = [
     ("DELETE BAZ.TXT", "?File not found", NONE),
     ("TYPE FOO.TXT", "HELLO", NONE),
     ("MAKDIR [10,20]", "?File name already exists", NONE),
+    ("LOGIN [1,2]", "Job 1 [1,2]", NONE),
+    ("QUOTA [10,20] 9", "OK", COMMIT_2),
 ]
 
 class Counts:
@@ -131,6 +136,18 @@ class Counts:
             self.judge(count == syncs, f"{line}: {count} syncs and not {syncs}")
         self.judge(counts[-1] == 0, f"{' '.join(words)}: {counts[-1]} syncs after the last line")
 
+    def layout(self, layout):
+        """Serves the script and the session on an image of this layout."""
+        machine, of_layout_2 = Machine(BLOCKS, layout), COMMIT if layout == 2 else NONE
+        calls = [(line, machine.line(line), of_layout_2 if syncs == COMMIT_2 else syncs) for line, syncs in CALLS]
+        lines = [row if row[2] != COMMIT_2 else (row[0], row[1] if layout == 2 else "?Illegal sequence", of_layout_2)
+                 for row in LINES]
+        self.run("init", "J.IMG", str(BLOCKS), "--layout", str(layout))
+        self.expect(["calls", "J.IMG"], calls)
+        self.run("put", "J.IMG", "10,20", "FOO.TXT", data=b"HELLO\r\n")
+        self.expect(["run", "J.IMG"], lines)
+        os.remove(os.path.join(self.folder, "J.IMG"))
+
 def may_trace():
     """Tells whether strace is installed and may trace."""
     if not shutil.which("strace"):
@@ -145,11 +162,9 @@ def main():
         print("syncs: SKIPPED, there is no strace that may trace (apt-get install strace)")
         return 0
     with tempfile.TemporaryDirectory() as folder:
-        counts, machine = Counts(os.path.abspath(sys.argv[1]), folder), Machine(BLOCKS)
-        counts.run("init", "J.IMG", str(BLOCKS))
-        counts.expect(["calls", "J.IMG"], [(line, machine.line(line), syncs) for line, syncs in CALLS])
-        counts.run("put", "J.IMG", "10,20", "FOO.TXT", data=b"HELLO\r\n")
-        counts.expect(["run", "J.IMG"], LINES)
+        counts = Counts(os.path.abspath(sys.argv[1]), folder)
+        for layout in (1, 2):
+            counts.layout(layout)
     print(f"syncs: {counts.lines} lines, {counts.failed} failures")
     return 1 if counts.failed else 0
 

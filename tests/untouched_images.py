@@ -4,9 +4,9 @@
 usage: tests/untouched_images.py PROGRAM
 
 Every subcommand is run to its end with ample memory. Subcommands that only read, images that a start refuses, `init`
-over a file that is there, and `convert` of an image leave the bytes of each file as they were; `convert` prints the
-number of blocks and makes an image with the same files. An image that may only be read can be read. Prints a line for
-each thing that is not as it should be, and one line at the end.
+over a file that is there, `migrate` of an image of layout 2, and `convert` of an image leave the bytes of each file as
+they were; `convert` prints the number of blocks and makes an image with the same files. An image that may only be read
+can be read. Prints a line for each thing that is not as it should be, and one line at the end.
 """
 
 import os
@@ -74,10 +74,10 @@ class Runs:
 
 
 def whole_runs(runs, form):
-    """Every subcommand on an image of a form."""
+    """Every subcommand on an image of a form. That of form 2 has layout 2."""
     image = f"FORM{form}.IMG"
     named = ["--form", str(form)]
-    runs.run(["init", *named, image, "64"], 0, b"")
+    runs.run(["init", *named, "--layout", str(form), image, "64"], 0, b"")
     size = os.path.getsize(runs.path(image))
     runs.judge(size == 64 * BLOCK[form], f"init: {size} bytes in form {form}")
     runs.leaves(["check", *named, image], 0, b"Volume of 64 blocks, room 48\n")
@@ -93,6 +93,8 @@ def whole_runs(runs, form):
     runs.leaves(["run", *named, image], 0, b"Job 1 [10,20]\n" + LISTED + HELLO,
                 b"LOGIN [10,20]\nDIRECTORY\nTYPE HELLO.TXT\n")
     runs.leaves(["calls", *named, image], 0, b"DONE\nVALUE 000000000000\n", b"1 LOGIN 10,20 1000\n1 EXA 200\n")
+    if form == 2:
+        runs.leaves(["migrate", *named, image], 0, b"Layout 2\n")
     return image
 
 
@@ -146,7 +148,7 @@ def refusals(runs):
     with open(runs.path("FORM1.IMG"), "rb") as file:
         image = file.read()
     tasks = [(["run"], []), (["calls"], []), (["put"], ["10,20", "A.TXT"]), (["get"], ["10,20", "HELLO.TXT"]),
-             (["list"], []), (["check"], []), (["convert"], ["NEW.IMG"])]
+             (["list"], []), (["check"], []), (["migrate"], []), (["convert"], ["NEW.IMG"])]
     for name, data, refusal in spoiled(image):
         runs.write(name, data)
         for words, rest in tasks:

@@ -1,7 +1,7 @@
 """A model of the file machine, written independently of the program.
 
-It answers each line of a call script, and tells how many blocks are left. A file is a list of words; there are no blocks,
-no table and no log in it. Numbers are octal where the manual's are.
+It answers each line of a call script, and tells how many blocks are left, and what is charged to a directory. A file is
+a list of words; there are no blocks, no table and no log in it. Numbers are octal where the manual's are.
 """
 
 RIGHT = 0o777777
@@ -123,7 +123,8 @@ class Machine:
         tables = up(blocks, 4608)
         self.free = blocks - (5 + tables + 8 + tables)
         self.directories, self.jobs, self.moment = {}, {}, moment
-        self.last_date = 4095 if layout == 1 else 32767
+        self.quotas = {}  # of directories that have one, which is more than 0
+        self.blocks, self.layout = blocks, layout
 
     # Costs.
 
@@ -152,6 +153,19 @@ class Machine:
             booked += max(1, up(len(files) + self.pending(ppn), 42))
         return self.free - booked - sum(cost(len(output.body)) for output in self.outputs())
 
+    def charge(self, ppn):
+        """The blocks that count against the quota of a directory: its own, those of its files, and those of versions
+        that are written in it. A version that is only read, and is no file any more, isn't among them."""
+        _, files = self.directories[ppn]
+        own = max(1, up(len(files) + self.pending(ppn), 42))
+        written = sum(cost(len(output.body)) for output in self.outputs() if output.place[0] == ppn)
+        return own + sum(cost(len(file.body)) for file in files.values()) + written
+
+    def is_over(self, ppn, more):
+        """Whether this many blocks more exceed what the quota of a directory has left."""
+        quota = self.quotas.get(ppn, 0)
+        return quota != 0 and more > quota - self.charge(ppn)
+
     # Events.
 
     def line(self, text):
@@ -160,7 +174,7 @@ class Machine:
         number, call = int(fields[0], 8), fields[1]
         if call == "LOGIN":
             return self.login(number, tuple(int(half, 8) for half in fields[2].split(",")), int(fields[3], 8))
-        if self.moment[0] > self.last_date and call not in ("DEP", "EXA"):
+        if self.moment[0] > (4095 if self.layout == 1 else 32767) and call not in ("DEP", "EXA"):
             return "DATE"
         job = self.jobs.get(number)
         if job is None:
@@ -378,7 +392,7 @@ class Machine:
             refused(2)
         if self.is_claimed(place):
             refused(3)
-        if price > self.room():
+        if price > self.room() or self.is_over(ppn, price):
             refused(0o14)
         self.begin_as(job, channel, e, place, kind, file, digit)
 
@@ -414,7 +428,7 @@ class Machine:
         if self.is_claimed(old):
             refused(3)
         if job.core[e]:
-            self.check_new_place(job, old, new)
+            self.check_new_place(job, old, new, cost(len(file.body)))
         del self.directories[old[0]][1][old[1:]]
         if job.core[e]:
             moved = File(protection, file.mode, file.moment, file.body)
@@ -429,7 +443,7 @@ class Machine:
             if channel.input and channel.input[1] is file:
                 channel.input = (channel.input[0], moved, channel.input[2])
 
-    def check_new_place(self, job, old, new):
+    def check_new_place(self, job, old, new, price):
         protection, files = self.directories.get(new[0]) or refused(1)
         if new[0] != old[0] and not job.digit(protection, new[0]) & 2 and job.ppn != SYSTEM:
             refused(2)
@@ -438,8 +452,10 @@ class Machine:
                 refused(4)
             if self.is_claimed(new):
                 refused(3)
-        if new[0] != old[0] and self.growth(new[0]) and self.room() <= 0:
-            refused(0o14)
+        if new[0] != old[0]:
+            growth = self.growth(new[0])
+            if growth and self.room() <= 0 or self.is_over(new[0], price + growth):
+                refused(0o14)
 
     # Words.
 
@@ -502,7 +518,8 @@ class Machine:
         body = spliced(output.body, output.next, words)
         rise = cost(len(body)) - cost(len(output.body))
         is_kept = output.kind == "append" and output.next <= output.kept
-        if words and (up(len(body), DATA) > 16384 or rise > self.room() or is_kept):
+        is_over = rise > self.room() or rise > 0 and self.is_over(output.place[0], rise)
+        if words and (up(len(body), DATA) > 16384 or is_over or is_kept):
             self.stop(channel, FULL)
         output.body = body
         output.next += up(len(words), DATA)
@@ -600,6 +617,24 @@ class Machine:
             refused(1)
         if job.ppn not in (SYSTEM, ppn):
             refused(2)
+        if ppn in self.quotas and job.ppn != SYSTEM:
+            refused(2)
         if self.directories[ppn][1] or self.pending(ppn):
             refused(0o22)
         del self.directories[ppn]
+        self.quotas.pop(ppn, None)
+
+    def quota(self, job, e):
+        job.need(e, 2)
+        self.coded(job, e, lambda: self.set_quota(job, halves(job.core[e]), halves(job.core[e + 1])[0]))
+
+    def set_quota(self, job, ppn, quota):
+        if self.layout == 1:
+            refused(5)
+        if ppn not in self.directories:
+            refused(1)
+        if job.ppn != SYSTEM:
+            refused(2)
+        self.quotas[ppn] = quota
+        if quota == 0:
+            del self.quotas[ppn]

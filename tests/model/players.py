@@ -1,7 +1,8 @@
 """Jobs that write, supersede, update, append to, read, rename and delete the same few files of two directories.
 
-They use command lists and rings; now and then a list or a header makes no sense. What a job does next depends on a model
-of the file machine (machine.py) and on a seed, so it is the same in every run.
+Job 4 gives the directories quotas, and the other jobs try to. They use command lists and rings; now and then a list or
+a header makes no sense. What a job does next depends on a model of the file machine (machine.py) and on a seed, so it
+is the same in every run.
 """
 
 import os
@@ -78,8 +79,9 @@ class Player:
         channel = job.channels.get(number)
         if channel is None:
             return self.open(number)
-        if self.chance.random() < 0.04:
-            return self.chance.choice([self.reset, self.spoil, self.directory])(number)
+        if self.chance.random() < (0.05 if job.ppn == OWNER else 0.15):
+            acts = [self.reset, self.spoil, self.directory, self.directory, self.quota, self.quota]
+            return self.chance.choice(acts)(number)
         if channel.output:
             acts = [self.out] * 3 + [self.read] * 2 * bool(channel.input) + [self.useto, self.close, self.close]
         elif channel.input:
@@ -115,7 +117,7 @@ class Player:
         self.say("ENTER", number, 0o300 + 4 * number)
 
     def rename(self, number):
-        self.block(number, self.chance.choice(NAMES), self.chance.choice([None, None, OTHER]))
+        self.block(number, self.chance.choice(NAMES), self.chance.choice([None, OTHER, OTHER]))
         self.say("RENAME", number, 0o300 + 4 * number)
 
     def delete(self, number):
@@ -197,9 +199,18 @@ class Player:
         self.say("DEP", place, word)
 
     def directory(self, _number):
-        """A directory of its own is made, or goes, if it may."""
-        self.deposit(0o340, word_of((0o12, self.number)), 0)
+        """A directory of its own is made, or goes, if it may; or one of job 3."""
+        owner = self.chance.choice([(0o12, self.number), JOBS[3]])
+        self.deposit(0o340, word_of(owner), 0)
         self.say(self.chance.choice(["MAKDIR", "REMDIR"]), 0o340)
+
+    def quota(self, _number):
+        """A directory gets a quota, if the job may give one: often so few blocks that calls are refused for it."""
+        owner = self.chance.choice([OWNER, OTHER, JOBS[3]] * 4 + [(0o12, self.number)])
+        quota = self.chance.choice([0, self.chance.randrange(11), self.chance.randrange(41)])
+        self.deposit(0o350, word_of(owner), word_of((quota, self.chance.choice([0, 0, 0o123456]))))
+        self.say("QUOTA", 0o350)
+        self.say("EXA", 0o351)
 
 
 def turns(order, chance):
@@ -215,7 +226,7 @@ def turns(order, chance):
 def script(seed, order, blocks, layout=1, moment=(0, 0)):
     """The lines of a script, what the model answers, and the model at the end."""
     machine = Machine(blocks, layout, moment)
-    lines, wanted = [], []
+    lines, wanted, chance = [], [], random.Random(seed)
 
     def play(line):
         lines.append(line)
@@ -226,9 +237,11 @@ def script(seed, order, blocks, layout=1, moment=(0, 0)):
         play(f"4 DEP 200 {word_of(owner):o}")
         play(f"4 DEP 201 {protection << 27:o}")
         play("4 MAKDIR 200")
+        play(f"4 DEP 201 {chance.randrange(41) << 18:o}")
+        play("4 QUOTA 200")
     players = {number: Player(number, machine, seed) for number in JOBS}
     players[4].log_in()
-    for job in turns(order, random.Random(seed)):
+    for job in turns(order, chance):
         play(players[job].line())
     for job in JOBS:
         play(f"{job} RESET")
@@ -241,13 +254,55 @@ def run(program, folder, words, data=b""):
     return done.stdout, done.returncode
 
 
+def moment_of(seed):
+    """The layout of a volume, and a moment that fits it."""
+    layout = 1 + seed % 2
+    return layout, (seed * 1733 % (4096 if layout == 1 else 32768), seed * 97 % 1440)
+
+
+def dated(moment):
+    """The options of a run at this moment."""
+    return ["--date", str(moment[0]), "--minute", str(moment[1])]
+
+
+def make(program, folder, blocks, seed):
+    """Makes J.IMG anew in the layout of the seed. Half of the volumes of layout 2 are made in it, half are migrated."""
+    image = os.path.join(folder, "J.IMG")
+    if os.path.exists(image):
+        os.remove(image)
+    layout, _ = moment_of(seed)
+    is_migrated = seed % 4 == 1
+    run(program, folder, ["init", "J.IMG", str(blocks), "--layout", "1" if is_migrated else str(layout)])
+    if is_migrated:
+        run(program, folder, ["migrate", "J.IMG"])
+
+
 def name_of(name):
     return "".join(chr((name >> shift & 63) + 32) for shift in range(30, -1, -6)).strip()
 
 
+def words_of(image, block):
+    """The words of a block of an image of form 1."""
+    return [int.from_bytes(image[1024 * block + at : 1024 * block + at + 8], "big") for at in range(0, 1024, 8)]
+
+
+def wrong_directories(folder, machine):
+    """Whether the master directory of J.IMG has other directories, protections or quotas than the model."""
+    with open(os.path.join(folder, "J.IMG"), "rb") as file:
+        image = file.read()
+    block, found = words_of(image, 1)[5], {}
+    while block:
+        words = words_of(image, block)
+        found |= {words[2 + 3 * entry]: words[3 + 3 * entry] for entry in range(words[1])}
+        block = words[0]
+    wanted = {word_of(ppn): protection << 27 | machine.quotas.get(ppn, 0)
+              for ppn, (protection, _) in machine.directories.items()}
+    return [] if found == wanted else [f"the master directory has {found} and not {wanted}"]
+
+
 def wrong_files(program, folder, machine):
-    """The files that have other words at the end."""
-    wrong = []
+    """The directories and files that are others at the end."""
+    wrong = wrong_directories(folder, machine)
     for owner, (_, files) in machine.directories.items():
         for (name, _), file in files.items():
             who, name = f"{owner[0]:o},{owner[1]:o}", name_of(name)

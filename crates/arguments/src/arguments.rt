@@ -122,7 +122,7 @@ fn layout<'a>(alloc: Global) -> Arg<'a>
     Arg::new(alloc, "layout")
         .long("layout")
         .value_name("N")
-        .help("Layout of the volume: 1, or 2 with dates up to 32767")
+        .help("Layout of the volume: 1, or 2 with dates up to 32767 and quotas")
         .default_value("1")
         .value_parser(clap::value_parser!(u32).range(1..=2))
 }

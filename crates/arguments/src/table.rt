@@ -200,7 +200,7 @@ fn migrate_command<'a>(alloc: Global) -> Result<Command<'a>, AllocError>
 {
     let command = about(
         Command::new(alloc, "migrate"),
-        "Give the volume layout 2: dates up to 32767. Its files stay",
+        "Give the volume layout 2: dates up to 32767, and quotas. Its files stay",
     );
     let command = shown(command, "Example:\n  filser migrate DISK.IMG");
     let command = with_argument(command, wanted(alloc, "IMAGE", "The image file"))?;

@@ -1,6 +1,7 @@
 //! Tests of sessions and call scripts over a monitor and a disk in memory that no text of lines can play: readers and
-//! writers that fail or go in small pieces, refused allocations, long lines, and what is counted. What lines and events
-//! come to is played by the program `rows`. There is no code here beside them.
+//! writers that fail or go in small pieces, refused allocations, long lines, lines of quotas and what they leave on the
+//! disk, and what is counted. What lines and events come to is played by the program `rows`. There is no code here
+//! beside them.
 #![tactic(auto)]
 
 #[cfg(test)]
@@ -9,6 +10,8 @@ mod line_tests;
 mod memory_tests;
 #[cfg(test)]
 mod put_tests;
+#[cfg(test)]
+mod quota_tests;
 #[cfg(test)]
 mod service;
 #[cfg(test)]

@@ -57,6 +57,19 @@ pub fn image(rt: &impl Abort, alloc: Global, calls: usize) -> Result<MemDisk, No
     Ok(disk)
 }
 
+/// The same disk in layout 2.
+pub fn image_of_layout_2(
+    rt: &impl Abort,
+    alloc: Global,
+    calls: usize,
+) -> Result<MemDisk, NoMemory> {
+    let mut disk = image(rt, alloc, calls)?;
+    for n in [1, 2] {
+        put(rt, &mut disk, n, &[0o465154634562, 2, 0o100, 1, 0o11, 0o17]);
+    }
+    Ok(disk)
+}
+
 /// A monitor over a disk, where that is accepted. What `start` promises stays behind this function: the proofs of tests
 /// are short without it.
 pub fn start(alloc: Global, disk: MemDisk) -> Option<Monitor<MemDisk>> {

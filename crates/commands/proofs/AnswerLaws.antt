@@ -111,14 +111,16 @@ module _ {V E S : Type 0} (machine : S → Machine) (stands : AlwaysStands machi
   pub concludes_refusal : (old new : S) (reply : Reply) (words : List ℕ) (broken : Bool)
       → Led machine old new (fails moment reply) (Say (refuses reply))
       → words ≡ refusal reply → broken ≡ is_broken reply → counted.refused ≡ true
-      → counted.broke ≡ tally.broke || broken → IfOk result (λ v. bytes v ≡ line words)
+      → counted.broke ≡ tally.broke || broken → counted.reason ≡ tally.reason
+      → IfOk result (λ v. bytes v ≡ line words)
       → Concludes bytes result machine old new (fails moment reply) tally counted
-  concludes_refusal old new reply words broken led same_words same_broken refused broke text =
+  concludes_refusal old new reply words broken led same_words same_broken refused broke reason text =
       record {
         said = refuses reply;
         led = led;
         refused = refused ∙ or-true tally.refused;
         broke = broke ∙ ap (λ b. tally.broke || b) same_broken;
+        reason = reason;
         text = subst (λ (l : List ℕ). IfOk result (λ v. bytes v ≡ line l)) same_words text;
       }
 
@@ -168,6 +170,7 @@ module _ {V E S : Type 0} (machine : S → Machine) (stands : AlwaysStands machi
     led = led;
     refused = or-false tally.refused;
     broke = or-false tally.broke;
+    reason = refl;
     text = text;
   }
 
@@ -192,6 +195,7 @@ module _ {V E S : Type 0} (machine : S → Machine) (stands : AlwaysStands machi
     led = led_shown old new owner (Ok entries) listed;
     refused = or-false tally.refused;
     broke = or-false tally.broke;
+    reason = refl;
     text = subst (λ (l : List Entry). IfOk result (λ v. bytes v ≡ list_text style owner l)) same text;
   }
 
@@ -199,14 +203,16 @@ module _ {V E S : Type 0} (machine : S → Machine) (stands : AlwaysStands machi
       (broken : Bool)
       → IsListed (machine old) (machine new) 1 owner (Err reply)
       → words ≡ refusal reply → broken ≡ is_broken reply → counted.refused ≡ true
-      → counted.broke ≡ tally.broke || broken → IfOk result (λ v. bytes v ≡ line words)
+      → counted.broke ≡ tally.broke || broken → counted.reason ≡ tally.reason
+      → IfOk result (λ v. bytes v ≡ line words)
       → HasShown bytes result machine old new style owner tally counted
-  shown_refused counted old new style owner reply words broken listed same_words same_broken refused broke
+  shown_refused counted old new style owner reply words broken listed same_words same_broken refused broke reason
       text = record {
         answer = Err reply;
         led = led_shown old new owner (Err reply) listed;
         refused = refused ∙ or-true tally.refused;
         broke = broke ∙ ap (λ b. tally.broke || b) same_broken;
+        reason = reason;
         text = subst (λ (l : List ℕ). IfOk result (λ v. bytes v ≡ line l)) same_words text;
       }
 

@@ -1,83 +1,16 @@
 -- What is found in the text of a day.
-use Rattle.std.proofs.Common.{◌≡◌, ℕ, ◌+◌, ◌*◌, ◌-◌, ◌^◌, ◌<◌, ◌≤◌, ◌==◌, true, List, [], ◌∷◌, ◌++◌, length, take}
+use Rattle.std.proofs.Common.{◌≡◌, ℕ, ◌+◌, ◌-◌, ◌<◌, ◌≤◌, ◌==◌, true, List, ◌∷◌, length}
 use Rattle.std.proofs.Common.{get_or, refl, sym, ◌∙◌, ap, subst, arith, map, inl, inr, zero, suc, if◌then◌else◌}
 use Rattle.std.proofs.Common.{Option, Some, None, IfNone, Result, Ok, Err, IsOk, is_some, is_ok, false}
-use Rattle.std.proofs.Math.Nat.{pow-succ', mul-le-mul_right, mul_assoc, pow-le-pow_right}
-use Rattle.std.proofs.lemmas.List.{take_more, take_all, length-take}
-use Rattle.std.proofs.lemmas.Bool.Decides.{nat_tests}
 use Rattle.std.specs.Char.{to_ascii_lowercase}
 use Rattle.words36.specs.Dates.{IsDate}
-use Rattle.meaning.specs.Spellings.{Are}
 use Rattle.meaning.specs.Texts.{month_text}
 use Rattle.meaning.proofs.SpellingLaws.{stretch, same_tail}
 use Rattle.commands.specs.Characters.{is_other_than}
-use Rattle.commands.specs.DayTexts.{is_decimal, decimal_after, IsDecimal, IsMonthName, IsAtHyphen, IsHyphened}
+use Rattle.commands.specs.DayTexts.{IsMonthName, IsAtHyphen, IsHyphened}
 use Rattle.commands.specs.DayTexts.{AreDayParts, IsDayText}
-use Rattle.commands.proofs.FieldLaws.{are_more, are_at}
+use Rattle.commands.proofs.DecimalLaws.{decimal_value}
 use Rattle.commands.proofs.MadeLaws.{AreParted}
-
--- Digits.
-
-is_digit : (c : ℕ) → 48 ≤ c → c ≤ 57 → is_decimal c ≡ true
-is_digit c low high = grind (arith, nat_tests)
-
-digit_is : (c : ℕ) → is_decimal c ≡ true → (48 ≤ c) × (c ≤ 57)
-digit_is c t = (grind (arith, nat_tests), grind (arith, nat_tests))
-
-decimal-append : (high : ℕ) (xs : List ℕ) (y : ℕ)
-    → decimal_after high (xs ++ y ∷ []) ≡ decimal_after high xs * 10 + (y - 48)
-decimal-append high [] y = refl
-decimal-append high (x ∷ xs) y = decimal-append (high * 10 + (x - 48)) xs y
-
--- a number has no more digits than its text
-below_power : (high : ℕ) (xs : List ℕ) → Are is_decimal xs → decimal_after high xs + 1 ≤ (high + 1) * 10 ^ length xs
-below_power high [] a = omega arith
-below_power high (x ∷ xs) a =
-    let d = digit_is x a.0 in
-    let m : ℕ = high * 10 + (x - 48) in
-    let first : decimal_after m xs + 1 ≤ (m + 1) * 10 ^ length xs = below_power m xs a.1 in
-    let next : (m + 1) * 10 ^ length xs
-    ≤ ((high + 1) * 10) * 10 ^ length xs = mul-le-mul_right (10 ^ length xs) (omega (arith, d.0, d.1)) in
-    let same : ((high + 1) * 10) * 10 ^ length xs ≡ (high + 1) * 10 ^ length (x ∷ xs) = mul_assoc (high + 1) 10
-    (10 ^ length xs) ∙ ap (λ n. (high + 1) * n) (sym (pow-succ' 10 (length xs))) in
-    omega (arith, first, next, same)
-
--- what is read of digits so far
-pub record ReadsDecimal (n : ℕ) (text : List ℕ) : Type 0 where
-  pub digits : Are is_decimal text
-  pub value : n ≡ decimal_after 0 text
-
-pub decimal_more : (n : ℕ) (text : List ℕ) (i : ℕ) → i < length text → 48 ≤ get_or text i 0 → get_or text i 0 ≤ 57
-    → ReadsDecimal n (take i text) → ReadsDecimal (n * 10 + (get_or text i 0 - 48)) (take (i + 1) text)
-decimal_more n text i h low high r = record {
-  digits = are_more is_decimal text i h (is_digit (get_or text i 0) low high) r.digits;
-  value = ap (λ m. m * 10 + (get_or text i 0 - 48)) r.value ∙ sym (decimal-append 0 (take i text) (get_or text i 0))
-      ∙ ap (decimal_after 0) (sym (take_more text i 0 h));
-}
-
-pub decimal_small : (n : ℕ) (text : List ℕ) (i most : ℕ) → i < length text → length text ≤ most → most ≤ 4
-    → ReadsDecimal n (take i text) → n < 10000
-decimal_small n text i most h few bound r =
-    let l : length (take i text) ≤ 4 = omega (arith, length-take i text) in
-    let p : 10 ^ length (take i text) ≤ 10 ^ 4 = pow-le-pow_right (omega arith) l in
-    omega (arith, below_power 0 (take i text) r.digits, p, r.value)
-
-pub decimal_is : (n least most : ℕ) (text : List ℕ) (i : ℕ) → length text ≤ i → least ≤ length text
-    → length text ≤ most → ReadsDecimal n (take i text) → IsDecimal least most text n
-decimal_is n least most text i h enough few r = record {
-  enough = enough;
-  few = few;
-  digits = subst (Are is_decimal) (take_all i text h) r.digits;
-  value = r.value ∙ ap (decimal_after 0) (take_all i text h);
-}
-
-pub no_decimal : (least most n : ℕ) (text : List ℕ) (i : ℕ) → IsDecimal least most text n → i < length text
-    → (48 ≤ get_or text i 0) × (get_or text i 0 ≤ 57)
-no_decimal least most n text i s h = digit_is (get_or text i 0) (are_at is_decimal text i h s.digits)
-
-decimal_value : (least most few many n m : ℕ) (text : List ℕ) → IsDecimal least most text n → IsDecimal few many text m
-    → n ≡ m
-decimal_value least most few many n m text a b = a.value ∙ sym b.value
 
 -- Months.
 

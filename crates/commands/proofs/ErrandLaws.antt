@@ -7,7 +7,7 @@ use Rattle.std.proofs.KnownBytes.{Appends-nil}
 use Rattle.words36.specs.declared.moment.Moment.{Moment}
 use Rattle.meaning.specs.Errands.{AreWords, surveys, volume_line}
 use Rattle.meaning.specs.Jobs.{State}
-use Rattle.meaning.specs.Plans.{Plan, Say}
+use Rattle.meaning.specs.Plans.{Act, Plan, Say}
 use Rattle.meaning.specs.Room.{room as room_in}
 use Rattle.meaning.specs.Runs.{Serving}
 use Rattle.meaning.specs.Texts.{Spoken, complains, refuses, refusal, is_broken, line}
@@ -16,7 +16,7 @@ use Rattle.meaning.specs.declared.call.Reply.{Reply}
 use Rattle.meaning.specs.declared.call.Reply.TheVariants.{NoMemory as NoMemoryReply, Failed}
 use Rattle.meaning.specs.declared.encoding.Encoding.{Encoding}
 use Rattle.commands.specs.Asking.{Led, Concludes}
-use Rattle.commands.specs.Errands.{fresh, Carries, Errand, IsUnread, Delivery, Checked, TellsMisfit}
+use Rattle.commands.specs.Errands.{fresh, Carries, Performs, Errand, IsUnread, Delivery, Checked, TellsMisfit}
 use Rattle.commands.specs.Machines.{Machine, AlwaysStands}
 use Rattle.commands.specs.Reasons.{HasWords, words_said}
 use Rattle.commands.specs.Sessions.{WritesText}
@@ -58,20 +58,24 @@ module _ {V E S : Type 0} (machine : S → Machine) (bytes : V → List ℕ) whe
     led = led_on machine a b c plan rest (Say p.said) led p.led;
     refused = p.refused;
     broke = p.broke;
+    reason = p.reason;
     text = p.text;
   }
 
   pub carried : (result : Result V E) (a b : S) (plan : Plan) (tally counted : Tally) → tally ≡ fresh
       → Concludes bytes result machine a b plan tally counted → Carries bytes result machine a b plan counted
-  carried (Ok v) a b plan tally counted none p = subst (λ (said : Spoken). Led machine a b plan (Say said))
-      (said_spoken p.said (bytes v) tally counted none p.refused p.broke p.text) p.led
+  carried (Ok v) a b plan tally counted none p = (
+    subst (λ (said : Spoken). Led machine a b plan (Say said))
+        (said_spoken p.said (bytes v) tally counted none p.refused p.broke p.text) p.led,
+    p.reason ∙ ap (λ (t : Tally). t.reason) none,
+  )
   carried (Err error) a b plan tally counted none p = (Say p.said, p.led)
 
   pub carried_behind : (result : Result V E) (a b c : S) (plan rest : Plan) (counted : Tally)
       → Led machine a b plan rest → Carries bytes result machine b c rest counted
       → Carries bytes result machine a c plan counted
-  carried_behind (Ok v) a b c plan rest counted led p = led_on machine a b c plan rest (Say (spoken (bytes v) counted))
-      led p
+  carried_behind (Ok v) a b c plan rest counted led p =
+      (led_on machine a b c plan rest (Say (spoken (bytes v) counted)) led p.0, p.1)
   carried_behind (Err error) a b c plan rest counted led p = (p.0, led_on machine a b c plan rest p.0 led p.1)
 
   -- The text was written, or not all of it.
@@ -81,10 +85,11 @@ module _ {V E S : Type 0} (machine : S → Machine) (bytes : V → List ℕ) whe
       → Errand sink full machine a b plan (Ok counted)
   errand_done (Ok v) sink full a b plan counted unit p put = record {
     written = bytes v;
-    acts = p.acts;
+    acts = p.0.acts;
     appended = put.0;
-    goes = p.goes;
-    performs = p.leads;
+    goes = p.0.goes;
+    performs = p.0.leads;
+    reason = p.1;
   }
   errand_done (Err error) sink full a b plan counted unit p put = absurd (not_told unit put.0)
 
@@ -95,10 +100,11 @@ module _ {V E S : Type 0} (machine : S → Machine) (bytes : V → List ℕ) whe
       let cut = put.1.1 in
       subst (λ (e : SessionError). Errand sink full machine a b plan (Err e)) (sym put.1.0) (record {
         written = cut.0;
-        acts = p.acts;
+        acts = p.0.acts;
         appended = cut.2;
-        goes = p.goes;
-        performs = (spoken (bytes v) counted, p.leads, cut.1, cut.3, cut.4);
+        goes = p.0.goes;
+        performs = (spoken (bytes v) counted, p.0.leads, cut.1, cut.3, cut.4);
+        reason = tt;
       })
   errand_cut (Err wanted) sink full a b plan counted error p put =
       subst (λ (e : SessionError). Errand sink full machine a b plan (Err e)) (sym (told_error error put.0)) (record {
@@ -107,6 +113,7 @@ module _ {V E S : Type 0} (machine : S → Machine) (bytes : V → List ℕ) whe
         appended = subst (λ (l : Option (List ℕ)). Appends sink l []) (sym put.1) (Appends-nil sink);
         goes = p.1.goes;
         performs = (p.0, p.1.leads, refl);
+        reason = tt;
       })
 
 -- A refusal for which nothing is asked.
@@ -114,24 +121,27 @@ module _ {V E S : Type 0} (machine : S → Machine) (stands : AlwaysStands machi
     (result : Result V E) (m : S) (tally counted : Tally) where
   pub refused_reply : (reply : Reply) (words : List ℕ) (broken : Bool) → words ≡ refusal reply
       → broken ≡ is_broken reply → counted.refused ≡ true → counted.broke ≡ tally.broke || broken
-      → IfOk result (λ v. bytes v ≡ line words)
+      → counted.reason ≡ tally.reason → IfOk result (λ v. bytes v ≡ line words)
       → Concludes bytes result machine m m (Say (refuses reply)) tally counted
-  refused_reply reply words broken same_words same_broken refused broke text = record {
+  refused_reply reply words broken same_words same_broken refused broke reason text = record {
     said = refuses reply;
     led = led_still machine stands m (Say (refuses reply));
     refused = refused ∙ or-true tally.refused;
     broke = broke ∙ ap (λ b. tally.broke || b) same_broken;
+    reason = reason;
     text = subst (λ (l : List ℕ). IfOk result (λ v. bytes v ≡ line l)) same_words text;
   }
 
   pub refused_words : (words : List ℕ) (said : List ℕ) → words ≡ said → counted.refused ≡ true
-      → counted.broke ≡ tally.broke || false → IfOk result (λ v. bytes v ≡ line words)
+      → counted.broke ≡ tally.broke || false → counted.reason ≡ tally.reason
+      → IfOk result (λ v. bytes v ≡ line words)
       → Concludes bytes result machine m m (Say (complains said)) tally counted
-  refused_words words said same refused broke text = record {
+  refused_words words said same refused broke reason text = record {
     said = complains said;
     led = led_still machine stands m (Say (complains said));
     refused = refused ∙ or-true tally.refused;
     broke = broke;
+    reason = reason;
     text = subst (λ (l : List ℕ). IfOk result (λ v. bytes v ≡ line l)) same text;
   }
 
@@ -140,16 +150,18 @@ module _ {S : Type 0} (machine : S → Machine) (source left sink full : Option 
     (plan : Option (List ℕ) → Plan) where
   pub delivered : (result : Result Tally SessionError) (read : List ℕ) (words : Option (List ℕ))
       → Consumes source left read → IsAtEnd left → AreWords encoding read words
-      → Errand sink full machine a b (plan words) result → TellsMisfit encoding read result
-      → Delivery source left sink full machine a b encoding plan result
-  delivered result read words consumed ended are p tells = record {
+      → Errand sink full machine a b (plan words) result → (told : Result Tally SessionError)
+      → ((acts : List Act) (written : List ℕ) → Performs (plan words) acts written result
+      → Performs (plan words) acts written told) → TellsMisfit encoding read told
+      → Delivery source left sink full machine a b encoding plan told
+  delivered result read words consumed ended are p told same tells = record {
     read = read;
     written = p.written;
     acts = p.acts;
     consumed = consumed;
     appended = p.appended;
     goes = p.goes;
-    delivers = inl (ended, words, are, p.performs);
+    delivers = inl (ended, words, are, same p.acts p.written p.performs);
     tells = tells;
   }
 

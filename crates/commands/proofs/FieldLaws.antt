@@ -30,7 +30,7 @@ is_other c k h = decide (nat_eq c k) refl
 not_other : (c k : ℕ) → c ≡ k → not (nat_eq c k) ≡ false
 not_other c k e = ap not (is_same c k e)
 
-not_same : (c k : ℕ) → c ≢ k → nat_eq c k ≡ false
+pub not_same : (c k : ℕ) → c ≢ k → nat_eq c k ≡ false
 not_same c k h = decide (nat_eq c k) refl
   where
     decide : (b : Bool) → nat_eq c k ≡ b → nat_eq c k ≡ false
@@ -61,7 +61,7 @@ is_one_field : (text : List ℕ) → 0 < length text → Are is_visible text →
 is_one_field text some visible = record { some = some; visible = visible }
 
 -- of spaces, the first is one
-one_gap : (gap rest : List ℕ) → 0 < length gap → Are is_space gap → (more : List ℕ) × Are is_space more
+pub one_gap : (gap rest : List ℕ) → 0 < length gap → Are is_space gap → (more : List ℕ) × Are is_space more
     × (gap ++ rest ≡ 32 ∷ (more ++ rest))
 one_gap [] rest some spaces = absurd (nothing some)
   where

@@ -1,6 +1,7 @@
 pub mod LineLaws
 pub mod FieldLaws
 pub mod NumberLaws
+pub mod DecimalLaws
 pub mod SayingLaws
 pub mod TextLaws
 pub mod TableLaws
@@ -15,6 +16,7 @@ pub mod OneText
 pub mod LedLaws
 pub mod CopyingLaws
 pub mod MadeLaws
+pub mod LimitLaws
 pub mod OrderLaws
 pub mod ObeyLaws
 pub mod ReadingLaws

@@ -1,5 +1,5 @@
 -- What a text says.
-use Rattle.std.proofs.Common.{◌≡◌, ◌≢◌, ◌<◌, ℕ, nat_eq, ◌==◌, Bool, true, false, ◌&&◌, List, [], ◌∷◌, Option, Some}
+use Rattle.std.proofs.Common.{◌≡◌, ◌≢◌, ◌<◌, ◌^◌, ℕ, nat_eq, ◌==◌, Bool, true, false, ◌&&◌, List, [], ◌∷◌, Option, Some}
 use Rattle.std.proofs.Common.{None, refl, sym, ◌∙◌, ap, subst}
 use Rattle.std.specs.Prelude.{codes}
 use Rattle.std.specs.Cmp.Lexicographic.{pointwise}
@@ -10,7 +10,8 @@ use Rattle.meaning.specs.Commands.{IsNewDirectory, IsProtected, AreSpecs, IsComm
 use Rattle.meaning.specs.declared.command.Spec.{Spec}
 use Rattle.meaning.specs.declared.command.Command.{Command}
 use Rattle.meaning.specs.declared.command.Command.TheVariants.{Login, Directory, Copy, Rename, Delete, TypeOut, Protect}
-use Rattle.meaning.specs.declared.command.Command.TheVariants.{MakeDir}
+use Rattle.meaning.specs.declared.command.Command.TheVariants.{MakeDir, Quota}
+use Rattle.meaning.proofs.CommandLaws.{limit_fields}
 use Rattle.meaning.proofs.SpellingLaws.{differs, same_fields, same_head, same_tail, none_all}
 use Rattle.commands.specs.Fitting.{Fits}
 use Rattle.commands.specs.Sessions.{HeardIn, FitsIn}
@@ -51,8 +52,9 @@ other_second b c d cs ds word differ e f = differs c d differ (same_head (same_t
 
 -- Of a text with one field or none.
 pub says_no_fields : (text : List ℕ) (said : Option Command) → said ≡ None → text ≢ codes "DIRECTORY"
+    → ((p n : ℕ) → IsCommand text (Quota p n) → ⊥)
     → ((word argument : List ℕ) → AreFields (word ∷ argument ∷ []) text → ⊥) → Says text said
-says_no_fields text said e alone none = subst (Says text) (sym e) refuse
+says_no_fields text said e alone unlimited none = subst (Says text) (sym e) refuse
   where
     refuse : (command : Command) → IsCommand text command → ⊥
     refuse (Login p) a = none (codes "LOGIN") a.0 a.1
@@ -64,6 +66,7 @@ says_no_fields text said e alone none = subst (Says text) (sym e) refuse
     refuse (TypeOut x) a = none (codes "TYPE") a.0 a.1
     refuse (Protect x n) a = none (codes "PROTECT") a.0 a.1
     refuse (MakeDir p n) a = none (codes "MAKDIR") a.0 a.1
+    refuse (Quota p n) a = unlimited p n a
 
 -- Of a text with two: what each word would have said.
 pub record SaysNothing (word argument : List ℕ) : Type 0 where
@@ -115,6 +118,9 @@ says_nothing text word argument said e f none = subst (Says text) (sym e) refuse
         let same = same_fields (word ∷ argument ∷ []) (codes "MAKDIR" ∷ a.0 ∷ []) text f a.1 in
         none.makdir (same_head same) p n
         (subst (λ l. IsNewDirectory l p n) (sym (same_head (same_tail same))) a.2)
+    refuse (Quota p n) a = none_all
+        (same_tail (same_tail (same_fields (word ∷ argument ∷ []) (codes "QUOTA" ∷ a.4.before ∷ a.4.behind ∷ []) text
+        f (limit_fields text p n a))))
 
 pub says_no_login : (text word argument : List ℕ) (said : Option Command) → said ≡ None
     → AreFields (word ∷ argument ∷ []) text → word ≡ codes "LOGIN" → ((p : ℕ) → IsBracketed argument p → ⊥)
@@ -291,6 +297,7 @@ says_fits text (Some (Delete x)) m = tt
 says_fits text (Some (TypeOut x)) m = tt
 says_fits text (Some (Protect x n)) m = number_fits m.2.right.digits n m.2.right.number
 says_fits text (Some (MakeDir p n)) m = protection_fits m.2.behind n m.2.right
+says_fits text (Some (Quota p n)) m = m.4.right.small
 
 means_fits : (line : Line) (said : Option Command) → Means line said → Fits said
 means_fits (Bytes text) said m = says_fits text said m
@@ -313,3 +320,7 @@ protection_of_fits meant command p n e f fits = subst Fits (e ∙ ap Some f) fit
 pub protected_fits : (meant : Option Command) (command : Command) (x : Spec) (n : ℕ) → meant ≡ Some command
     → command ≡ Protect x n → Fits meant → n < 512
 protected_fits meant command x n e f fits = subst Fits (e ∙ ap Some f) fits
+
+pub blocks_of_fits : (meant : Option Command) (command : Command) (p n : ℕ) → meant ≡ Some command
+    → command ≡ Quota p n → Fits meant → n < 2 ^ 18
+blocks_of_fits meant command p n e f fits = subst Fits (e ∙ ap Some f) fits

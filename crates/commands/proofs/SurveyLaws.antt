@@ -75,12 +75,12 @@ module _ {S : Type 0} (machine : S → Machine) (style : Style) (owners : List �
 -- The job has logged in, or it is refused.
 module _ {V E S : Type 0} (machine : S → Machine) (bytes : V → List ℕ) (result : Result V E) (a b c : S)
     (moment : Moment) (style : Style) (owners : List ℕ) (tally counted : Tally) (who : ℕ) (is : who ≡ operator) where
-  pub survey_carried : tally ≡ fresh
+  pub survey_carried : tally ≡ fresh → counted.reason ≡ tally.reason
       → Led machine a b (each moment (enters who) (shows_all style owners silent)) (shows_all style owners silent)
       → IfOk result (λ v. Led machine b c (shows_all style owners (spoken [] tally)) (Say (spoken (bytes v) counted)))
       → IfErr result (λ error. (rest : Plan) × Led machine b c (shows_all style owners (spoken [] tally)) rest)
       → Carries bytes result machine a c (surveys moment style owners) counted
-  survey_carried none entered ok err =
+  survey_carried none reason entered ok err =
       let led = subst (λ (n : ℕ). Led machine a b (each moment (enters n) (shows_all style owners silent))
       (shows_all style owners silent)) is entered in
       let start : spoken [] tally ≡ silent = ap (λ (t : Tally). spoken [] t) none in
@@ -94,8 +94,11 @@ module _ {V E S : Type 0} (machine : S → Machine) (bytes : V → List ℕ) (re
           → IfErr r (λ error. (rest : Plan) × Led machine b c (shows_all style owners silent) rest)
           → Led machine a b (surveys moment style owners) (shows_all style owners silent)
           → Carries bytes r machine a c (surveys moment style owners) counted
-      by (Ok v) p q led = led_on machine a b c (surveys moment style owners) (shows_all style owners silent)
-          (Say (spoken (bytes v) counted)) led p
+      by (Ok v) p q led = (
+        led_on machine a b c (surveys moment style owners) (shows_all style owners silent)
+            (Say (spoken (bytes v) counted)) led p,
+        reason ∙ ap (λ (t : Tally). t.reason) none,
+      )
       by (Err error) p q led =
           (q.0, led_on machine a b c (surveys moment style owners) (shows_all style owners silent) q.0 led q.1)
 

@@ -547,10 +547,10 @@ module _ {S : Type 0} (machine : S → Machine) where
       read before after) (closed : (said : Spoken) → Led machine b c (ends moment said) (Say said)) where
     -- it prints all bytes, where there is memory for them
     pub typed_out : (x : X) → read ≡ Ok x → counted.refused ≡ tally.refused → counted.broke ≡ tally.broke
-        → AreTyped encoding before []
+        → counted.reason ≡ tally.reason → AreTyped encoding before []
         → ((words : List ℕ) → AreTyped encoding after words → IfOk result (λ v. bytes v ≡ printed encoding words))
         → Concludes bytes result machine a c (reads_file moment encoding spec) tally counted
-    typed_out x e refused broke fresh text =
+    typed_out x e refused broke reason fresh text =
         let q = subst (λ (r : Result X Reply). HasTyped machine a b moment
         (λ next. plan a b moment spec (λ size. behind a b moment spec size next)) r before after) e p in
         record {
@@ -559,15 +559,16 @@ module _ {S : Type 0} (machine : S → Machine) where
               (closed (prints (printed encoding q.words)));
           refused = refused ∙ or-false tally.refused;
           broke = broke ∙ or-false tally.broke;
+          reason = reason;
           text = text q.words (q.types encoding [] fresh);
         }
 
     -- or says why it was refused
     pub typed_refused : (reply : Reply) (words : List ℕ) (broken : Bool) → read ≡ Err reply → words ≡ refusal reply
         → broken ≡ is_broken reply → counted.refused ≡ true → counted.broke ≡ tally.broke || broken
-        → IfOk result (λ v. bytes v ≡ line words)
+        → counted.reason ≡ tally.reason → IfOk result (λ v. bytes v ≡ line words)
         → Concludes bytes result machine a c (reads_file moment encoding spec) tally counted
-    typed_refused reply words broken e same_words same_broken refused broke text =
+    typed_refused reply words broken e same_words same_broken refused broke reason text =
         let q = subst (λ (r : Result X Reply). HasTyped machine a b moment
         (λ next. plan a b moment spec (λ size. behind a b moment spec size next)) r before after) e p in
         record {
@@ -575,5 +576,6 @@ module _ {S : Type 0} (machine : S → Machine) where
           led = led_then (q.led (λ words. ends moment (prints (printed encoding words)))) (closed (refuses reply));
           refused = refused ∙ or-true tally.refused;
           broke = broke ∙ ap (λ b. tally.broke || b) same_broken;
+          reason = reason;
           text = subst (λ (l : List ℕ). IfOk result (λ v. bytes v ≡ line l)) same_words text;
         }

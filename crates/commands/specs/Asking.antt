@@ -37,6 +37,7 @@ pub record Concludes {V E S : Type 0} (bytes : V → List ℕ) (result : Result 
   pub led : Led machine old new plan (Say said)
   pub refused : counted.refused ≡ tally.refused || said.refused
   pub broke : counted.broke ≡ tally.broke || said.broke
+  pub reason : counted.reason ≡ tally.reason
   pub text : IfOk result (λ v. bytes v ≡ said.text)
 
 -- The list of a directory was asked for, and its text, or its refusal's, is what is answered and counted.
@@ -46,6 +47,7 @@ pub record HasShown {V E S : Type 0} (bytes : V → List ℕ) (result : Result V
   pub led : (next : Result (List Entry) Reply → Plan) → Led machine old new (Show owner next) (next answer)
   pub refused : counted.refused ≡ tally.refused || (list_said style owner answer).refused
   pub broke : counted.broke ≡ tally.broke || (list_said style owner answer).broke
+  pub reason : counted.reason ≡ tally.reason
   pub text : IfOk result (λ v. bytes v ≡ (list_said style owner answer).text)
 
 -- The bytes that words are printed as, as far as there was memory for them.

@@ -1,25 +1,16 @@
 -- The texts that a day may be given as: `1975-01-04`, as `list --tsv` prints it, or `4-Jan-1975`, as DIRECTORY does.
-use Rattle.std.specs.Prelude.{◌≡◌, ◌⊎◌, ℕ, ◌+◌, ◌-◌, ◌*◌, ◌≤◌, ◌&&◌, nat_le, Bool, List, [], ◌∷◌, ◌++◌, length, map}
+use Rattle.std.specs.Prelude.{◌≡◌, ◌⊎◌, ℕ, ◌-◌, ◌≤◌, List, ◌∷◌, ◌++◌, length, map}
 use Rattle.std.specs.Char.{to_ascii_lowercase}
 use Rattle.words36.specs.Dates.{IsDate, date_number}
-use Rattle.meaning.specs.Spellings.{Are}
+use Rattle.meaning.specs.Spellings.{Are, is_digit, decimal_after}
 use Rattle.meaning.specs.Texts.{month_text}
 use Rattle.commands.specs.Characters.{is_other_than}
-
--- Numbers, in decimal.
-
-abbrev pub is_decimal : ℕ → Bool
-is_decimal c = nat_le 48 c && nat_le c 57
-
-abbrev pub decimal_after : ℕ → List ℕ → ℕ
-decimal_after high [] = high
-decimal_after high (c ∷ cs) = decimal_after (high * 10 + (c - 48)) cs
 
 -- a number of at least and at most so many digits
 pub record IsDecimal (least most : ℕ) (text : List ℕ) (n : ℕ) : Type 0 where
   pub enough : least ≤ length text
   pub few : length text ≤ most
-  pub digits : Are is_decimal text
+  pub digits : Are is_digit text
   pub value : n ≡ decimal_after 0 text
 
 -- a month's name, in letters of either case

@@ -26,11 +26,11 @@ use Rattle.commands.specs.declared.error.SessionError.TheVariants.{Read, Write, 
 abbrev pub fresh : Tally
 fresh = record { refused = false; broke = false; reason = None }
 
--- A plan was done to its end, and what it says is what is answered, with what was counted; or there was no memory, and
--- it was begun.
+-- A plan was done to its end, and what it says is what is answered, with what was counted, and no reason is told; or
+-- there was no memory, and it was begun.
 abbrev pub Carries : {V E S : Type 0} → (V → List ℕ) → Result V E → (S → Machine) → S → S → Plan → Tally → Type 0
 Carries bytes result machine old new plan counted =
-    MatchResult result (λ v. Led machine old new plan (Say (spoken (bytes v) counted)))
+    MatchResult result (λ v. Led machine old new plan (Say (spoken (bytes v) counted)) × (counted.reason ≡ None))
     (λ error. (rest : Plan) × Led machine old new plan rest)
 
 -- By these acts a plan was done to its end, and these bytes are its text; or the writer refused the text's end; or
@@ -43,7 +43,7 @@ Performs plan acts written (Err Write) =
     × (0 < length unwritten)
 Performs plan acts written (Err NoMemory) = (rest : Plan) × Leads plan acts rest × (written ≡ [])
 
--- What became of the service, and what was put into the writer.
+-- What became of the service, and what was put into the writer. The tally has no reason.
 pub record Errand {S : Type 0} (sink full : Option (List ℕ)) (machine : S → Machine) (old new : S) (plan : Plan)
     (result : Result Tally SessionError) : Type 0 where
   pub written : List ℕ
@@ -51,6 +51,7 @@ pub record Errand {S : Type 0} (sink full : Option (List ℕ)) (machine : S → 
   pub appended : Appends sink full written
   pub goes : GoesBy machine old new acts
   pub performs : Performs plan acts written result
+  pub reason : IfOk result (λ tally. tally.reason ≡ None)
 
 -- An input wasn't read to its end, or there was no memory for it.
 abbrev pub IsUnread : Result Tally SessionError → Type 0

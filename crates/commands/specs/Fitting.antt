@@ -1,10 +1,10 @@
 -- Commands as their lines spell them.
-use Rattle.std.specs.Prelude.{◌<◌, Option, Some, None}
+use Rattle.std.specs.Prelude.{◌<◌, ◌^◌, Option, Some, None}
 use Rattle.meaning.specs.declared.command.Command.{Command}
 use Rattle.meaning.specs.declared.command.Command.TheVariants.{Login, Directory, Copy, Rename, Delete, TypeOut, Protect}
-use Rattle.meaning.specs.declared.command.Command.TheVariants.{MakeDir}
+use Rattle.meaning.specs.declared.command.Command.TheVariants.{MakeDir, Quota}
 
--- A protection that a command has is one of nine bits.
+-- A protection that a command has is one of nine bits, and a quota one of eighteen.
 abbrev pub Fits : Option Command → Type 0
 Fits None = Unit {0}
 Fits (Some (Login owner)) = Unit {0}
@@ -15,3 +15,4 @@ Fits (Some (Delete spec)) = Unit {0}
 Fits (Some (TypeOut spec)) = Unit {0}
 Fits (Some (Protect spec protection)) = protection < 512
 Fits (Some (MakeDir owner protection)) = protection < 512
+Fits (Some (Quota owner blocks)) = blocks < 2 ^ 18

@@ -1,7 +1,7 @@
 -- The parts of a line of a call script, and what they say.
-use Rattle.std.specs.Prelude.{◌≡◌, ℕ, List, ◌∷◌, Option, Some, None}
+use Rattle.std.specs.Prelude.{◌≡◌, ℕ, List, ◌∷◌, ◌++◌, Option, Some, None}
 use Rattle.words36.specs.declared.moment.Moment.{Moment}
-use Rattle.meaning.specs.Spellings.{AreFields}
+use Rattle.meaning.specs.Spellings.{Are, is_space, AreFields}
 use Rattle.meaning.specs.Scripts.{IsEventText}
 use Rattle.meaning.specs.declared.call.Call.{Call}
 use Rattle.meaning.specs.declared.call.Event.{Event}
@@ -10,6 +10,13 @@ use Rattle.meaning.specs.declared.call.Event.{Event}
 pub record Begins (text first rest : List ℕ) : Type 0 where
   pub only : (one : List ℕ) (more : List (List ℕ)) → AreFields (one ∷ more) text → (one ≡ first) × AreFields more rest
   pub joined : (more : List (List ℕ)) → AreFields more rest → AreFields (first ∷ more) text
+
+-- A word, spaces, and the rest of the text, which doesn't begin with a space.
+pub record IsBehind (text word rest : List ℕ) : Type 0 where
+  pub gap : List ℕ
+  pub spaces : Are is_space gap
+  pub spelled : text ≡ word ++ 32 ∷ (gap ++ rest)
+  pub begins : (more : List ℕ) → rest ≡ 32 ∷ more → ⊥
 
 -- what fields say, where they say anything
 abbrev pub FieldsSay : List (List ℕ) → Moment → Option Event → Type 0

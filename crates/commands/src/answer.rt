@@ -1,9 +1,10 @@
-ghost use Rattle.std.specs.Prelude.{◌≡◌, ◌<◌, ◌||◌, IfOk, Some, codes, false, true};
+ghost use Rattle.std.specs.Prelude.{◌≡◌, ◌<◌, ◌^◌, ◌||◌, IfOk, Some, codes, false, true};
 ghost use Rattle.meaning.specs.Texts.{line, is_broken};
 ghost use Rattle.meaning.specs.declared.command.Command.TheVariants.{Login as LoginLine, Directory as DirectoryLine};
 ghost use Rattle.meaning.specs.declared.command.Command.TheVariants.{Copy as CopyLine, TypeOut as TypeLine};
 ghost use Rattle.meaning.specs.declared.command.Command.TheVariants.{Rename as RenameLine, Delete as DeleteLine};
 ghost use Rattle.meaning.specs.declared.command.Command.TheVariants.{Protect as ProtectLine, MakeDir as MakeLine};
+ghost use Rattle.meaning.specs.declared.command.Command.TheVariants.{Quota as QuotaLine};
 ghost use Rattle.commands.specs.Errands.{fresh};
 ghost use Rattle.commands.specs.Fitting.{Fits};
 ghost use Rattle.commands.specs.Reasons.{counts};
@@ -11,6 +12,7 @@ ghost use Rattle.commands.specs.Sessions.{Spoke};
 
 use crate::changing::{delete, protect, rename};
 use crate::copying::copy;
+use crate::limiting::limit;
 use crate::makdir::make_dir;
 use crate::reason::{Reason, with_line};
 use crate::service::FileService;
@@ -96,6 +98,7 @@ pub fn refuse(
 ) -> Result<Vec<u8>, AllocError>
     ensures refused { tally.new.refused ≡ true }
     ensures broke { tally.new.broke ≡ tally.old.broke || broke }
+    ensures reason { tally.new.reason ≡ tally.old.reason }
     ensures text { IfOk result (λ bytes. bytes.items ≡ line text.now) }
 {
     tally.refused = true;
@@ -107,6 +110,7 @@ pub fn refuse(
 fn turn_away(alloc: Global, tally: &mut Tally) -> Result<Vec<u8>, AllocError>
     ensures refused { tally.new.refused ≡ true }
     ensures broke { tally.new.broke ≡ tally.old.broke || false }
+    ensures reason { tally.new.reason ≡ tally.old.reason }
     ensures text { IfOk result (λ bytes. bytes.items ≡ line (codes "?Not logged in")) }
 {
     refuse(alloc, tally, "?Not logged in", false)
@@ -183,6 +187,26 @@ fn make_dir_for<S: FileService>(
 {
     match who {
         Some(me) => make_dir(alloc, service, moment, me, tally, owner, protection),
+        None => turn_away(alloc, tally),
+    }
+}
+
+/// Answers QUOTA, for whoever is logged in.
+fn limit_for<S: FileService>(
+    alloc: Global,
+    service: &mut S,
+    moment: Moment,
+    who: Option<Ppn>,
+    tally: &mut Tally,
+    owner: Ppn,
+    blocks: u32,
+) -> Result<Vec<u8>, AllocError>
+    requires { blocks < 2 ^ 18 }
+    ensures { Spoke (λ bytes. bytes.items) result S.machine service.old service.new moment who who tally.old tally.new
+        (Some (QuotaLine owner blocks)) }
+{
+    match who {
+        Some(me) => limit(alloc, service, moment, me, tally, owner, blocks),
         None => turn_away(alloc, tally),
     }
 }
@@ -309,6 +333,9 @@ pub fn answer<S: FileService>(
         }
         Command::MakeDir(owner, protection) => {
             make_dir_for(alloc, service, moment, *who, tally, owner, protection)
+        }
+        Command::Quota(owner, blocks) => {
+            limit_for(alloc, service, moment, *who, tally, owner, blocks)
         }
     }
 }

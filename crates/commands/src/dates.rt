@@ -2,31 +2,12 @@ ghost use Rattle.std.specs.Prelude.{◌≤◌, IfSome, IfNone, ℕ, List};
 ghost use Rattle.commands.specs.DayTexts.{AreDayFirst, AreDayParts, AreYearFirst, IsDayText, IsDecimal, IsHyphened};
 ghost use Rattle.commands.specs.DayTexts.{IsAtHyphen, IsMonthName};
 
-use crate::fields::length_before;
+use crate::fields::{decimal_number, length_before};
 use crate::text::month_text;
 use words36::date_of;
 
 /// How many months a year has.
 const MONTHS: u32 = 12;
-
-/// The number that a text of at least and at most so many decimal digits spells.
-fn decimal_number(text: &[u8], least: usize, most: usize) -> Option<u32>
-    requires { most ≤ 4 }
-    ensures some { IfSome result (λ n. IsDecimal least most text.now n) }
-    ensures none { IfNone result ((n : ℕ) → IsDecimal least most text.now n → ⊥) }
-{
-    if text.len() < least || most < text.len() {
-        return None;
-    }
-    let mut number: u32 = 0;
-    for digit in text {
-        if *digit < b'0' || b'9' < *digit {
-            return None;
-        }
-        number = number * 10 + u32::from(*digit - b'0');
-    }
-    Some(number)
-}
 
 /// The month that a text names, from 1 on: `Jan` to `Dec`, with letters of either case.
 fn month_named(text: &[u8]) -> Option<u32>

@@ -1,8 +1,10 @@
 ghost use Rattle.std.specs.Prelude.{◌≡◌, ◌≢◌, ◌<◌, ◌≤◌, ◌++◌, ◌∷◌, [], length, slice_index, take, IfSome, IfNone, ℕ};
 ghost use Rattle.std.specs.Prelude.{List};
 ghost use Rattle.meaning.specs.Spellings.{is_space, is_visible, Are, AreFields, IsNumber, IsSmall, IsPair};
+ghost use Rattle.meaning.specs.Spellings.{IsBlockCount};
 ghost use Rattle.commands.specs.Characters.{is_other_than};
-ghost use Rattle.commands.specs.Orders.{Begins};
+ghost use Rattle.commands.specs.DayTexts.{IsDecimal};
+ghost use Rattle.commands.specs.Orders.{Begins, IsBehind};
 
 use words36::Ppn;
 
@@ -89,6 +91,53 @@ pub(crate) fn small_number(text: &[u8], most: usize) -> Option<u32>
         Some(number) if number < 1 << 18 => Some(number as u32),
         _ => None,
     }
+}
+
+/// The number that a text of at least and at most so many decimal digits spells.
+pub(crate) fn decimal_number(text: &[u8], least: usize, most: usize) -> Option<u32>
+    requires { most ≤ 6 }
+    ensures some { IfSome result (λ n. IsDecimal least most text.now n) }
+    ensures none { IfNone result ((n : ℕ) → IsDecimal least most text.now n → ⊥) }
+{
+    if text.len() < least || most < text.len() {
+        return None;
+    }
+    let mut number: u32 = 0;
+    for digit in text {
+        if *digit < b'0' || b'9' < *digit {
+            return None;
+        }
+        number = number * 10 + u32::from(*digit - b'0');
+    }
+    Some(number)
+}
+
+/// The number of blocks that a text of one to six decimal digits spells, at most 262143.
+pub(crate) fn block_count(text: &[u8]) -> Option<u32>
+    ensures some { IfSome result (λ n. IsBlockCount text.now n) }
+    ensures none { IfNone result ((n : ℕ) → IsBlockCount text.now n → ⊥) }
+{
+    match decimal_number(text, 1, 6) {
+        Some(number) if number < 1 << 18 => Some(number),
+        _ => None,
+    }
+}
+
+/// The text after this word and the spaces that follow it.
+pub(crate) fn behind_word<'a>(text: &'a [u8], word: &[u8]) -> Option<&'a [u8]>
+    requires { Are is_visible word.now }
+    ensures some { IfSome result (λ rest. IsBehind text.now word.now rest.now) }
+    ensures none { IfNone result ((rest : List ℕ) → IsBehind text.now word.now rest → ⊥) }
+{
+    let (first, behind) = text.split_at(word_length(text));
+    let (gap, rest) = behind.split_at(gap_length(behind));
+    if first != word {
+        return None;
+    }
+    if gap.is_empty() {
+        return None;
+    }
+    Some(rest)
 }
 
 /// What stands before the first comma and behind it.

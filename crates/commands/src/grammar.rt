@@ -1,10 +1,12 @@
 ghost use Rattle.std.specs.Prelude.{◌≡◌, ◌++◌, ◌∷◌, [], length, IfSome, IfNone, ℕ, List};
 ghost use Rattle.meaning.specs.Spellings.{AreFields, IsBracketed};
-ghost use Rattle.meaning.specs.Commands.{IsAngled, IsProtection, IsProtected, IsNewDirectory, Says, Means};
+ghost use Rattle.meaning.specs.Commands.{IsAngled, IsProtection, IsProtected, IsNewDirectory, IsLimit, IsCommand};
+ghost use Rattle.meaning.specs.Commands.{Says, Means};
+ghost use Rattle.meaning.specs.declared.command.Command.TheVariants.{Quota as QuotaLine};
 ghost use Rattle.meaning.specs.declared.command.Spec.{Spec as SpecValue};
 ghost use Rattle.commands.specs.PartialLines.{line_of};
 
-use crate::fields::{first_field, length_before, pair, small_number};
+use crate::fields::{behind_word, block_count, first_field, length_before, pair, small_number};
 use crate::input::InputLine;
 use crate::specs::{spec, specs};
 use meaning::{Command, Spec};
@@ -76,6 +78,26 @@ fn made(text: &[u8]) -> Option<(Ppn, u32)>
     Some((owner, number))
 }
 
+/// The directory and the number of blocks of `[p,n] N`, with one space between the two.
+fn limit(text: &[u8]) -> Option<(Ppn, u32)>
+    ensures some { IfSome result (λ limit. IsLimit text.now limit.0 limit.1) }
+    ensures none { IfNone result ((owner blocks : ℕ) → IsLimit text.now owner blocks → ⊥) }
+{
+    let (front, back) = text.split_at(length_before(text, b' '));
+    let owner = bracketed(front)?;
+    let (_, digits) = back.split_first()?;
+    let blocks = block_count(digits)?;
+    Some((owner, blocks))
+}
+
+/// The same of `QUOTA [p,n] N`.
+fn quota_line(text: &[u8]) -> Option<(Ppn, u32)>
+    ensures some { IfSome result (λ limit. IsCommand text.now (QuotaLine limit.0 limit.1)) }
+    ensures none { IfNone result ((owner blocks : ℕ) → IsCommand text.now (QuotaLine owner blocks) → ⊥) }
+{
+    limit(behind_word(text, b"QUOTA".as_slice())?)
+}
+
 /// The file and the protection of `SPEC<PROT>`.
 fn protected(text: &[u8]) -> Option<(Spec, u32)>
     ensures some { IfSome result (λ found. IsProtected text.now found.0 found.1) }
@@ -128,6 +150,9 @@ pub fn command_of(text: &[u8]) -> Option<Command>
 {
     if text == b"DIRECTORY".as_slice() {
         return Some(Command::Directory(None));
+    }
+    if let Some((owner, blocks)) = quota_line(text) {
+        return Some(Command::Quota(owner, blocks));
     }
     let (word, argument) = two_fields(text)?;
     command_with(word, argument)

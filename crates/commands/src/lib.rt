@@ -3,7 +3,7 @@
 //! 1. The lines of an input are those of the definition, in whatever pieces the reader gives it. (`PartialLine`,
 //!    `Session`)
 //! 2. `command_of` answers a command exactly where a text spells one, and none exactly where it spells none: LOGIN,
-//!    DIRECTORY, COPY, RENAME, DELETE, TYPE, PROTECT and MAKDIR. A line says one thing, or nothing.
+//!    DIRECTORY, COPY, RENAME, DELETE, TYPE, PROTECT, MAKDIR and QUOTA. A line says one thing, or nothing.
 //!    (`lines_have_one_meaning`)
 //! 3. The greeting, the text of a refusal and the list of a directory, in columns and as a table, are the definition's,
 //!    byte by byte.
@@ -51,6 +51,7 @@ mod input;
 mod input_words;
 mod language;
 mod laws;
+mod limiting;
 mod makdir;
 mod monitored;
 mod names;

@@ -31,6 +31,8 @@ fn call_with_one(word: &[u8], number: u32) -> Option<Call>
         Call::MakeDir(number)
     } else if is_word(word, "REMDIR") {
         Call::DeleteDir(number)
+    } else if is_word(word, "QUOTA") {
+        Call::Quota(number)
     } else {
         return None;
     };

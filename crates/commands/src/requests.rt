@@ -181,6 +181,19 @@ pub fn makes(moment: Moment, owner: Ppn, protection: u32) -> [Event; 3]
     ]
 }
 
+/// What gives a directory a quota: a number of blocks.
+pub fn limits(moment: Moment, owner: Ppn, blocks: u32) -> [Event; 3]
+    requires { blocks < 2 ^ 18 }
+    ensures { result ≡ plans.asks_quota moment owner blocks }
+{
+    let quota = Word::from_halves(Half::from_bits(blocks), Half::from_bits(0));
+    [
+        Event::Deposit(SESSION_JOB, FILE_WORDS, owner.word()),
+        Event::Deposit(SESSION_JOB, FILE_WORDS + 1, quota),
+        Event::Call(SESSION_JOB, Call::Quota(FILE_WORDS), moment),
+    ]
+}
+
 /// What gives the file that was looked up another name and place; its protection stands where LOOKUP has put it.
 pub fn moves(moment: Moment, to: Spec) -> [Event; 4]
     ensures { result ≡ Deposit 1 file_words to.name.name ∷ Deposit 1 (file_words + 1) (join to.name.ext 0)

@@ -42,6 +42,7 @@ fn show_all<S: FileService>(
         (shows_all style owners.now (spoken [] tally.old)) (Say (spoken bytes.items tally.new))) }
     ensures err { IfErr result (λ error. (rest : Plan) × Led S.machine service.old service.new
         (shows_all style owners.now (spoken [] tally.old)) rest) }
+    ensures reason { tally.new.reason ≡ tally.old.reason }
 {
     let mut bytes = Vec::new(alloc);
     for owner in owners {

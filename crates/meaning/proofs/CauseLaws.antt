@@ -9,7 +9,7 @@ use Rattle.meaning.specs.Texts.{Spoken, prints, printed, refuses}
 use Rattle.meaning.specs.Plans.{Plan, Ask, Show, Say, Act, Asks, Looks, Conducts, each, calls, ends, fails, ok}
 use Rattle.meaning.specs.Plans.{if_done, if_told, if_end, is_end, until_end, takes, asks_out, goes_to, finds, writes}
 use Rattle.meaning.specs.Plans.{lists, deposits, examines, fetches, takes_over, counts, sizes, says_words, last_said}
-use Rattle.meaning.specs.Plans.{same_words, block_address, file_words, blocks_said, blocks_at_once}
+use Rattle.meaning.specs.Plans.{same_words, block_address, file_words, blocks_said, blocks_at_once, asks_quota}
 use Rattle.meaning.specs.Plans.{copies_blocks, copies_last, copies_body, copies}
 use Rattle.meaning.specs.Plans.{types_runs, types_blocks, types_last, types_body, reads_file}
 use Rattle.meaning.specs.Plans.{asks_rename, deletes, protects, asks_make_dir, shows, begins}
@@ -23,6 +23,7 @@ use Rattle.meaning.specs.declared.command.Command.TheVariants.{Login as LoginLin
 use Rattle.meaning.specs.declared.command.Command.TheVariants.{Copy as CopyLine, Rename as RenameLine}
 use Rattle.meaning.specs.declared.command.Command.TheVariants.{Delete as DeleteLine, TypeOut as TypeLine}
 use Rattle.meaning.specs.declared.command.Command.TheVariants.{Protect as ProtectLine, MakeDir as MakeLine}
+use Rattle.meaning.specs.declared.command.Command.TheVariants.{Quota as QuotaLine}
 use Rattle.meaning.specs.declared.encoding.Encoding.{Encoding}
 use Rattle.meaning.specs.declared.encoding.Encoding.TheVariants.{Characters, Words}
 use Rattle.meaning.specs.declared.call.Call.TheVariants.{Close, Reset}
@@ -277,6 +278,8 @@ lines_go_on moment me (ProtectLine spec protection) = each_goes moment (SaysOk m
     (tt, (tt, (tt, (tt, (tt, (tt, (tt, (tt, (tt, (tt, (tt, (tt, (tt, (tt, tt)))))))))))))) (inl refl)
 lines_go_on moment me (MakeLine owner protection) = each_goes moment (SaysOk moment)
     (asks_make_dir moment owner protection) (ends moment ok) (tt, (tt, (tt, tt))) (inl refl)
+lines_go_on moment me (QuotaLine owner blocks) = each_goes moment (SaysOk moment)
+    (asks_quota moment owner blocks) (ends moment ok) (tt, (tt, (tt, tt))) (inl refl)
 
 -- Acts.
 
@@ -458,6 +461,7 @@ line_at_end moment me (DeleteLine spec) = ok_at_end moment
 line_at_end moment me (TypeLine spec) = prints_at_end moment Characters
 line_at_end moment me (ProtectLine spec protection) = ok_at_end moment
 line_at_end moment me (MakeLine owner protection) = ok_at_end moment
+line_at_end moment me (QuotaLine owner blocks) = ok_at_end moment
 
 pub line_refusals : (moment : Moment) (me : ℕ) (command : Command) (acts : List Act) (said : Spoken)
     → Conducts (begins moment me command) acts said → SaysSo me command said ⊎ IsRefusedAt moment acts said

@@ -10,7 +10,7 @@ use Rattle.meaning.specs.declared.call.Event.{Event}
 use Rattle.meaning.proofs.Playing.{play, small, ten_twenty, foo, bar, ready, enters, looks_up, words_at_500, out, close}
 
 -- [10,20] with a quota
-abbrev limited : ℕ → FinMap name_cmp Version → State
+abbrev pub limited : ℕ → FinMap name_cmp Version → State
 limited quota files = record {
   files = insert empty ten_twenty (record { protection = 0o775; quota = quota; files = files });
   jobs = no_jobs;
@@ -40,7 +40,7 @@ unfolding empty insert get remove entries size dump_list areas_from
 one_file = refl
 
 -- so many empty files
-abbrev many : ℕ → FinMap name_cmp Version
+abbrev pub many : ℕ → FinMap name_cmp Version
 many zero = empty
 many (suc n) = insert (many n) (record { name = suc n; ext = 0 })
     (record { file = record { protection = 0o057; mode = 0o17; time = 0; date = 0; body = [] }; serial = suc n })

@@ -1,14 +1,14 @@
 -- A line has at most one reading in the grammar of sessions.
-use Rattle.std.proofs.Common.{◌≡◌, ℕ, ◌+◌, ◌*◌, List, [], ◌∷◌, Some, None, refl, sym, ap, subst, ◌∙◌}
+use Rattle.std.proofs.Common.{◌≡◌, ℕ, ◌+◌, ◌*◌, ◌<◌, List, [], ◌∷◌, length, Some, None, refl, sym, ap, subst, ◌∙◌, arith}
 use Rattle.std.specs.Prelude.{codes}
-use Rattle.meaning.specs.Spellings.{AreFields}
+use Rattle.meaning.specs.Spellings.{AreFields, IsField, IsBracketed, IsBlockCount, is_digit, decimal_after}
 use Rattle.meaning.specs.Commands.{IsAngled, IsProtection, AreSpecs, IsProtected, IsNewDirectory, IsCommand}
 use Rattle.meaning.specs.declared.command.Spec.{Spec}
 use Rattle.meaning.specs.declared.command.Command.{Command}
 use Rattle.meaning.specs.declared.command.Command.TheVariants.{Login, Directory, Copy, Rename, Delete, TypeOut, Protect}
-use Rattle.meaning.specs.declared.command.Command.TheVariants.{MakeDir}
+use Rattle.meaning.specs.declared.command.Command.TheVariants.{MakeDir, Quota}
 use Rattle.meaning.proofs.SpellingLaws.{differs, same_head, same_tail, none_all, same_but_last, Stops, stretch}
-use Rattle.meaning.proofs.SpellingLaws.{other_than, same_fields, same_number, same_bracketed, bracketed_other}
+use Rattle.meaning.proofs.SpellingLaws.{other_than, are_other, same_fields, same_number, same_bracketed, bracketed_other}
 use Rattle.meaning.proofs.SpellingLaws.{same_spec, spec_other}
 
 -- Arguments.
@@ -75,6 +75,29 @@ word (Delete x) = codes "DELETE"
 word (TypeOut x) = codes "TYPE"
 word (Protect x n) = codes "PROTECT"
 word (MakeDir p n) = codes "MAKDIR"
+word (Quota p n) = codes "QUOTA"
+
+bracketed_field : (s : List ℕ) (p : ℕ) → IsBracketed s p → IsField s
+bracketed_field s p a = record {
+  some = subst (λ t. 0 < length t) (sym a.spelled) (omega arith);
+  visible = bracketed_other 32 s p refl refl refl refl a;
+}
+
+count_field : (s : List ℕ) (n : ℕ) → IsBlockCount s n → IsField s
+count_field s n a = record { some = a.some; visible = are_other is_digit 32 refl s a.digits }
+
+-- the fields of a line that gives a quota
+pub limit_fields : (text : List ℕ) (p n : ℕ) (a : IsCommand text (Quota p n))
+    → AreFields (codes "QUOTA" ∷ a.4.before ∷ a.4.behind ∷ []) text
+limit_fields text p n a =
+    let word : IsField (codes "QUOTA") = record {
+      some = omega arith;
+      visible = (refl, (refl, (refl, (refl, (refl, tt)))));
+    } in
+    let last : AreFields (a.4.behind ∷ []) a.4.behind = (count_field a.4.behind n a.4.right, refl) in
+    let both : AreFields (a.4.before ∷ a.4.behind ∷ []) a.2 =
+    (bracketed_field a.4.before p a.4.left, [], tt, a.4.behind, a.4.spelled, last) in
+    (word, a.0, a.1, a.2, a.3, both)
 
 has_word : (text : List ℕ) (c : Command) → IsCommand text c → (more : List (List ℕ)) × AreFields (word c ∷ more) text
 has_word text (Login p) a = (a.0 ∷ [], a.1)
@@ -86,12 +109,21 @@ has_word text (Delete x) a = (a.0 ∷ [], a.1)
 has_word text (TypeOut x) a = (a.0 ∷ [], a.1)
 has_word text (Protect x n) a = (a.0 ∷ [], a.1)
 has_word text (MakeDir p n) a = (a.0 ∷ [], a.1)
+has_word text (Quota p n) a = (a.4.before ∷ a.4.behind ∷ [], limit_fields text p n a)
 
 same_word : (text : List ℕ) (c d : Command) → IsCommand text c → IsCommand text d → number (word c) ≡ number (word d)
 same_word text c d a b =
     let x = has_word text c a in
     let y = has_word text d b in
     ap number (same_head (same_fields (word c ∷ x.0) (word d ∷ y.0) text x.1 y.1))
+
+same_limits : (text : List ℕ) (p q n m : ℕ) → IsCommand text (Quota p n) → IsCommand text (Quota q m) → (p ≡ q) × (n ≡ m)
+same_limits text p q n m a b =
+    let fields = same_tail (same_fields (codes "QUOTA" ∷ a.4.before ∷ a.4.behind ∷ [])
+    (codes "QUOTA" ∷ b.4.before ∷ b.4.behind ∷ []) text (limit_fields text p n a) (limit_fields text q m b)) in (
+      same_bracketed a.4.before b.4.before p q (same_head fields) a.4.left b.4.left,
+      a.4.right.value ∙ ap (decimal_after 0) (same_head (same_tail fields)) ∙ sym b.4.right.value,
+    )
 
 pub same_command : (text : List ℕ) (c d : Command) → IsCommand text c → IsCommand text d → c ≡ d
 same_command text (Login p) (Login q) a b = ap Login
@@ -115,6 +147,7 @@ same_command text (Protect x n) (Protect y m) a b = let s = same_protected a.0 b
     (same_argument _ _ a.0 b.0 text a.1 b.1) a.2 b.2 in λ i. Protect (s.0 i) (s.1 i)
 same_command text (MakeDir p n) (MakeDir q m) a b = let s = same_made a.0 b.0 p q n m
     (same_argument _ _ a.0 b.0 text a.1 b.1) a.2 b.2 in λ i. MakeDir (s.0 i) (s.1 i)
+same_command text (Quota p n) (Quota q m) a b = let s = same_limits text p q n m a b in λ i. Quota (s.0 i) (s.1 i)
 same_command text (Login x) (Directory v) a b = absurd
     (differs (number (word (Login x))) (number (word (Directory v))) refl (same_word text (Login x) (Directory v) a b))
 same_command text (Login x) (Copy v w) a b = absurd
@@ -227,3 +260,35 @@ same_command text (MakeDir x y) (TypeOut v) a b = absurd (differs (number (word 
     (number (word (TypeOut v))) refl (same_word text (MakeDir x y) (TypeOut v) a b))
 same_command text (MakeDir x y) (Protect v w) a b = absurd (differs (number (word (MakeDir x y)))
     (number (word (Protect v w))) refl (same_word text (MakeDir x y) (Protect v w) a b))
+same_command text (Login x) (Quota v w) a b = absurd (differs (number (word (Login x)))
+    (number (word (Quota v w))) refl (same_word text (Login x) (Quota v w) a b))
+same_command text (Directory x) (Quota v w) a b = absurd (differs (number (word (Directory x)))
+    (number (word (Quota v w))) refl (same_word text (Directory x) (Quota v w) a b))
+same_command text (Copy x y) (Quota v w) a b = absurd (differs (number (word (Copy x y)))
+    (number (word (Quota v w))) refl (same_word text (Copy x y) (Quota v w) a b))
+same_command text (Rename x y) (Quota v w) a b = absurd (differs (number (word (Rename x y)))
+    (number (word (Quota v w))) refl (same_word text (Rename x y) (Quota v w) a b))
+same_command text (Delete x) (Quota v w) a b = absurd (differs (number (word (Delete x)))
+    (number (word (Quota v w))) refl (same_word text (Delete x) (Quota v w) a b))
+same_command text (TypeOut x) (Quota v w) a b = absurd (differs (number (word (TypeOut x)))
+    (number (word (Quota v w))) refl (same_word text (TypeOut x) (Quota v w) a b))
+same_command text (Protect x y) (Quota v w) a b = absurd (differs (number (word (Protect x y)))
+    (number (word (Quota v w))) refl (same_word text (Protect x y) (Quota v w) a b))
+same_command text (MakeDir x y) (Quota v w) a b = absurd (differs (number (word (MakeDir x y)))
+    (number (word (Quota v w))) refl (same_word text (MakeDir x y) (Quota v w) a b))
+same_command text (Quota x y) (Login v) a b = absurd (differs (number (word (Quota x y)))
+    (number (word (Login v))) refl (same_word text (Quota x y) (Login v) a b))
+same_command text (Quota x y) (Directory v) a b = absurd (differs (number (word (Quota x y)))
+    (number (word (Directory v))) refl (same_word text (Quota x y) (Directory v) a b))
+same_command text (Quota x y) (Copy v w) a b = absurd (differs (number (word (Quota x y)))
+    (number (word (Copy v w))) refl (same_word text (Quota x y) (Copy v w) a b))
+same_command text (Quota x y) (Rename v w) a b = absurd (differs (number (word (Quota x y)))
+    (number (word (Rename v w))) refl (same_word text (Quota x y) (Rename v w) a b))
+same_command text (Quota x y) (Delete v) a b = absurd (differs (number (word (Quota x y)))
+    (number (word (Delete v))) refl (same_word text (Quota x y) (Delete v) a b))
+same_command text (Quota x y) (TypeOut v) a b = absurd (differs (number (word (Quota x y)))
+    (number (word (TypeOut v))) refl (same_word text (Quota x y) (TypeOut v) a b))
+same_command text (Quota x y) (Protect v w) a b = absurd (differs (number (word (Quota x y)))
+    (number (word (Protect v w))) refl (same_word text (Quota x y) (Protect v w) a b))
+same_command text (Quota x y) (MakeDir v w) a b = absurd (differs (number (word (Quota x y)))
+    (number (word (MakeDir v w))) refl (same_word text (Quota x y) (MakeDir v w) a b))

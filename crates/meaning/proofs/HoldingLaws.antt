@@ -19,13 +19,13 @@ use Rattle.meaning.specs.Inputs.{words_ahead, moved_on, input_at, reads, useti}
 use Rattle.meaning.specs.Outputs.{Outgoing, outgoing, put_on, put_done, out_answer, out_done, output_at, puts, useto}
 use Rattle.meaning.specs.Closing.{close_answer, closes, releases}
 use Rattle.meaning.specs.Renaming.{renames, rename_answer}
-use Rattle.meaning.specs.Making.{makes, make_answer, removes, remove_answer, owner_at}
+use Rattle.meaning.specs.Making.{makes, make_answer, removes, remove_answer, owner_at, limits, limit_answer}
 use Rattle.meaning.specs.Sessions.{deposit_answer, deposit_done, examine_answer}
 use Rattle.meaning.specs.Step.{step, last_date, on_job, deposit, call_of, on_channel, of_job, of_files}
 use Rattle.meaning.specs.Holding.{SparesCall, SparesEvent, version_read, held_on, held_in, held_for, held_at}
 use Rattle.meaning.specs.declared.call.Call.{Call}
 use Rattle.meaning.specs.declared.call.Call.TheVariants.{Open, Inbuf, Outbuf, Lookup, Enter, Rename, In, Out, Useti}
-use Rattle.meaning.specs.declared.call.Call.TheVariants.{Useto, Close, Releas, Getsts, Reset, MakeDir, DeleteDir}
+use Rattle.meaning.specs.declared.call.Call.TheVariants.{Useto, Close, Releas, Getsts, Reset, MakeDir, DeleteDir, Quota}
 use Rattle.meaning.specs.declared.call.Event.{Event}
 use Rattle.meaning.specs.declared.call.Event.TheVariants.{Login, Deposit, Examine, Call as Calls}
 use Rattle.meaning.specs.declared.call.Reply.{Reply}
@@ -149,6 +149,10 @@ remove_held : (s : State) (job : Job) (e ch : ℕ) → held_in (removes s job e)
 remove_held s job e ch = settled_held (λ (x : Job × Files Version). x.0) job ch
     (remove_answer s job e (owner_at job e)) _ (λ r. (refused_at job e r, s.files)) refl (refused_held job e ch)
 
+limit_held : (pack : Pack) (s : State) (job : Job) (e ch : ℕ) → held_in (limits pack s job e).1.0 ch ≡ held_in job ch
+limit_held pack s job e ch = settled_held (λ (x : Job × Files Version). x.0) job ch
+    (limit_answer pack s job e (owner_at job e)) _ (λ r. (refused_at job e r, s.files)) refl (refused_held job e ch)
+
 close_held : (pack : Pack) (serial : ℕ) (s : State) (job : Job) (k : ℕ) (c : Channel) (bits ch : ℕ)
     → channel_at job k ≡ Some c → ch ≢ k → held_in (closes pack serial s job k c bits).1.0 ch ≡ held_in job ch
 close_held pack serial s job k c bits ch f apart =
@@ -247,6 +251,8 @@ call_held pack serial s n job (MakeDir a) moment ch v e h spared = of_files_held
     (make_held pack s job a ch)
 call_held pack serial s n job (DeleteDir a) moment ch v e h spared = of_files_held s n job (removes s job a) ch e
     (remove_held s job a ch)
+call_held pack serial s n job (Quota a) moment ch v e h spared = of_files_held s n job (limits pack s job a) ch e
+    (limit_held pack s job a ch)
 
 job_there : (o : Option Job) (ch : ℕ) (v : Version) → held_for ch o ≡ Some v → (job : Job) × (o ≡ Some job)
     × (held_in job ch ≡ Some v)

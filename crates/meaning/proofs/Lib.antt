@@ -51,6 +51,7 @@ pub mod SoundEvents
 pub mod CrashLaws
 pub mod CostRows
 pub mod ChargeRows
+pub mod QuotaRows
 pub mod CostLaws
 pub mod PutLaws
 pub mod BookingLaws

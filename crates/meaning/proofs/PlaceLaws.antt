@@ -9,6 +9,7 @@ use Rattle.meaning.specs.Maps.{get, insert, remove, empty}
 use Rattle.meaning.specs.Files.{Directory, Files, Place, name_cmp}
 use Rattle.meaning.specs.Published.{Version, same_place, file_in, file_at, with_file, with_file_in, without_file}
 use Rattle.meaning.specs.Published.{without_file_in}
+use Rattle.meaning.specs.Making.{with_quota, files_limited}
 use Rattle.meaning.proofs.MapLaws.{some_same, inserted, same_or_other, get-insert_same, get-insert_other}
 use Rattle.meaning.proofs.MapLaws.{get-remove_other, get-remove_is, get-empty}
 use Rattle.meaning.proofs.Names.{name_total, name_exact}
@@ -211,3 +212,29 @@ pub keeps_without_directory : (files : Files Version) (ppn q : ℕ) → q ≢ pp
     → IsSome (get (remove files ppn) q)
 keeps_without_directory files ppn q other is = subst (λ (o : Option (Directory Version)). IsSome o)
     (sym (get-remove_other nat_cmp_total nat_cmp-IsAntisymmetric files ppn q other)) is
+
+-- A directory with another quota has the files that it had.
+
+module _ (files : Files Version) (ppn quota : ℕ) where
+  file_limited : (o : Option (Directory Version)) → get files ppn ≡ o → (q : Place)
+      → file_at (with_quota files ppn quota o) q ≡ file_at files q
+  file_limited None e q = refl
+  file_limited (Some d) e q =
+      let new : Directory Version = record d { quota = quota } in
+      ⊎_elim
+      (λ here. ap (λ o. file_in o q.name) (ap (get (insert files ppn new)) here
+      ∙ get-insert_same nat_cmp_total files ppn new) ∙ sym (ap (λ o. file_in o q.name) (ap (get files) here ∙ e)))
+      (λ other. ap (λ o. file_in o q.name)
+      (get-insert_other nat_cmp_total nat_cmp-IsAntisymmetric files ppn new q.ppn other))
+      (same_or_other nat_cmp_total nat_cmp-IsAntisymmetric q.ppn ppn)
+
+  pub file_at-limited : (q : Place) → file_at (files_limited files ppn quota) q ≡ file_at files q
+  file_at-limited q = file_limited (get files ppn) refl q
+
+  keeps_quota : (o : Option (Directory Version)) (q : ℕ) → IsSome (get files q)
+      → IsSome (get (with_quota files ppn quota o) q)
+  keeps_quota None q is = is
+  keeps_quota (Some d) q is = keeps_insert files ppn (record d { quota = quota }) q is
+
+  pub keeps_limited : (q : ℕ) → IsSome (get files q) → IsSome (get (files_limited files ppn quota) q)
+  keeps_limited q is = keeps_quota (get files ppn) q is

@@ -18,7 +18,7 @@ use Rattle.meaning.specs.Transcripts.{Went}
 use Rattle.meaning.specs.Copies.{Comes, HasFiles, IsLineRefused}
 use Rattle.meaning.specs.declared.call.Call.{Call}
 use Rattle.meaning.specs.declared.call.Call.TheVariants.{Open, Inbuf, Outbuf, Lookup, Enter, Rename, In, Out, Useti}
-use Rattle.meaning.specs.declared.call.Call.TheVariants.{Useto, Close, Releas, Getsts, Reset, MakeDir, DeleteDir}
+use Rattle.meaning.specs.declared.call.Call.TheVariants.{Useto, Close, Releas, Getsts, Reset, MakeDir, DeleteDir, Quota}
 use Rattle.meaning.specs.declared.call.Event.{Event}
 use Rattle.meaning.specs.declared.call.Event.TheVariants.{Login, Deposit, Examine, Call as Calls}
 use Rattle.meaning.specs.declared.call.Reply.{Reply}
@@ -71,6 +71,7 @@ IsQuietCall (Getsts ch) = Unit {0}
 IsQuietCall Reset = Unit {0}
 IsQuietCall (MakeDir e) = ⊥
 IsQuietCall (DeleteDir e) = ⊥
+IsQuietCall (Quota e) = ⊥
 
 abbrev pub IsQuiet : Event → Type 0
 IsQuiet (Login n ppn words) = Unit {0}
@@ -118,6 +119,7 @@ same_call pack serial s n job (Getsts ch) moment q = same_channel s _ (channel_a
 same_call pack serial s n job Reset moment q = refl
 same_call pack serial s n job (MakeDir e) moment q = absurd q
 same_call pack serial s n job (DeleteDir e) moment q = absurd q
+same_call pack serial s n job (Quota e) moment q = absurd q
 
 same_settled : (s : State) (reply : Reply) (done : State) (other : Reply → State) → done.files ≡ s.files
     → ((r : Reply) → (other r).files ≡ s.files) → Same s (settled reply done other)

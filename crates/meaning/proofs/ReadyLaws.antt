@@ -29,6 +29,7 @@ use Rattle.meaning.specs.Closing.{close_answer, close_done, files_closed, core_c
 use Rattle.meaning.specs.Closing.{header_closed, keeps_output, keeps_input}
 use Rattle.meaning.specs.Renaming.{rename_answer, rename_done, files_renamed}
 use Rattle.meaning.specs.Making.{make_answer, remove_answer, owner_at, directory_made}
+use Rattle.meaning.specs.Making.{limit_answer, files_limited, quota_at}
 use Rattle.meaning.specs.Rings.{setup, setup_writes, is_buffered, with_ring, kept_if, in_ready, in_is_good, out_ready}
 use Rattle.meaning.specs.Rings.{out_is_good}
 use Rattle.meaning.specs.Rings.{byte_size, buffers_of, base, buffer_words, current, in_writes, out_writes, data_words}
@@ -40,7 +41,7 @@ use Rattle.meaning.specs.declared.area.Area.{Area}
 use Rattle.meaning.specs.Copies.{IsJobReady, asks_for_login}
 use Rattle.meaning.specs.declared.call.Call.{Call}
 use Rattle.meaning.specs.declared.call.Call.TheVariants.{Open, Inbuf, Outbuf, Lookup, Enter, Rename, In, Out, Useti}
-use Rattle.meaning.specs.declared.call.Call.TheVariants.{Useto, Close, Releas, Getsts, Reset, MakeDir, DeleteDir}
+use Rattle.meaning.specs.declared.call.Call.TheVariants.{Useto, Close, Releas, Getsts, Reset, MakeDir, DeleteDir, Quota}
 use Rattle.meaning.specs.declared.call.Event.{Event}
 use Rattle.meaning.specs.declared.call.Event.TheVariants.{Login, Deposit, Examine, Call as Calls}
 use Rattle.meaning.specs.declared.call.Reply.{Reply}
@@ -308,6 +309,9 @@ module _ (pack : Pack) (serial : ℕ) (s : State) (n : ℕ) (job : Job) (there :
   call_keeps (DeleteDir e) moment =
       by_files (remove_answer s job e (owner_at job e)) job (remove s.files (owner_at job e)) (refused_at job e)
       (itself job) (refused_alike e)
+  call_keeps (Quota e) moment =
+      by_files (limit_answer pack s job e (owner_at job e)) job
+      (files_limited s.files (owner_at job e) (quota_at job e)) (refused_at job e) (itself job) (refused_alike e)
 
 -- Job 1 stays ready.
 

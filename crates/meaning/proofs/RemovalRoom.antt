@@ -19,7 +19,7 @@ use Rattle.meaning.specs.Outcomes.{clean}
 use Rattle.meaning.specs.Looking.{place_at, has_no_directory}
 use Rattle.meaning.specs.Renaming.{deletes_at, protection_at, crowds, rename_answer, rename_done, files_moved}
 use Rattle.meaning.specs.Renaming.{files_from, files_renamed}
-use Rattle.meaning.specs.Making.{remove_answer, owner_at}
+use Rattle.meaning.specs.Making.{remove_answer, limit_answer, owner_at, quota_at, with_quota, files_limited}
 use Rattle.meaning.specs.Sound.{IsSound}
 use Rattle.meaning.specs.declared.call.Reply.TheVariants.{Done}
 use Rattle.meaning.proofs.MapLaws.{get-insert_same, get-insert_other, insert_same, insert-insert_same}
@@ -28,6 +28,7 @@ use Rattle.meaning.proofs.Names.{name_total, name_exact}
 use Rattle.meaning.proofs.PlaceLaws.{some_is, directory_of_file}
 use Rattle.meaning.proofs.SoundSteps.{is_some_there}
 use Rattle.meaning.proofs.RemovalSteps.{Renames, rename_needs, move_needs, remove_needs, renamed_goes, removed_goes}
+use Rattle.meaning.proofs.RemovalSteps.{limit_needs, limited_goes}
 use Rattle.meaning.proofs.SlotLaws.{set-slot}
 use Rattle.meaning.proofs.SoundLaws.{Goes}
 use Rattle.meaning.proofs.BookingLaws.{sum_of, sum_channel, costs_kept}
@@ -228,6 +229,30 @@ fine_remove s sound n job there e done =
     let z = size-remove nat_cmp_total nat_cmp-IsAntisymmetric s.files owner d.0 d.1 in
     let m = directory_cost_le (size (remove s.files owner)) (size s.files) (omega (arith, z)) in
     let dirs : directories_cost s1 ≤ directories_cost s = omega (arith, a, m) in
+    let costs1 = subst (λ t. distinct_cost (current_versions t ++ held_versions t) ≤ distinct_cost
+    (current_versions s ++ held_versions s)) back costs in
+    subst (λ t. booked t ≤ booked s) (sym back) (omega (arith, dirs, costs1))
+
+-- Quota.
+
+pub fine_limit : (pack : Pack) (s : State) → IsSound s → (n : ℕ) (job : Job) → job_at s n ≡ Some job → (e : ℕ)
+    → limit_answer pack s job e (owner_at job e) ≡ Done
+    → booked (record s {
+      files = files_limited s.files (owner_at job e) (quota_at job e);
+      jobs = slice_set s.jobs n (Some job);
+    })
+    ≤ booked s
+fine_limit pack s sound n job there e done =
+    let owner = owner_at job e in
+    let files = files_limited s.files owner (quota_at job e) in
+    let s' : State = record s { files = files; jobs = slice_set s.jobs n (Some job) } in
+    let s1 : State = record s { files = files } in
+    let back : s' ≡ s1 = ap (λ jobs. record s { files = files; jobs = jobs }) (set-slot s.jobs n job there) in
+    let d = some_is (get s.files owner) (is_some_there (get s.files owner)
+    (limit_needs pack s job e owner done)) in
+    let costs = costs_kept s s' sound (was_there s s' n 0 (λ v. limited_goes s n job there v e)) in
+    let dirs = directories_changed s s1 owner d.0 (record d.0 { quota = quota_at job e }) d.1
+    (ap (with_quota s.files owner (quota_at job e)) d.1) (same_le refl) (λ ppn differs. same_le refl) in
     let costs1 = subst (λ t. distinct_cost (current_versions t ++ held_versions t) ≤ distinct_cost
     (current_versions s ++ held_versions s)) back costs in
     subst (λ t. booked t ≤ booked s) (sym back) (omega (arith, dirs, costs1))

@@ -2,7 +2,7 @@
 use Rattle.std.proofs.Common.{◌≡◌, ◌≢◌, ℕ, ◌+◌, Bool, true, false, if◌then◌else◌, not, List, [], ◌∷◌, Option, Some}
 use Rattle.std.proofs.Common.{None, refl, sym, ap, subst, ◌∙◌, inl, inr, ⊎_elim, arith}
 use Rattle.std.specs.List.{AllByRecursion}
-use Rattle.std.specs.Prelude.{◌==◌, ◌&&◌, slice_set, is_some, is_none, IsSome}
+use Rattle.std.specs.Prelude.{◌==◌, ◌&&◌, slice_set, is_some, is_none, IsSome, ◌||◌}
 use Rattle.std.proofs.lemmas.Bool.{eqb-true, eq-eqb}
 use Rattle.meaning.specs.Maps.{get, remove, size, total}
 use Rattle.meaning.specs.Files.{Directory, Files, Place, name_cmp}
@@ -14,9 +14,9 @@ use Rattle.meaning.specs.Room.{Pack, output_of, version_of, outputs, is_claimed,
 use Rattle.meaning.specs.Room.{pending_creations}
 use Rattle.meaning.specs.Outcomes.{clean}
 use Rattle.meaning.specs.Looking.{place_at, has_no_directory, is_absent, directory_digit_at}
-use Rattle.meaning.specs.Renaming.{deletes_at, protection_at, is_forbidden, crowds, move_answer, rename_from}
+use Rattle.meaning.specs.Renaming.{deletes_at, protection_at, is_forbidden, crowds, overfills, move_answer, rename_from}
 use Rattle.meaning.specs.Renaming.{rename_sides, rename_answer, files_moved, files_from, files_renamed, rename_done}
-use Rattle.meaning.specs.Making.{remove_answer, owner_at, is_stranger}
+use Rattle.meaning.specs.Making.{remove_answer, owner_at, may_not_remove, limit_answer, files_limited, quota_at}
 use Rattle.meaning.specs.Sound.{output_for, writes_at, version_for, Exists, IsSound}
 use Rattle.meaning.specs.declared.call.Reply.{Reply}
 use Rattle.meaning.specs.declared.call.Reply.TheVariants.{Done, Refused, AddressCheck}
@@ -24,10 +24,11 @@ use Rattle.meaning.proofs.MapSums.{empty_of_size}
 use Rattle.meaning.proofs.MapLaws.{get-empty}
 use Rattle.meaning.proofs.LookupLaws.{passed, is_none_of}
 use Rattle.meaning.proofs.SlotLaws.{slot-set_cases}
-use Rattle.meaning.proofs.SideLaws.{unclaimed, output_of_all}
+use Rattle.meaning.proofs.SideLaws.{unclaimed, output_of_all, or_false}
 use Rattle.meaning.proofs.PlaceLaws.{some_is, directory_of_file, found_with_file, stays_with_file, keeps_with_file}
 use Rattle.meaning.proofs.PlaceLaws.{found_without_file, stays_without_file, keeps_without_file}
 use Rattle.meaning.proofs.PlaceLaws.{found_without_directory, stays_without_directory, keeps_without_directory}
+use Rattle.meaning.proofs.PlaceLaws.{file_at-limited, keeps_limited}
 use Rattle.meaning.proofs.SoundLaws.{Goes, Known, known, OldSide, goes_kept}
 use Rattle.meaning.proofs.RoomLaws.{creation}
 
@@ -41,8 +42,8 @@ move_needs pack s job old new done =
     (λ x. cc) a.1 in
     let d = passed (not (same_place new old) && not (is_absent s new)) (Refused 4) _ (λ x. cc) b.1 in
     let f = passed (not (same_place new old) && is_claimed s new) (Refused 3) _ (λ x. cc) d.1 in
-    let g = passed (crowds pack s old new) (Refused 0o14) _ (λ x. cc) f.1 in
-    (a.0, g.0)
+    let g = passed (crowds pack s old new || overfills s old new) (Refused 0o14) _ (λ x. cc) f.1 in
+    (a.0, (or_false (crowds pack s old new) (overfills s old new) g.0).0)
 
 pub record Renames (pack : Pack) (s : State) (job : Job) (c : Channel) (e : ℕ) : Type 0 where
   pub side : Input
@@ -176,7 +177,7 @@ pub remove_needs : (s : State) (job : Job) (e owner : ℕ) → remove_answer s j
 remove_needs s job e owner done =
     let a = passed (lies_outside job.core e 2) AddressCheck _ (λ x. cc) done in
     let b = passed (is_none (get s.files owner)) (Refused 1) _ (λ x. cc) a.1 in
-    let d = passed (is_stranger job owner) (Refused 2) _ (λ x. cc) b.1 in
+    let d = passed (may_not_remove s job owner) (Refused 2) _ (λ x. cc) b.1 in
     let f = passed (not (entry_count s owner == 0)) (Refused 0o22) _ (λ x. cc) d.1 in
     (b.0, eqb-true (entry_count s owner) 0 (not_false (entry_count s owner == 0) f.0))
   where
@@ -239,3 +240,26 @@ removed_goes s sound n job there v e done =
     (λ q w is. known s w (inl (q, found_without_directory s.files owner q w is)))
     (λ m k o h is. stays_without_directory s.files owner o.place (elsewhere s sound owner unused m k o h) is)
     (λ m k o h is. keeps_without_directory s.files owner o.place.ppn (elsewhere s sound owner unused m k o h) is)
+
+-- Quota.
+
+pub limit_needs : (pack : Pack) (s : State) (job : Job) (e owner : ℕ) → limit_answer pack s job e owner ≡ Done
+    → is_none (get s.files owner) ≡ false
+limit_needs pack s job e owner done =
+    let a = passed (lies_outside job.core e 2) AddressCheck _ (λ x. cc) done in
+    let b = passed (pack.layout == 1) (Refused 5) _ (λ x. cc) a.1 in
+    (passed (is_none (get s.files owner)) (Refused 1) _ (λ x. cc) b.1).0
+
+pub limited_goes : (s : State) (n : ℕ) (job : Job) → job_at s n ≡ Some job → (v : Version) (e : ℕ)
+    → Goes s (record s {
+      files = files_limited s.files (owner_at job e) (quota_at job e);
+      jobs = slice_set s.jobs n (Some job);
+    }) v n 0
+limited_goes s n job there v e =
+    let same = file_at-limited s.files (owner_at job e) (quota_at job e) in
+    goes_kept s v n 0 (files_limited s.files (owner_at job e) (quota_at job e)) job
+    (λ k o h. (o, ap (output_for k) there ∙ h, refl, refl))
+    (λ k w h. inr (n, k, ap (version_for k) there ∙ h))
+    (λ q w is. known s w (inl (q, sym (same q) ∙ is)))
+    (λ m k o h is. subst (λ (w : Option Version). IsSome w) (sym (same o.place)) is)
+    (λ m k o h is. keeps_limited s.files (owner_at job e) (quota_at job e) o.place.ppn is)

@@ -19,11 +19,12 @@ use Rattle.meaning.specs.Outputs.{out_answer, out_done}
 use Rattle.meaning.specs.Closing.{close_answer, close_done, core_closed, files_closed, closes, releases}
 use Rattle.meaning.specs.Renaming.{renames, rename_answer, rename_done, files_renamed}
 use Rattle.meaning.specs.Making.{makes, make_answer, removes, remove_answer, owner_at, directory_made}
+use Rattle.meaning.specs.Making.{limits, limit_answer, files_limited, quota_at}
 use Rattle.meaning.specs.Sessions.{login_answer, deposit_answer, deposit_done, examine_answer}
 use Rattle.meaning.specs.Step.{step, last_date, on_job, on_channel, of_job, of_files, call_of}
 use Rattle.meaning.specs.declared.call.Call.{Call}
 use Rattle.meaning.specs.declared.call.Call.TheVariants.{Open, Inbuf, Outbuf, Lookup, Enter, Rename, In, Out, Useti}
-use Rattle.meaning.specs.declared.call.Call.TheVariants.{Useto, Close, Releas, Getsts, Reset, MakeDir, DeleteDir}
+use Rattle.meaning.specs.declared.call.Call.TheVariants.{Useto, Close, Releas, Getsts, Reset, MakeDir, DeleteDir, Quota}
 use Rattle.meaning.specs.declared.call.Event.{Event}
 use Rattle.meaning.specs.declared.call.Event.TheVariants.{Login, Deposit, Examine, Call as Calls}
 use Rattle.meaning.specs.declared.call.Reply.{Reply}
@@ -35,7 +36,7 @@ use Rattle.meaning.proofs.SoundSteps.{make_needs}
 use Rattle.meaning.proofs.RoomSteps.{Fine, same_le, fine_row, fine_open, fine_lookup, fine_in, fine_useti, fine_useto}
 use Rattle.meaning.proofs.RoomSteps.{fine_out, fine_enter, fine_ring, fine_closed, made_fine}
 use Rattle.meaning.proofs.ClosingRoom.{fine_close, fine_release}
-use Rattle.meaning.proofs.RemovalRoom.{fine_rename, fine_remove}
+use Rattle.meaning.proofs.RemovalRoom.{fine_rename, fine_remove, fine_limit}
 
 abbrev FineEvent : Pack → State → Reply × State → Type 0
 FineEvent pack s r = r.0 ≡ Done → Fine pack s r.1
@@ -103,6 +104,12 @@ module _ (pack : Pack) (serial : ℕ) (s : State) (fresh : IsFresh s serial) (so
       (λ r. (refused_at job e r, s.files))
       (λ is done. inl (fine_remove s sound n job there e is)) (λ differs done. absurd (differs done))
 
+  limit_event : (e : ℕ) → FineEvent pack s (of_files s n (limits pack s job e))
+  limit_event e = settled_by (λ r. r.0 ≡ Done → Fine pack s (of_files s n r).1)
+      (limit_answer pack s job e (owner_at job e))
+      (job, files_limited s.files (owner_at job e) (quota_at job e)) (λ r. (refused_at job e r, s.files))
+      (λ is done. inl (fine_limit pack s sound n job there e is)) (λ differs done. absurd (differs done))
+
   call_event : (call : Call) (moment : Moment) → FineEvent pack s (call_of pack serial s n job call moment)
   call_event (Open ch a) moment = open_event ch a (nat_le ch 15)
   call_event (Inbuf ch k) moment = channel_event pack s _ (channel_at job ch)
@@ -131,6 +138,7 @@ module _ (pack : Pack) (serial : ℕ) (s : State) (fresh : IsFresh s serial) (so
   call_event Reset moment = λ done. inl (fine_closed s n job.ppn _ sound)
   call_event (MakeDir e) moment = make_event e
   call_event (DeleteDir e) moment = remove_event e
+  call_event (Quota e) moment = limit_event e
 
 examined : (job : Job) (address : ℕ) → examine_answer job address ≢ Done
 examined job address = decide (nat_lt address (length job.core))

@@ -28,7 +28,7 @@ use Rattle.meaning.specs.Entering.{output_opened}
 use Rattle.meaning.specs.Inputs.{lacks_header, reads, in_answer, in_done, useti, useti_answer, useti_done}
 use Rattle.meaning.specs.Outputs.{Outgoing, outgoing, put_on, put_done, output_at, out_answer, out_done, put_answer}
 use Rattle.meaning.specs.Outputs.{place_answer, finds_no_place, rise, is_before_end, longest, useto, useto_answer}
-use Rattle.meaning.specs.Outputs.{useto_done}
+use Rattle.meaning.specs.Outputs.{useto_done, outgrows}
 use Rattle.meaning.specs.declared.call.Reply.{Reply}
 use Rattle.meaning.specs.declared.call.Reply.TheVariants.{Done, Refused, AddressCheck}
 use Rattle.meaning.proofs.MapLaws.{size-empty}
@@ -197,12 +197,12 @@ out_needs pack s c (Some o) (Some t) e =
     let a = passed (lacks_header c.mode c.output_header) (Refused 5) (place_answer pack s c o t.words) (λ x. cc) e in
     (o, refl, t, refl, placed_needs pack s c o t.words a.1)
 
-split_test : (none long full before : Bool) → (not none && (long || full || before)) ≡ false
+split_test : (none long full over before : Bool) → (not none && (long || full || over || before)) ≡ false
     → (none ≡ true) ⊎ (full ≡ false)
-split_test true long full before e = inl refl
-split_test false true full before e = let wrong = e in cc
-split_test false false true before e = let wrong = e in cc
-split_test false false false before e = inr refl
+split_test true long full over before e = inl refl
+split_test false true full over before e = let wrong = e in cc
+split_test false false true over before e = let wrong = e in cc
+split_test false false false over before e = inr refl
 
 zero_is : (n : ℕ) → (n == 0) ≡ true → n ≡ 0
 zero_is n e = eqb-true n 0 e
@@ -221,7 +221,7 @@ put_fits pack s o count now place h =
     omega (arith, h, same)))
     (λ room. inr (let f = fits pack s (rise o count) room in omega (arith, h, f)))
     (split_test (count == 0) (nat_lt longest (length_after (length o.pending.body) o.next count))
-    (exceeds_room pack s (rise o count)) (is_before_end o.kind o.next) place)
+    (exceeds_room pack s (rise o count)) (outgrows s o.place.ppn (rise o count)) (is_before_end o.kind o.next) place)
 
 module _ (pack : Pack) (s : State) (sound : IsSound s) (n : ℕ) (job : Job) (there : job_at s n
     ≡ Some job) (ch : ℕ) (c : Channel) (is : channel_at job ch ≡ Some c) where

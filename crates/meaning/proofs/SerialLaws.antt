@@ -15,7 +15,7 @@ use Rattle.meaning.specs.Room.{Pack}
 use Rattle.meaning.specs.Step.{step, last_date, on_job, on_channel, of_files, call_of}
 use Rattle.meaning.specs.declared.call.Call.{Call}
 use Rattle.meaning.specs.declared.call.Call.TheVariants.{Open, Inbuf, Outbuf, Lookup, Enter, Rename, In, Out, Useti}
-use Rattle.meaning.specs.declared.call.Call.TheVariants.{Useto, Close, Releas, Getsts, Reset, MakeDir, DeleteDir}
+use Rattle.meaning.specs.declared.call.Call.TheVariants.{Useto, Close, Releas, Getsts, Reset, MakeDir, DeleteDir, Quota}
 use Rattle.meaning.specs.declared.call.Event.{Event}
 use Rattle.meaning.specs.declared.call.Event.TheVariants.{Login, Deposit, Examine, Call as Calls}
 use Rattle.meaning.specs.declared.call.Reply.{Reply}
@@ -48,6 +48,7 @@ same_call pack a b s n job (Getsts ch) moment = refl
 same_call pack a b s n job Reset moment = refl
 same_call pack a b s n job (MakeDir e) moment = refl
 same_call pack a b s n job (DeleteDir e) moment = refl
+same_call pack a b s n job (Quota e) moment = refl
 
 same_job : (s : State) (row other : Job → Reply × State) (o : Option Job) → ((job : Job) → (row job).0 ≡ (other job).0)
     → (on_job s o row).0 ≡ (on_job s o other).0
@@ -135,6 +136,7 @@ files_call pack a b s n job (Getsts ch) moment = refl
 files_call pack a b s n job Reset moment = refl
 files_call pack a b s n job (MakeDir e) moment = refl
 files_call pack a b s n job (DeleteDir e) moment = refl
+files_call pack a b s n job (Quota e) moment = refl
 
 files_job : (s : State) (row other : Job → Reply × State) (o : Option Job)
     → ((job : Job) → SameFiles (row job) (other job)) → SameFiles (on_job s o row) (on_job s o other)

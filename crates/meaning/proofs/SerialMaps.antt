@@ -1,8 +1,8 @@
 -- A state with other serials, and what is the same in it.
-use Rattle.std.proofs.Common.{◌≡◌, ℕ, zero, suc, ◌+◌, Bool, true, false, if◌then◌else◌, List, [], ◌∷◌, ◌++◌, map}
+use Rattle.std.proofs.Common.{◌≡◌, ℕ, zero, suc, ◌+◌, Bool, true, false, if◌then◌else◌, List, [], ◌∷◌, ◌++◌, map, not}
 use Rattle.std.proofs.Common.{length, Option, Some, None, refl, sym, ap, ◌∙◌, option_map}
 use Rattle.std.specs.List.{list_any, cons_option}
-use Rattle.std.specs.Prelude.{◌==◌, ◌||◌, nat_lt, is_some, is_none, slice_set, flat_map, filter_map}
+use Rattle.std.specs.Prelude.{◌==◌, ◌||◌, nat_lt, is_some, is_none, slice_set, flat_map, filter_map, ◌&&◌}
 use Rattle.std.specs.Cmp.{nat_cmp_total}
 use Rattle.std.specs.FinMap.{nat_cmp-IsAntisymmetric}
 use Rattle.std.proofs.lemmas.Bool.{eqb-true, eq-eqb}
@@ -19,8 +19,9 @@ use Rattle.meaning.specs.Looking.{has_no_directory, is_absent, digit_for_directo
 use Rattle.meaning.specs.Looking.{digit_for_version, digit_at}
 use Rattle.meaning.proofs.MapLists.{entries-map_values, values-map_values, get-map_values, map_values-insert}
 use Rattle.meaning.proofs.MapLists.{map_values-remove}
-use Rattle.meaning.proofs.MapSums.{size-map_values}
+use Rattle.meaning.proofs.MapSums.{size-map_values, sum-map_values}
 use Rattle.meaning.proofs.Names.{name_total, name_exact}
+use Rattle.meaning.specs.Charges.{quota_in, quota_of, charge_in, charge, exceeds_left, pending_cost_in}
 
 -- Lists and slots.
 
@@ -275,6 +276,30 @@ module _ (f : ℕ → ℕ) where
     pub exceeds-re : (pack : Pack) (s : State) (more : ℕ) → exceeds_room pack (re_state s) more
         ≡ exceeds_room pack s more
     exceeds-re pack s more = ap (λ b. nat_lt (space pack) (b + more)) (booked-re s)
+
+  -- What a directory is charged for, and what its quota leaves.
+
+  quota_re : (o : Option (Directory Version)) → quota_in (option_map (map_directory re_version) o) ≡ quota_in o
+  quota_re None = refl
+  quota_re (Some d) = refl
+
+  pub quota-re : (s : State) (ppn : ℕ) → quota_of (re_state s) ppn ≡ quota_of s ppn
+  quota-re s ppn = ap quota_in (get-re s.files ppn) ∙ quota_re (get s.files ppn)
+
+  charge_re : (o : Option (Directory Version)) (creations : ℕ)
+      → charge_in (option_map (map_directory re_version) o) creations ≡ charge_in o creations
+  charge_re None creations = refl
+  charge_re (Some d) creations = λ i. directory_cost (size-map_values name_total re_version d.files i + creations)
+      + sum-map_values name_total (λ (v : Version). version_cost (length v.file.body)) re_version d.files i
+
+  charge-re : (s : State) (ppn : ℕ) → charge (re_state s) ppn ≡ charge s ppn
+  charge-re s ppn =
+      (λ i. charge_in (get-re s.files ppn i) (creations-re s ppn i)
+      + total (λ o. if o.place.ppn == ppn then version_cost (length o.pending.body) else 0) (outputs-re s i))
+      ∙ ap (λ n. n + pending_cost_in s ppn) (charge_re (get s.files ppn) (pending_creations s ppn))
+
+  pub left-re : (s : State) (ppn more : ℕ) → exceeds_left (re_state s) ppn more ≡ exceeds_left s ppn more
+  left-re s ppn more = λ i. not (quota-re s ppn i == 0) && nat_lt (quota-re s ppn i) (charge-re s ppn i + more)
 
   -- What answers look at.
 

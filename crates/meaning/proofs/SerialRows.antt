@@ -5,10 +5,11 @@ use Rattle.std.specs.Prelude.{◌==◌, ◌&&◌, ◌||◌, nat_lt, is_some, is_
 use Rattle.words36.specs.Words.{left, right}
 use Rattle.words36.specs.declared.moment.Moment.{Moment}
 use Rattle.meaning.specs.Maps.{get, insert, remove, empty, entries, size}
-use Rattle.meaning.specs.Files.{Files, Place, map_directory}
+use Rattle.meaning.specs.Files.{Files, Place, map_directory, Directory}
 use Rattle.meaning.specs.Costs.{blocks_of}
 use Rattle.meaning.specs.Splices.{length_after}
 use Rattle.meaning.specs.Rights.{may_look, may_read, may_create, may_supersede, may_append, may_rename, may_protect}
+use Rattle.meaning.specs.Rights.{system}
 use Rattle.meaning.specs.Published.{Version, file_at, same_place, with_file, without_file, with_protection}
 use Rattle.meaning.specs.Cores.{lies_outside, after_writes}
 use Rattle.meaning.specs.Rings.{is_buffered}
@@ -24,7 +25,7 @@ use Rattle.meaning.specs.Entering.{create_answer, supersede_answer, begin_answer
 use Rattle.meaning.specs.Entering.{enter_done, enter}
 use Rattle.meaning.specs.Renaming.{deletes_at, protection_at, changes_protection, is_forbidden, crowds, move_answer}
 use Rattle.meaning.specs.Renaming.{rename_from, rename_sides, rename_answer, files_moved, files_renamed, rename_done}
-use Rattle.meaning.specs.Renaming.{renames}
+use Rattle.meaning.specs.Renaming.{renames, overfills}
 use Rattle.meaning.specs.Inputs.{words_ahead, is_empty, dump_in_answer, lacks_header, ring_in_answer, ring_in}
 use Rattle.meaning.specs.Inputs.{in_answer, words_asked, core_filled, moved_on, in_done, reads, useti_answer, input_at}
 use Rattle.meaning.specs.Inputs.{useti_done, useti}
@@ -36,6 +37,7 @@ use Rattle.meaning.specs.Closing.{publishes, keeps_input, keeps_output, discards
 use Rattle.meaning.specs.Closing.{close_answer, published, files_with, files_closed, holding, output_closed}
 use Rattle.meaning.specs.Closing.{channel_closed, header_closed, core_closed, close_done, closes, releases}
 use Rattle.meaning.specs.Making.{owner_at, is_stranger, make_answer, directory_made, makes, remove_answer, removes}
+use Rattle.meaning.specs.Making.{limits, limit_answer, with_quota, files_limited, quota_at}
 use Rattle.meaning.specs.declared.area.Area.{Area}
 use Rattle.meaning.specs.declared.call.Reply.{Reply}
 use Rattle.meaning.specs.declared.call.Reply.TheVariants.{Done, Value, Refused, Stopped, NoChannel, AddressCheck, NoJob}
@@ -43,7 +45,8 @@ use Rattle.meaning.specs.declared.call.Reply.TheVariants.{NoMemory, Device, Fail
 use Rattle.meaning.proofs.SerialMaps.{is_some-map, is_none-map, re_version, re_input, re_channel, re_job, re_files}
 use Rattle.meaning.proofs.SerialMaps.{re_state, get-re, file-re, insert-re, remove-re, with_file-re, without_file-re}
 use Rattle.meaning.proofs.SerialMaps.{size-re, channel-re, with_channel-re, claimed-re, entries-re, exceeds-re}
-use Rattle.meaning.proofs.SerialMaps.{no_directory-re, absent-re, directory_digit-re, digit-re}
+use Rattle.meaning.proofs.SerialMaps.{no_directory-re, absent-re, directory_digit-re, digit-re, left-re, quota-re}
+use Rattle.meaning.specs.Charges.{exceeds_limits, exceeds_left}
 
 -- Outcomes.
 
@@ -171,10 +174,15 @@ module _ (f : ℕ → ℕ) where
     room-re : (more more' : ℕ) → more' ≡ more → exceeds_room pack (re_state f s) more' ≡ exceeds_room pack s more
     room-re more more' e = ap (exceeds_room pack (re_state f s)) e ∙ exceeds-re f exact pack s more
 
+    limits_re : (ppn more more' : ℕ) → more' ≡ more
+        → exceeds_limits pack (re_state f s) ppn more' ≡ exceeds_limits pack s ppn more
+    limits_re ppn more more' e = ap (exceeds_limits pack (re_state f s) ppn) e
+        ∙ λ i. exceeds-re f exact pack s more i || left-re f s ppn more i
+
     create-re : (job : Job) (place : Place) → create_answer pack (re_state f s) (re_job f job) place
         ≡ create_answer pack s job place
     create-re job place =
-        let full = room-re (1 + growth (entry_count s place.ppn)) _
+        let full = limits_re place.ppn (1 + growth (entry_count s place.ppn)) _
         (ap (λ k. 1 + growth k) (entries-re f s place.ppn)) in
         λ i. if not (may_create (directory_digit-re f s job place i)) then Refused 2
         else if claimed-re f s place i then Refused 3
@@ -184,7 +192,7 @@ module _ (f : ℕ → ℕ) where
     supersede-re : (job : Job) (place : Place) → supersede_answer pack (re_state f s) (re_job f job) place
         ≡ supersede_answer pack s job place
     supersede-re job place =
-        let full = room-re 1 1 refl in
+        let full = limits_re place.ppn 1 1 refl in
         λ i. if not (may_look (directory_digit-re f s job place i)) || not (may_supersede (digit-re f s job place i))
         then Refused 2
         else if claimed-re f s place i then Refused 3
@@ -194,7 +202,7 @@ module _ (f : ℕ → ℕ) where
     update-re : (job : Job) (place : Place) → update_answer pack (re_state f s) (re_job f job) place
         ≡ update_answer pack s job place
     update-re job place =
-        let full = room-re (present_cost (file_at s.files place)) _ (ap present_cost (file-re f s.files place)
+        let full = limits_re place.ppn (present_cost (file_at s.files place)) _ (ap present_cost (file-re f s.files place)
         ∙ cost-re (file_at s.files place)) in
         λ i. if absent-re f s place i then Refused 0
         else if not (may_look (directory_digit-re f s job place i)) || not (may_append (digit-re f s job place i))
@@ -292,6 +300,15 @@ module _ (f : ℕ → ℕ) where
     crowds-re old new = λ i. not (new.ppn == old.ppn) && not (growth (entries-re f s new.ppn i) == 0)
         && room-re 1 1 refl i
 
+    overfills-re : (old new : Place) → overfills (re_state f s) old new ≡ overfills s old new
+    overfills-re old new =
+        let cost : present_cost (file_at (re_files f s.files) old) ≡ present_cost (file_at s.files old) =
+        ap present_cost (file-re f s.files old) ∙ cost-re (file_at s.files old) in
+        (λ i. not (new.ppn == old.ppn)
+        && exceeds_left (re_state f s) new.ppn (cost i + growth (entries-re f s new.ppn i)))
+        ∙ λ i. not (new.ppn == old.ppn)
+        && left-re f s new.ppn (present_cost (file_at s.files old) + growth (entry_count s new.ppn)) i
+
     move-re : (job : Job) (old new : Place) → move_answer pack (re_state f s) (re_job f job) old new
         ≡ move_answer pack s job old new
     move-re job old new = λ i.
@@ -299,7 +316,7 @@ module _ (f : ℕ → ℕ) where
         else if not (new.ppn == old.ppn) && not (may_create (directory_digit-re f s job new i)) then Refused 2
         else if not (same_place new old) && not (absent-re f s new i) then Refused 4
         else if not (same_place new old) && claimed-re f s new i then Refused 3
-        else if crowds-re old new i then Refused 0o14
+        else if crowds-re old new i || overfills-re old new i then Refused 0o14
         else Done
 
     from-re : (job : Job) (e : ℕ) (old : Place) → rename_from pack (re_state f s) (re_job f job) e old
@@ -363,6 +380,7 @@ module _ (f : ℕ → ℕ) where
         not (count == 0)
         && (nat_lt longest (length_after (length o.pending.body) o.next count)
         || room-re (rise o count) (rise o count) refl i
+        || (not (rise o count == 0) && left-re f s o.place.ppn (rise o count) i)
         || is_before_end o.kind o.next)
 
     place-re : (c : Channel) (o : Output) (words : List ℕ) → place_answer pack (re_state f s) (re_channel f c) o words
@@ -520,7 +538,7 @@ module _ (f : ℕ → ℕ) where
         ≡ is_none (get s.files owner) = ap is_none (get-re f s.files owner) ∙ is_none-map _ (get s.files owner) in
         λ i. if lies_outside job.core e 2 then AddressCheck
         else if there i then Refused 1
-        else if is_stranger job owner then Refused 2
+        else if is_stranger job owner || (not (quota-re f s owner i == 0) && not (job.ppn == system)) then Refused 2
         else if not (entries-re f s owner i == 0) then Refused 0o22
         else Done
 
@@ -531,6 +549,41 @@ module _ (f : ℕ → ℕ) where
         (λ r. (refused_at job e r, s.files)) (λ r. (refused_at (re_job f job) e r, re_files f s.files))
         (remove_answer-re job e (owner_at job e))
         (λ i. (re_job f job, sym (remove-re f s.files (owner_at job e)) i))
+        (λ r i. (refused-re job e r i, re_files f s.files))
+
+    -- Quota.
+
+    limit_answer-re : (job : Job) (e owner : ℕ) → limit_answer pack (re_state f s) (re_job f job) e owner
+        ≡ limit_answer pack s job e owner
+    limit_answer-re job e owner =
+        let there : is_none (get (re_files f s.files) owner)
+        ≡ is_none (get s.files owner) = ap is_none (get-re f s.files owner) ∙ is_none-map _ (get s.files owner) in
+        λ i. if lies_outside job.core e 2 then AddressCheck
+        else if pack.layout == 1 then Refused 5
+        else if there i then Refused 1
+        else if not (job.ppn == system) then Refused 2
+        else Done
+
+    with_quota-re : (owner quota : ℕ) (o : Option (Directory Version))
+        → with_quota (re_files f s.files) owner quota (option_map (map_directory (re_version f)) o)
+        ≡ re_files f (with_quota s.files owner quota o)
+    with_quota-re owner quota None = refl
+    with_quota-re owner quota (Some d) = sym (insert-re f s.files owner (record d { quota = quota }))
+
+    limited-re : (owner quota : ℕ) → files_limited (re_files f s.files) owner quota
+        ≡ re_files f (files_limited s.files owner quota)
+    limited-re owner quota = ap (with_quota (re_files f s.files) owner quota) (get-re f s.files owner)
+        ∙ with_quota-re owner quota (get s.files owner)
+
+    pub limits-re : (job : Job) (e : ℕ) → limits pack (re_state f s) (re_job f job) e
+        ≡ on_value re_both (limits pack s job e)
+    limits-re job e =
+        settled-re re_both (limit_answer pack s job e (owner_at job e)) _
+        (job, files_limited s.files (owner_at job e) (quota_at job e))
+        (re_job f job, files_limited (re_files f s.files) (owner_at job e) (quota_at job e))
+        (λ r. (refused_at job e r, s.files)) (λ r. (refused_at (re_job f job) e r, re_files f s.files))
+        (limit_answer-re job e (owner_at job e))
+        (λ i. (re_job f job, limited-re (owner_at job e) (quota_at job e) i))
         (λ r i. (refused-re job e r i, re_files f s.files))
 
   -- IN, USETI and USETO.

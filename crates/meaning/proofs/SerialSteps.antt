@@ -16,14 +16,14 @@ use Rattle.meaning.specs.Renaming.{renames}
 use Rattle.meaning.specs.Inputs.{reads, useti}
 use Rattle.meaning.specs.Outputs.{puts, useto}
 use Rattle.meaning.specs.Closing.{closes, releases}
-use Rattle.meaning.specs.Making.{makes, removes}
+use Rattle.meaning.specs.Making.{makes, removes, limits}
 use Rattle.meaning.specs.Rights.{may_look, directory_digit}
 use Rattle.meaning.specs.Sessions.{login_answer, new_job, deposit_answer, deposit_done, resets, entry, listed, list_for}
 use Rattle.meaning.specs.Sessions.{list}
 use Rattle.meaning.specs.Step.{step, last_date, on_job, on_channel, of_job, of_files, call_of}
 use Rattle.meaning.specs.declared.call.Call.{Call}
 use Rattle.meaning.specs.declared.call.Call.TheVariants.{Open, Inbuf, Outbuf, Lookup, Enter, Rename, In, Out, Useti}
-use Rattle.meaning.specs.declared.call.Call.TheVariants.{Useto, Close, Releas, Getsts, Reset, MakeDir, DeleteDir}
+use Rattle.meaning.specs.declared.call.Call.TheVariants.{Useto, Close, Releas, Getsts, Reset, MakeDir, DeleteDir, Quota}
 use Rattle.meaning.specs.declared.call.Event.{Event}
 use Rattle.meaning.specs.declared.call.Event.TheVariants.{Login, Deposit, Examine, Call as Calls}
 use Rattle.meaning.specs.declared.call.Reply.{Reply}
@@ -34,7 +34,7 @@ use Rattle.meaning.proofs.SerialMaps.{set-map, re_version, re_channel, re_job, r
 use Rattle.meaning.proofs.SerialMaps.{job-re, with_job-re}
 use Rattle.meaning.proofs.SerialRows.{on_value, settled-re, re_both, opens-re, sets_up-re, lookup-re, enter-re}
 use Rattle.meaning.proofs.SerialRows.{renames-re, puts-re, closes-re, releases-re, makes-re, removes-re, reads-re}
-use Rattle.meaning.proofs.SerialRows.{useti-re, useto-re}
+use Rattle.meaning.proofs.SerialRows.{useti-re, useto-re, limits-re}
 
 module _ (f : ℕ → ℕ) where
   abbrev pub re_out : Reply × State → Reply × State
@@ -113,6 +113,7 @@ module _ (f : ℕ → ℕ) where
     call-re n job Reset moment = of_job-re s n (resets (re_job f job)) (resets job) refl
     call-re n job (MakeDir e) moment = of_files-re s n _ (makes pack s job e) (makes-re f exact pack s job e)
     call-re n job (DeleteDir e) moment = of_files-re s n _ (removes s job e) (removes-re f exact pack s job e)
+    call-re n job (Quota e) moment = of_files-re s n _ (limits pack s job e) (limits-re f exact pack s job e)
 
     pub step-re : (event : Event) → step pack (f serial) (re_state f s) event ≡ re_out (step pack serial s event)
     step-re (Login n ppn words) = settled-re (re_state f) (login_answer n words) (login_answer n words)

@@ -39,15 +39,17 @@ use Rattle.meaning.specs.Closing.{channel_closed}
 use Rattle.meaning.specs.Renaming.{rename_answer, rename_done, files_renamed, files_from, files_moved}
 use Rattle.meaning.specs.Renaming.{deletes_at, protection_at}
 use Rattle.meaning.specs.Making.{make_answer, remove_answer, owner_at, directory_made}
+use Rattle.meaning.specs.Making.{limit_answer, files_limited, quota_at}
 use Rattle.meaning.specs.Sessions.{login_answer, new_job, deposit_answer, deposit_done, resets}
 use Rattle.meaning.specs.Step.{step, last_date, on_job, on_channel, of_job, of_files, call_of}
 use Rattle.meaning.specs.Runs.{Answers, AnswersAll, Serving, Broken, IsStart}
 use Rattle.meaning.specs.declared.call.Call.{Call}
 use Rattle.meaning.specs.declared.call.Call.TheVariants.{Open, Inbuf, Outbuf, Lookup, Enter, Rename, In, Out, Useti}
-use Rattle.meaning.specs.declared.call.Call.TheVariants.{Useto, Close, Releas, Getsts, Reset, MakeDir, DeleteDir}
+use Rattle.meaning.specs.declared.call.Call.TheVariants.{Useto, Close, Releas, Getsts, Reset, MakeDir, DeleteDir, Quota}
 use Rattle.meaning.specs.declared.call.Event.{Event}
 use Rattle.meaning.specs.declared.call.Event.TheVariants.{Login, Deposit, Examine, Call as Calls}
 use Rattle.meaning.proofs.PlaceLaws.{found_with_file, found_without_file, found_with_directory, found_without_directory}
+use Rattle.meaning.proofs.PlaceLaws.{file_at-limited}
 use Rattle.meaning.proofs.SoundSteps.{make_needs}
 use Rattle.meaning.proofs.CallRuns.{passed_test}
 use Rattle.meaning.proofs.OutcomeLaws.{settled_by, stopped_by, refused_by}
@@ -89,15 +91,15 @@ short_state s short n job files few own = record {
 
 -- Words that are put.
 
-placed_few : (count len after : ℕ) (b c : Bool)
-    → (not (count == 0) && (nat_lt longest after || b || c)) ≡ false → len ≤ longest → (count ≡ 0 → after ≡ len)
+placed_few : (count len after : ℕ) (b c d : Bool)
+    → (not (count == 0) && (nat_lt longest after || b || c || d)) ≡ false → len ≤ longest → (count ≡ 0 → after ≡ len)
     → after ≤ longest
-placed_few count len after b c none few same = by (count == 0) refl
+placed_few count len after b c d none few same = by (count == 0) refl
   where
     zero_is : (count == 0) ≡ true → count ≡ 0
     zero_is e = grind (arith, nat_tests)
 
-    below : (x : Bool) → (true && (x || b || c)) ≡ false → x ≡ false
+    below : (x : Bool) → (true && (x || b || c || d)) ≡ false → x ≡ false
     below true e = let wrong = e in cc
     below false e = refl
 
@@ -107,7 +109,7 @@ placed_few count len after b c none few same = by (count == 0) refl
     by : (z : Bool) → (count == 0) ≡ z → after ≤ longest
     by true e = omega (arith, same (zero_is e))
     by false e = at_most after (below (nat_lt longest after)
-        (sym (ap (λ z. not z && (nat_lt longest after || b || c)) e) ∙ none))
+        (sym (ap (λ z. not z && (nat_lt longest after || b || c || d)) e) ∙ none))
 
 none_after : (len next count : ℕ) → count ≡ 0 → length_after len next count ≡ len
 none_after len next count e = rw e refl
@@ -119,7 +121,7 @@ put_short pack s o words none few =
       arith,
       length-splice o.pending.body o.next words,
       placed_few (length words) (length o.pending.body)
-          (length_after (length o.pending.body) o.next (length words)) _ _ none few
+          (length_after (length o.pending.body) o.next (length words)) _ _ _ none few
           (none_after (length o.pending.body) o.next (length words)),
     )
 
@@ -377,6 +379,13 @@ module _ (pack : Pack) (serial : ℕ) (s : State) (short : IsShort s) (n : ℕ) 
       by_files (remove_answer s job e (owner_at job e)) job (remove s.files (owner_at job e)) (refused_at job e)
       (λ done. (own, λ q w is. short.files q w (found_without_directory s.files (owner_at job e) q w is)))
       (refused_short e)
+  call_short (Quota e) moment =
+      by_files (limit_answer pack s job e (owner_at job e)) job
+      (files_limited s.files (owner_at job e) (quota_at job e)) (refused_at job e)
+      (λ done. (
+        own,
+        λ q w is. short.files q w (sym (file_at-limited s.files (owner_at job e) (quota_at job e) q) ∙ is),
+      )) (refused_short e)
 
 -- Events and runs.
 

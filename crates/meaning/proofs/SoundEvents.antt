@@ -13,13 +13,14 @@ use Rattle.meaning.specs.Outputs.{useto_answer}
 use Rattle.meaning.specs.Closing.{close_answer, close_done, output_put, core_closed, files_closed, closes, releases}
 use Rattle.meaning.specs.Renaming.{renames, rename_answer, rename_done, files_renamed}
 use Rattle.meaning.specs.Making.{makes, make_answer, removes, remove_answer, owner_at, directory_made}
+use Rattle.meaning.specs.Making.{limits, limit_answer, files_limited, quota_at}
 use Rattle.meaning.specs.Sessions.{login_answer, new_job, deposit_answer, deposit_done}
 use Rattle.meaning.specs.Step.{step, last_date, on_job, on_channel, of_job, of_files, call_of}
 use Rattle.meaning.specs.Runs.{IsFresh}
 use Rattle.meaning.specs.Sound.{IsSound}
 use Rattle.meaning.specs.declared.call.Call.{Call}
 use Rattle.meaning.specs.declared.call.Call.TheVariants.{Open, Inbuf, Outbuf, Lookup, Enter, Rename, In, Out, Useti}
-use Rattle.meaning.specs.declared.call.Call.TheVariants.{Useto, Close, Releas, Getsts, Reset, MakeDir, DeleteDir}
+use Rattle.meaning.specs.declared.call.Call.TheVariants.{Useto, Close, Releas, Getsts, Reset, MakeDir, DeleteDir, Quota}
 use Rattle.meaning.specs.declared.call.Event.{Event}
 use Rattle.meaning.specs.declared.call.Event.TheVariants.{Login, Deposit, Examine, Call as Calls}
 use Rattle.meaning.specs.declared.call.Reply.{Reply}
@@ -32,7 +33,7 @@ use Rattle.meaning.proofs.SoundSteps.{make_needs, blank, would_be, like_itself, 
 use Rattle.meaning.proofs.SoundSteps.{good_row, good_stopped, good_refused, good_open, good_ring, good_out, good_lookup}
 use Rattle.meaning.proofs.SoundSteps.{good_enter}
 use Rattle.meaning.proofs.ClosingSteps.{would_be_serial, closes_goes, releases_goes}
-use Rattle.meaning.proofs.RemovalSteps.{renamed_goes, removed_goes}
+use Rattle.meaning.proofs.RemovalSteps.{renamed_goes, removed_goes, limited_goes}
 
 abbrev pub Going : ℕ → State → State → Type 0
 Going serial s s' = (v : Version) × (n : ℕ) × (ch : ℕ) × (v.serial ≡ serial) × Goes s s' v n ch
@@ -64,6 +65,13 @@ module _ (pack : Pack) (serial : ℕ) (s : State) (sound : IsSound s) (n : ℕ) 
       settled_by (λ r. Going serial s (of_files s n r).1) (remove_answer s job e (owner_at job e))
       (job, remove s.files (owner_at job e)) (λ r. (refused_at job e r, s.files))
       (λ done. (blank serial, n, 0, refl, removed_goes s sound n job there (blank serial) e done))
+      (λ differs. by_job serial s n 0 _ (good_refused s (blank serial) n job there 0 e _))
+
+  limit_goes : (e : ℕ) → Going serial s (of_files s n (limits pack s job e)).1
+  limit_goes e =
+      settled_by (λ r. Going serial s (of_files s n r).1) (limit_answer pack s job e (owner_at job e))
+      (job, files_limited s.files (owner_at job e) (quota_at job e)) (λ r. (refused_at job e r, s.files))
+      (λ done. (blank serial, n, 0, refl, limited_goes s n job there (blank serial) e))
       (λ differs. by_job serial s n 0 _ (good_refused s (blank serial) n job there 0 e _))
 
   close_goes : (ch : ℕ) (c : Channel) (bits : ℕ) → channel_at job ch ≡ Some c
@@ -143,6 +151,7 @@ module _ (pack : Pack) (serial : ℕ) (s : State) (sound : IsSound s) (n : ℕ) 
   call_goes Reset moment = by_job serial s n 0 _ (good_closed s (blank serial) n 0 job.ppn _)
   call_goes (MakeDir e) moment = make_goes e
   call_goes (DeleteDir e) moment = remove_goes e
+  call_goes (Quota e) moment = limit_goes e
 
 on_job_goes : (serial : ℕ) (s : State) (row : Job → Reply × State) (o : Option Job)
     → ((job : Job) → o ≡ Some job → Going serial s (row job).1) → Going serial s (on_job s o row).1

@@ -12,7 +12,7 @@ use Rattle.meaning.specs.Outcomes.{settled}
 use Rattle.meaning.specs.Step.{step, job_of, last_date, on_job, on_channel, of_job, of_files, call_of}
 use Rattle.meaning.specs.declared.call.Call.{Call}
 use Rattle.meaning.specs.declared.call.Call.TheVariants.{Open, Inbuf, Outbuf, Lookup, Enter, Rename, In, Out, Useti}
-use Rattle.meaning.specs.declared.call.Call.TheVariants.{Useto, Close, Releas, Getsts, Reset, MakeDir, DeleteDir}
+use Rattle.meaning.specs.declared.call.Call.TheVariants.{Useto, Close, Releas, Getsts, Reset, MakeDir, DeleteDir, Quota}
 use Rattle.meaning.specs.declared.call.Event.{Event}
 use Rattle.meaning.specs.declared.call.Event.TheVariants.{Login, Deposit, Examine, Call as Calls}
 use Rattle.meaning.specs.declared.call.Reply.{Reply}
@@ -111,6 +111,7 @@ keeps_call pack serial s n job (Getsts ch) moment = keeps_on_channel s _ (channe
 keeps_call pack serial s n job Reset moment = λ differs. refl
 keeps_call pack serial s n job (MakeDir e) moment = keeps_of_files s n _ _ _ (λ r. refl)
 keeps_call pack serial s n job (DeleteDir e) moment = keeps_of_files s n _ _ _ (λ r. refl)
+keeps_call pack serial s n job (Quota e) moment = keeps_of_files s n _ _ _ (λ r. refl)
 
 keeps_on_job : (s : State) (row : Job → Reply × State) (job : Option Job) → ((job : Job) → Keeps s (row job))
     → Keeps s (on_job s job row)
@@ -171,6 +172,7 @@ module _ (pack : Pack) (serial : ℕ) (s : State) (n m : ℕ) (apart : m ≢ n) 
   spares_call job Reset moment = spares_with _
   spares_call job (MakeDir e) moment = spares_with _
   spares_call job (DeleteDir e) moment = spares_with _
+  spares_call job (Quota e) moment = spares_with _
 
   pub spares_call_event : (call : Call) (moment : Moment) → Spares m s (step pack serial s (Calls n call moment))
   spares_call_event call moment =

@@ -19,6 +19,7 @@ use Rattle.meaning.specs.declared.command.Command.TheVariants.{Login as LoginLin
 use Rattle.meaning.specs.declared.command.Command.TheVariants.{Copy as CopyLine, Rename as RenameLine}
 use Rattle.meaning.specs.declared.command.Command.TheVariants.{Delete as DeleteLine, TypeOut as TypeLine}
 use Rattle.meaning.specs.declared.command.Command.TheVariants.{Protect as ProtectLine, MakeDir as MakeLine}
+use Rattle.meaning.specs.declared.command.Command.TheVariants.{Quota as QuotaLine}
 use Rattle.meaning.specs.declared.call.Event.{Event}
 use Rattle.meaning.specs.declared.call.Reply.{Reply}
 use Rattle.meaning.specs.declared.call.Event.TheVariants.{Login}
@@ -165,6 +166,8 @@ module _ (pack : Pack) (moment : Moment) where
       (ProtectLine k n) s t u w acts bcts one other x y r a b p q
   same_speech who (Some (MakeLine k n)) s t u w acts bcts one other x y r a b p q = same_acts who
       (MakeLine k n) s t u w acts bcts one other x y r a b p q
+  same_speech who (Some (QuotaLine k n)) s t u w acts bcts one other x y r a b p q = same_acts who
+      (QuotaLine k n) s t u w acts bcts one other x y r a b p q
 
   same_transcript : (lines : List Line) (who : Option ℕ) (s t u w : State) (acts bcts : List Act) (one other : Spoken)
       (x y : Option ℕ) → Related s t → IsTranscript moment who lines acts one x

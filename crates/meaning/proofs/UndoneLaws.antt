@@ -14,7 +14,7 @@ use Rattle.meaning.specs.Step.{step, last_date, on_job, on_channel, of_job, of_f
 use Rattle.meaning.specs.Undone.{stopped_on, job_undone, call_undone, undone}
 use Rattle.meaning.specs.declared.call.Call.{Call}
 use Rattle.meaning.specs.declared.call.Call.TheVariants.{Open, Inbuf, Outbuf, Lookup, Enter, Rename, In, Out, Useti}
-use Rattle.meaning.specs.declared.call.Call.TheVariants.{Useto, Close, Releas, Getsts, Reset, MakeDir, DeleteDir}
+use Rattle.meaning.specs.declared.call.Call.TheVariants.{Useto, Close, Releas, Getsts, Reset, MakeDir, DeleteDir, Quota}
 use Rattle.meaning.specs.declared.call.Event.{Event}
 use Rattle.meaning.specs.declared.call.Event.TheVariants.{Login, Deposit, Examine, Call as Calls}
 use Rattle.meaning.specs.declared.call.Reply.{Reply}
@@ -109,6 +109,7 @@ module _ (s : State) (n : ℕ) (job : Job) (there : job_at s n ≡ Some job) whe
   call_leaves pack serial Reset moment = λ differs. absurd (differs refl)
   call_leaves pack serial (MakeDir e) moment = of_files_leaves _ _ (refused_at job e)
   call_leaves pack serial (DeleteDir e) moment = of_files_leaves _ _ (refused_at job e)
+  call_leaves pack serial (Quota e) moment = of_files_leaves _ _ (refused_at job e)
 
   out_of_time : (call : Call) → job_undone job call DateRange ≡ job
   out_of_time (Open ch a) = refl
@@ -127,6 +128,7 @@ module _ (s : State) (n : ℕ) (job : Job) (there : job_at s n ≡ Some job) whe
   out_of_time Reset = refl
   out_of_time (MakeDir e) = refl
   out_of_time (DeleteDir e) = refl
+  out_of_time (Quota e) = refl
 
 -- Any event.
 
@@ -213,6 +215,7 @@ undone_sides job (Getsts ch) reply = (refl, refl)
 undone_sides job Reset reply = (refl, refl)
 undone_sides job (MakeDir e) reply = refused_sides job e reply
 undone_sides job (DeleteDir e) reply = refused_sides job e reply
+undone_sides job (Quota e) reply = refused_sides job e reply
 
 call_undone_booked : (s : State) (n : ℕ) (o : Option Job) (call : Call) (reply : Reply) → job_at s n ≡ o
     → booked (call_undone s n o call reply) ≡ booked s

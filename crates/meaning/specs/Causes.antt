@@ -11,6 +11,7 @@ use Rattle.meaning.specs.declared.command.Command.TheVariants.{Login as LoginLin
 use Rattle.meaning.specs.declared.command.Command.TheVariants.{Copy as CopyLine, Rename as RenameLine}
 use Rattle.meaning.specs.declared.command.Command.TheVariants.{Delete as DeleteLine, TypeOut as TypeLine}
 use Rattle.meaning.specs.declared.command.Command.TheVariants.{Protect as ProtectLine, MakeDir as MakeLine}
+use Rattle.meaning.specs.declared.command.Command.TheVariants.{Quota as QuotaLine}
 use Rattle.meaning.specs.declared.encoding.Encoding.{Encoding}
 use Rattle.meaning.specs.declared.encoding.Encoding.TheVariants.{Characters}
 use Rattle.meaning.specs.declared.entry.Entry.{Entry}
@@ -68,6 +69,7 @@ EndsSo moment me (DeleteLine spec) plan = SaysOk moment plan
 EndsSo moment me (TypeLine spec) plan = PrintsAtEnd moment Characters plan
 EndsSo moment me (ProtectLine spec protection) plan = SaysOk moment plan
 EndsSo moment me (MakeLine owner protection) plan = SaysOk moment plan
+EndsSo moment me (QuotaLine owner blocks) plan = SaysOk moment plan
 
 -- What a line says if none of its replies is refused. The list of a directory has the refusal of its own one.
 abbrev pub SaysSo : ℕ → Command → Spoken → Type 0
@@ -80,6 +82,7 @@ SaysSo me (DeleteLine spec) said = said ≡ ok
 SaysSo me (TypeLine spec) said = (words : List ℕ) × (said ≡ prints (printed Characters words))
 SaysSo me (ProtectLine spec protection) said = said ≡ ok
 SaysSo me (MakeLine owner protection) said = said ≡ ok
+SaysSo me (QuotaLine owner blocks) said = said ≡ ok
 
 -- The same of the acts of a line.
 

@@ -1,12 +1,11 @@
--- What a directory is charged for, and what its quota leaves. A quota is a limit beside the room: nothing asks for it
--- yet, since layout 1 has no quotas.
-use Rattle.std.specs.Prelude.{ℕ, ◌+◌, ◌==◌, ◌&&◌, not, nat_lt, Bool, if◌then◌else◌, length, Option, Some, None}
+-- What a directory is charged for, and what its quota leaves: a second limit beside the room, in layout 2 alone.
+use Rattle.std.specs.Prelude.{ℕ, ◌+◌, ◌==◌, ◌&&◌, ◌||◌, not, nat_lt, Bool, if◌then◌else◌, length, Option, Some, None}
 use Rattle.meaning.specs.Costs.{version_cost, directory_cost}
 use Rattle.meaning.specs.Files.{Directory}
 use Rattle.meaning.specs.Jobs.{State}
 use Rattle.meaning.specs.Maps.{get, size, sum_over, total}
 use Rattle.meaning.specs.Published.{Version}
-use Rattle.meaning.specs.Room.{outputs, pending_creations}
+use Rattle.meaning.specs.Room.{Pack, outputs, pending_creations, exceeds_room}
 
 -- what is being written at places of a directory, each version in full
 abbrev pub pending_cost_in : State → ℕ → ℕ
@@ -31,6 +30,14 @@ quota_in (Some d) = d.quota
 abbrev pub quota_of : State → ℕ → ℕ
 quota_of s ppn = quota_in (get s.files ppn)
 
+-- the directory has a quota
+abbrev pub is_limited : State → ℕ → Bool
+is_limited s ppn = not (quota_of s ppn == 0)
+
 -- n blocks more are more than the directory has left, which may be below 0; a quota of 0 is no limit
 abbrev pub exceeds_left : State → ℕ → ℕ → Bool
-exceeds_left s ppn more = not (quota_of s ppn == 0) && nat_lt (quota_of s ppn) (charge s ppn + more)
+exceeds_left s ppn more = is_limited s ppn && nat_lt (quota_of s ppn) (charge s ppn + more)
+
+-- n blocks more are more than the disk has room for, or than the directory has left
+abbrev pub exceeds_limits : Pack → State → ℕ → ℕ → Bool
+exceeds_limits pack s ppn more = exceeds_room pack s more || exceeds_left s ppn more

@@ -1,11 +1,11 @@
 -- What a line of a session says: the grammar, a row for each form of a line.
 use Rattle.std.specs.Prelude.{◌≡◌, ℕ, List, [], ◌∷◌, ◌++◌, Option, Some, None, codes}
 use Rattle.meaning.specs.Lines.{Line, Bytes, TooLong}
-use Rattle.meaning.specs.Spellings.{AreFields, IsNumber, IsBracketed, IsSpec}
+use Rattle.meaning.specs.Spellings.{Are, is_space, AreFields, IsNumber, IsBlockCount, IsBracketed, IsSpec}
 use Rattle.meaning.specs.declared.command.Spec.{Spec}
 use Rattle.meaning.specs.declared.command.Command.{Command}
 use Rattle.meaning.specs.declared.command.Command.TheVariants.{Login, Directory, Copy, Rename, Delete, TypeOut, Protect}
-use Rattle.meaning.specs.declared.command.Command.TheVariants.{MakeDir}
+use Rattle.meaning.specs.declared.command.Command.TheVariants.{MakeDir, Quota}
 
 -- a word and what follows it
 abbrev pub HasArgument : List ℕ → List ℕ → List ℕ → Type 0
@@ -46,6 +46,14 @@ pub record IsNewDirectory (text : List ℕ) (owner protection : ℕ) : Type 0 wh
   pub right : IsProtection behind protection
   pub spelled : text ≡ before ++ behind
 
+-- [p,n] and a number of blocks, with one space between them
+pub record IsLimit (text : List ℕ) (owner blocks : ℕ) : Type 0 where
+  pub before : List ℕ
+  pub behind : List ℕ
+  pub left : IsBracketed before owner
+  pub right : IsBlockCount behind blocks
+  pub spelled : text ≡ before ++ 32 ∷ behind
+
 abbrev pub IsCommand : List ℕ → Command → Type 0
 IsCommand text (Login owner) = (argument : List ℕ) × HasArgument (codes "LOGIN") argument text
     × IsBracketed argument owner
@@ -62,6 +70,8 @@ IsCommand text (Protect spec protection) = (argument : List ℕ) × HasArgument 
     × IsProtected argument spec protection
 IsCommand text (MakeDir owner protection) = (argument : List ℕ) × HasArgument (codes "MAKDIR") argument text
     × IsNewDirectory argument owner protection
+IsCommand text (Quota owner blocks) = (gap : List ℕ) × Are is_space gap × (rest : List ℕ)
+    × (text ≡ codes "QUOTA" ++ 32 ∷ (gap ++ rest)) × IsLimit rest owner blocks
 
 -- what a text says, where it says anything
 abbrev pub Says : List ℕ → Option Command → Type 0

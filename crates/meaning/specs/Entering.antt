@@ -8,7 +8,8 @@ use Rattle.meaning.specs.Published.{Version, file_at}
 use Rattle.meaning.specs.Rights.{may_look, may_create, may_supersede}
 use Rattle.meaning.specs.Cores.{lies_outside}
 use Rattle.meaning.specs.Jobs.{Create, Supersede, Input, Output, Channel, Job, State, with_channel}
-use Rattle.meaning.specs.Room.{Pack, is_claimed, entry_count, exceeds_room, has_no_room, growth}
+use Rattle.meaning.specs.Room.{Pack, is_claimed, entry_count, growth}
+use Rattle.meaning.specs.Charges.{exceeds_limits}
 use Rattle.meaning.specs.Looking.{place_at, has_no_directory, is_absent, directory_digit_at, digit_at, with_attributes}
 use Rattle.meaning.specs.Updating.{is_elsewhere, update_answer, output_updating, input_updating}
 use Rattle.meaning.specs.Outcomes.{settled, clean, refused_at}
@@ -20,7 +21,7 @@ abbrev pub create_answer : Pack → State → Job → Place → Reply
 create_answer pack s job place =
     if not (may_create (directory_digit_at s job place)) then Refused 2
     else if is_claimed s place then Refused 3
-    else if exceeds_room pack s (1 + growth (entry_count s place.ppn)) then Refused 0o14
+    else if exceeds_limits pack s place.ppn (1 + growth (entry_count s place.ppn)) then Refused 0o14
     else Done
 
 -- the name is present
@@ -28,7 +29,7 @@ abbrev pub supersede_answer : Pack → State → Job → Place → Reply
 supersede_answer pack s job place =
     if not (may_look (directory_digit_at s job place)) || not (may_supersede (digit_at s job place)) then Refused 2
     else if is_claimed s place then Refused 3
-    else if has_no_room pack s then Refused 0o14
+    else if exceeds_limits pack s place.ppn 1 then Refused 0o14
     else Done
 
 -- by whether the channel has looked a file up

@@ -7,7 +7,7 @@ use Rattle.meaning.specs.Looking.{place_at}
 use Rattle.meaning.specs.Inputs.{core_filled}
 use Rattle.meaning.specs.declared.call.Call.{Call}
 use Rattle.meaning.specs.declared.call.Call.TheVariants.{Open, Inbuf, Outbuf, Lookup, Enter, Rename, In, Out, Useti}
-use Rattle.meaning.specs.declared.call.Call.TheVariants.{Useto, Close, Releas, Getsts, Reset, MakeDir, DeleteDir}
+use Rattle.meaning.specs.declared.call.Call.TheVariants.{Useto, Close, Releas, Getsts, Reset, MakeDir, DeleteDir, Quota}
 use Rattle.meaning.specs.declared.call.Event.{Event}
 use Rattle.meaning.specs.declared.call.Event.TheVariants.{Login, Deposit, Examine, Call as Calls}
 
@@ -29,6 +29,7 @@ SparesCall ch (Getsts k) = Unit {0}
 SparesCall ch Reset = ⊥
 SparesCall ch (MakeDir e) = Unit {0}
 SparesCall ch (DeleteDir e) = Unit {0}
+SparesCall ch (Quota e) = Unit {0}
 
 -- any event of another job, and an event of the job n itself that leaves channel ch its input side
 abbrev pub SparesEvent : ℕ → ℕ → Event → Type 0

@@ -1,6 +1,8 @@
 -- MakeDir makes a directory, by two words at an address: whose it is, and its protection in bits 0 to 8.
--- DeleteDir removes an empty one: it takes whose it is, and a second word for a refusal's code.
-use Rattle.std.specs.Prelude.{ℕ, ◌+◌, ◌==◌, ◌||◌, not, Bool, is_some, is_none, if◌then◌else◌, slice_index}
+-- DeleteDir removes an empty one: it takes whose it is, and a second word for a refusal's code. Quota gives one another
+-- quota, by the left half of the second word; its right half, which takes a refusal's code, isn't looked at.
+use Rattle.std.specs.Prelude.{ℕ, ◌+◌, ◌==◌, ◌||◌, ◌&&◌, not, Bool, is_some, is_none, if◌then◌else◌, Option, Some, None}
+use Rattle.std.specs.Prelude.{slice_index}
 use Rattle.words36.specs.Words.{left, right}
 use Rattle.meaning.specs.Maps.{get, insert, remove, empty, size}
 use Rattle.meaning.specs.Files.{Directory, Files}
@@ -9,6 +11,7 @@ use Rattle.meaning.specs.Rights.{system}
 use Rattle.meaning.specs.Cores.{lies_outside}
 use Rattle.meaning.specs.Jobs.{Job, State}
 use Rattle.meaning.specs.Room.{Pack, entry_count, exceeds_room, growth}
+use Rattle.meaning.specs.Charges.{is_limited}
 use Rattle.meaning.specs.Entering.{protection_or}
 use Rattle.meaning.specs.Outcomes.{settled, refused_at}
 use Rattle.meaning.specs.declared.call.Reply.{Reply}
@@ -42,12 +45,16 @@ makes pack s job e =
     settled (make_answer pack s job e (owner_at job e)) (job, insert s.files (owner_at job e) (directory_made job e))
     (λ reply. (refused_at job e reply, s.files))
 
+-- nobody but [1,2] removes a directory that has a quota
+abbrev pub may_not_remove : State → Job → ℕ → Bool
+may_not_remove s job owner = is_stranger job owner || (is_limited s owner && not (job.ppn == system))
+
 -- an entry is in the way, and so is a file that is being created
 abbrev pub remove_answer : State → Job → ℕ → ℕ → Reply
 remove_answer s job e owner =
     if lies_outside job.core e 2 then AddressCheck
     else if is_none (get s.files owner) then Refused 1
-    else if is_stranger job owner then Refused 2
+    else if may_not_remove s job owner then Refused 2
     else if not (entry_count s owner == 0) then Refused 0o22
     else Done
 
@@ -55,3 +62,28 @@ abbrev pub removes : State → Job → ℕ → Reply × (Job × Files Version)
 removes s job e =
     settled (remove_answer s job e (owner_at job e)) (job, remove s.files (owner_at job e))
     (λ reply. (refused_at job e reply, s.files))
+
+abbrev pub quota_at : Job → ℕ → ℕ
+quota_at job e = left (slice_index job.core (e + 1))
+
+-- layout 1 has no quotas
+abbrev pub limit_answer : Pack → State → Job → ℕ → ℕ → Reply
+limit_answer pack s job e owner =
+    if lies_outside job.core e 2 then AddressCheck
+    else if pack.layout == 1 then Refused 5
+    else if is_none (get s.files owner) then Refused 1
+    else if not (job.ppn == system) then Refused 2
+    else Done
+
+abbrev pub with_quota : {V : Type 0} → Files V → ℕ → ℕ → Option (Directory V) → Files V
+with_quota files owner quota None = files
+with_quota files owner quota (Some d) = insert files owner (record d { quota = quota })
+
+-- the files, with another quota of a directory that there is
+abbrev pub files_limited : {V : Type 0} → Files V → ℕ → ℕ → Files V
+files_limited files owner quota = with_quota files owner quota (get files owner)
+
+abbrev pub limits : Pack → State → Job → ℕ → Reply × (Job × Files Version)
+limits pack s job e =
+    settled (limit_answer pack s job e (owner_at job e))
+    (job, files_limited s.files (owner_at job e) (quota_at job e)) (λ reply. (refused_at job e reply, s.files))

@@ -9,6 +9,7 @@ use Rattle.meaning.specs.Rings.{is_buffered, byte_size, out_ready, ring_words, o
 use Rattle.meaning.specs.Jobs.{Kind, Create, Supersede, Update, Append, Output, Channel, Job, State, with_channel}
 use Rattle.meaning.specs.Jobs.{block_too_large}
 use Rattle.meaning.specs.Room.{Pack, exceeds_room}
+use Rattle.meaning.specs.Charges.{exceeds_left}
 use Rattle.meaning.specs.Inputs.{lacks_header}
 use Rattle.meaning.specs.Outcomes.{settled, clean, reports, stopped_in}
 use Rattle.meaning.specs.declared.call.Reply.{Reply}
@@ -29,13 +30,18 @@ is_before_end Supersede next = false
 is_before_end Update next = false
 is_before_end (Append blocks) next = nat_le next blocks
 
--- So many words cannot be put: they make too many blocks, or cost more than there is room for, or an append
--- would change what stood. No words can always be put.
+-- the version would cost more than before, and by more than the directory's quota leaves
+abbrev pub outgrows : State → ℕ → ℕ → Bool
+outgrows s ppn more = not (more == 0) && exceeds_left s ppn more
+
+-- So many words cannot be put: they make too many blocks, or cost more than there is room for or the quota leaves, or
+-- an append would change what stood. No words can always be put.
 abbrev pub finds_no_place : Pack → State → Output → ℕ → Bool
 finds_no_place pack s o count =
     not (count == 0)
     && (nat_lt longest (length_after (length o.pending.body) o.next count)
     || exceeds_room pack s (rise o count)
+    || outgrows s o.place.ppn (rise o count)
     || is_before_end o.kind o.next)
 
 -- what an OUT finds in core: the words to be put, and the core that it leaves

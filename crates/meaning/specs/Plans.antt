@@ -16,10 +16,11 @@ use Rattle.meaning.specs.declared.command.Command.TheVariants.{Login as LoginLin
 use Rattle.meaning.specs.declared.command.Command.TheVariants.{Copy as CopyLine, Rename as RenameLine}
 use Rattle.meaning.specs.declared.command.Command.TheVariants.{Delete as DeleteLine, TypeOut as TypeLine}
 use Rattle.meaning.specs.declared.command.Command.TheVariants.{Protect as ProtectLine, MakeDir as MakeLine}
+use Rattle.meaning.specs.declared.command.Command.TheVariants.{Quota as QuotaLine}
 use Rattle.meaning.specs.declared.entry.Entry.{Entry}
 use Rattle.meaning.specs.declared.call.Call.{Call}
 use Rattle.meaning.specs.declared.call.Call.TheVariants.{Open, Lookup, Enter, Rename, In, Out, Useti, Close, Reset}
-use Rattle.meaning.specs.declared.call.Call.TheVariants.{MakeDir}
+use Rattle.meaning.specs.declared.call.Call.TheVariants.{MakeDir, Quota}
 use Rattle.meaning.specs.declared.call.Event.{Event}
 use Rattle.meaning.specs.declared.call.Event.TheVariants.{Deposit, Examine, Call as Calls}
 use Rattle.meaning.specs.declared.call.Reply.{Reply}
@@ -104,6 +105,10 @@ protects moment spec protection = finds moment spec ++ names file_words spec pro
 abbrev pub asks_make_dir : Moment → ℕ → ℕ → List Event
 asks_make_dir moment owner protection = deposits file_words (owner ∷ protection * 2 ^ 27 ∷ [])
     ++ calls moment (MakeDir file_words) ∷ []
+
+abbrev pub asks_quota : Moment → ℕ → ℕ → List Event
+asks_quota moment owner blocks = deposits file_words (owner ∷ join blocks 0 ∷ [])
+    ++ calls moment (Quota file_words) ∷ []
 
 -- Plans.
 
@@ -265,6 +270,7 @@ begins moment me (DeleteLine spec) = each moment (deletes moment spec) (ends mom
 begins moment me (TypeLine spec) = types moment spec
 begins moment me (ProtectLine spec protection) = each moment (protects moment spec protection) (ends moment ok)
 begins moment me (MakeLine owner protection) = each moment (asks_make_dir moment owner protection) (ends moment ok)
+begins moment me (QuotaLine owner blocks) = each moment (asks_quota moment owner blocks) (ends moment ok)
 
 -- What is asked of the service, with the answer.
 pub data Act : Type 0 where

@@ -8,7 +8,9 @@ use Rattle.meaning.specs.Rights.{may_look, may_create, may_rename, may_protect}
 use Rattle.meaning.specs.Cores.{lies_outside}
 use Rattle.meaning.specs.Jobs.{Input, Output, Channel, Job, State, with_channel}
 use Rattle.meaning.specs.Room.{Pack, is_claimed, entry_count, has_no_room, growth}
+use Rattle.meaning.specs.Charges.{exceeds_left}
 use Rattle.meaning.specs.Looking.{place_at, has_no_directory, is_absent, directory_digit_at, digit_at}
+use Rattle.meaning.specs.Updating.{present_cost}
 use Rattle.meaning.specs.Outcomes.{settled, clean, refused_at}
 use Rattle.meaning.specs.declared.call.Reply.{Reply}
 use Rattle.meaning.specs.declared.call.Reply.TheVariants.{Done, Refused, AddressCheck}
@@ -37,6 +39,11 @@ is_forbidden s job e old =
 abbrev pub crowds : Pack → State → Place → Place → Bool
 crowds pack s old new = not (new.ppn == old.ppn) && not (growth (entry_count s new.ppn) == 0) && has_no_room pack s
 
+-- another directory's quota doesn't leave what the file that is moved costs, with the block more for its entry
+abbrev pub overfills : State → Place → Place → Bool
+overfills s old new = not (new.ppn == old.ppn)
+    && exceeds_left s new.ppn (present_cost (file_at s.files old) + growth (entry_count s new.ppn))
+
 -- the new place
 abbrev pub move_answer : Pack → State → Job → Place → Place → Reply
 move_answer pack s job old new =
@@ -44,7 +51,7 @@ move_answer pack s job old new =
     else if not (new.ppn == old.ppn) && not (may_create (directory_digit_at s job new)) then Refused 2
     else if not (same_place new old) && not (is_absent s new) then Refused 4
     else if not (same_place new old) && is_claimed s new then Refused 3
-    else if crowds pack s old new then Refused 0o14
+    else if crowds pack s old new || overfills s old new then Refused 0o14
     else Done
 
 -- the place that was looked up, as it is now

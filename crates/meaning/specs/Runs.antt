@@ -11,7 +11,7 @@ use Rattle.meaning.specs.Step.{step}
 use Rattle.meaning.specs.declared.entry.Entry.{Entry}
 use Rattle.meaning.specs.declared.call.Call.{Call}
 use Rattle.meaning.specs.declared.call.Call.TheVariants.{Open, Inbuf, Outbuf, Lookup, Enter, Rename, In, Out, Useti}
-use Rattle.meaning.specs.declared.call.Call.TheVariants.{Useto, Close, Releas, Getsts, Reset, MakeDir, DeleteDir}
+use Rattle.meaning.specs.declared.call.Call.TheVariants.{Useto, Close, Releas, Getsts, Reset, MakeDir, DeleteDir, Quota}
 use Rattle.meaning.specs.declared.call.Event.{Event}
 use Rattle.meaning.specs.declared.call.Event.TheVariants.{Login, Deposit, Examine, Call as Calls}
 use Rattle.meaning.specs.declared.call.Reply.{Reply}
@@ -76,6 +76,7 @@ is_light s n (Getsts ch) = true
 is_light s n Reset = true
 is_light s n (MakeDir e) = false
 is_light s n (DeleteDir e) = false
+is_light s n (Quota e) = false
 
 abbrev pub takes_memory : State → Event → Bool
 takes_memory s (Login n ppn words) = true

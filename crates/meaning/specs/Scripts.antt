@@ -7,7 +7,7 @@ use Rattle.meaning.specs.Lines.{Line, Bytes, TooLong}
 use Rattle.meaning.specs.Spellings.{AreFields, IsNumber, IsSmall, IsPair}
 use Rattle.meaning.specs.declared.call.Call.{Call}
 use Rattle.meaning.specs.declared.call.Call.TheVariants.{Open, Inbuf, Outbuf, Lookup, Enter, Rename, In, Out, Useti}
-use Rattle.meaning.specs.declared.call.Call.TheVariants.{Useto, Close, Releas, Getsts, Reset, MakeDir, DeleteDir}
+use Rattle.meaning.specs.declared.call.Call.TheVariants.{Useto, Close, Releas, Getsts, Reset, MakeDir, DeleteDir, Quota}
 use Rattle.meaning.specs.declared.call.Event.{Event}
 use Rattle.meaning.specs.declared.call.Event.TheVariants.{Login, Deposit, Examine, Call as Calls}
 use Rattle.meaning.specs.declared.call.Reply.{Reply}
@@ -43,6 +43,7 @@ calls_of_one word =
     else if same_text word (codes "GETSTS") then Some (λ channel. Getsts channel)
     else if same_text word (codes "MAKDIR") then Some (λ address. MakeDir address)
     else if same_text word (codes "REMDIR") then Some (λ address. DeleteDir address)
+    else if same_text word (codes "QUOTA") then Some (λ address. Quota address)
     else None
 
 -- numbers of up to twelve digits: those of jobs, channels, addresses and counts are below 1000000

@@ -57,6 +57,23 @@ pub record IsSmall (most : ℕ) (text : List ℕ) (n : ℕ) : Type 0 where
   pub number : IsNumber most text n
   pub small : n < 2 ^ 18
 
+-- Numbers of blocks, in decimal.
+
+abbrev pub is_digit : ℕ → Bool
+is_digit c = nat_le 48 c && nat_le c 57
+
+abbrev pub decimal_after : ℕ → List ℕ → ℕ
+decimal_after high [] = high
+decimal_after high (c ∷ cs) = decimal_after (high * 10 + (c - 48)) cs
+
+-- one to six digits, at most 262143
+pub record IsBlockCount (text : List ℕ) (n : ℕ) : Type 0 where
+  pub some : 0 < length text
+  pub few : length text ≤ 6
+  pub digits : Are is_digit text
+  pub value : n ≡ decimal_after 0 text
+  pub small : n < 2 ^ 18
+
 -- p,n, neither 0
 pub record IsPair (most : ℕ) (text : List ℕ) (ppn : ℕ) : Type 0 where
   pub project : ℕ

@@ -12,12 +12,12 @@ use Rattle.meaning.specs.Inputs.{reads, useti}
 use Rattle.meaning.specs.Outputs.{puts, useto}
 use Rattle.meaning.specs.Closing.{closes, releases}
 use Rattle.meaning.specs.Renaming.{renames}
-use Rattle.meaning.specs.Making.{makes, removes}
+use Rattle.meaning.specs.Making.{makes, removes, limits}
 use Rattle.meaning.specs.Sessions.{login_answer, new_job, deposit_answer, deposit_done, examine_answer, resets}
 use Rattle.meaning.specs.Outcomes.{settled}
 use Rattle.meaning.specs.declared.call.Call.{Call}
 use Rattle.meaning.specs.declared.call.Call.TheVariants.{Open, Inbuf, Outbuf, Lookup, Enter, Rename, In, Out, Useti}
-use Rattle.meaning.specs.declared.call.Call.TheVariants.{Useto, Close, Releas, Getsts, Reset, MakeDir, DeleteDir}
+use Rattle.meaning.specs.declared.call.Call.TheVariants.{Useto, Close, Releas, Getsts, Reset, MakeDir, DeleteDir, Quota}
 use Rattle.meaning.specs.declared.call.Event.{Event}
 use Rattle.meaning.specs.declared.call.Event.TheVariants.{Login, Deposit, Examine, Call as Calls}
 use Rattle.meaning.specs.declared.call.Reply.{Reply}
@@ -73,6 +73,7 @@ call_of pack serial s n job (Getsts ch) moment = on_channel s (channel_at job ch
 call_of pack serial s n job Reset moment = of_job s n (resets job)
 call_of pack serial s n job (MakeDir e) moment = of_files s n (makes pack s job e)
 call_of pack serial s n job (DeleteDir e) moment = of_files s n (removes s job e)
+call_of pack serial s n job (Quota e) moment = of_files s n (limits pack s job e)
 
 -- an event of a job, which has to be logged in
 abbrev pub on_job : State → Option Job → (Job → Reply × State) → Reply × State

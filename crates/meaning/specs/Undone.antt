@@ -5,7 +5,7 @@ use Rattle.meaning.specs.Jobs.{Channel, Job, State, channel_at, job_at, with_job
 use Rattle.meaning.specs.Outcomes.{stopped_in, refused_at}
 use Rattle.meaning.specs.declared.call.Call.{Call}
 use Rattle.meaning.specs.declared.call.Call.TheVariants.{Open, Inbuf, Outbuf, Lookup, Enter, Rename, In, Out, Useti}
-use Rattle.meaning.specs.declared.call.Call.TheVariants.{Useto, Close, Releas, Getsts, Reset, MakeDir, DeleteDir}
+use Rattle.meaning.specs.declared.call.Call.TheVariants.{Useto, Close, Releas, Getsts, Reset, MakeDir, DeleteDir, Quota}
 use Rattle.meaning.specs.declared.call.Event.{Event}
 use Rattle.meaning.specs.declared.call.Event.TheVariants.{Login, Deposit, Examine, Call as Calls}
 use Rattle.meaning.specs.declared.call.Reply.{Reply}
@@ -31,6 +31,7 @@ job_undone job (Getsts ch) reply = job
 job_undone job Reset reply = job
 job_undone job (MakeDir e) reply = refused_at job e reply
 job_undone job (DeleteDir e) reply = refused_at job e reply
+job_undone job (Quota e) reply = refused_at job e reply
 
 abbrev pub call_undone : State → ℕ → Option Job → Call → Reply → State
 call_undone s n None call reply = s

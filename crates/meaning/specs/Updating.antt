@@ -5,7 +5,8 @@ use Rattle.meaning.specs.Costs.{blocks_of, version_cost}
 use Rattle.meaning.specs.Published.{Version, same_place, file_at}
 use Rattle.meaning.specs.Rights.{may_look, may_append, may_update}
 use Rattle.meaning.specs.Jobs.{Input, Update, Append, Output, Job, State}
-use Rattle.meaning.specs.Room.{Pack, is_claimed, exceeds_room}
+use Rattle.meaning.specs.Room.{Pack, is_claimed}
+use Rattle.meaning.specs.Charges.{exceeds_limits}
 use Rattle.meaning.specs.Looking.{is_absent, directory_digit_at, digit_at}
 use Rattle.meaning.specs.declared.call.Reply.{Reply}
 use Rattle.meaning.specs.declared.call.Reply.TheVariants.{Done, Refused}
@@ -19,13 +20,13 @@ abbrev pub present_cost : Option Version → ℕ
 present_cost None = 0
 present_cost (Some v) = version_cost (length v.file.body)
 
--- Whatever file has that place now is updated, in room for the whole of it.
+-- Whatever file has that place now is updated, in room for the whole of it, and the directory's quota has to leave as much.
 abbrev pub update_answer : Pack → State → Job → Place → Reply
 update_answer pack s job place =
     if is_absent s place then Refused 0
     else if not (may_look (directory_digit_at s job place)) || not (may_append (digit_at s job place)) then Refused 2
     else if is_claimed s place then Refused 3
-    else if exceeds_room pack s (present_cost (file_at s.files place)) then Refused 0o14
+    else if exceeds_limits pack s place.ppn (present_cost (file_at s.files place)) then Refused 0o14
     else Done
 
 -- the output side begins with the current version; who may only append begins after its last block

@@ -36,6 +36,8 @@ pub enum Call {
     MakeDir(u32),
     /// Removes an empty directory: the address of two words.
     DeleteDir(u32),
+    /// Gives a directory another quota: the address of two words, whose it is and, in the left half, the quota.
+    Quota(u32),
 }
 
 /// What happens to the service.

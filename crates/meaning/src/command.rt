@@ -28,4 +28,6 @@ pub enum Command {
     Protect(Spec, u32),
     /// Makes a directory, with a protection, where 0 means the usual one.
     MakeDir(Ppn, u32),
+    /// Gives a directory a quota: a number of blocks, where 0 means no limit.
+    Quota(Ppn, u32),
 }

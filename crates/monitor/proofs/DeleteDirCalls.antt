@@ -1,7 +1,7 @@
 -- DeleteDir is answered as the machine answers it.
 use Rattle.std.proofs.Common.{◌≡◌, ◌<◌, ◌+◌, ℕ, Bool, true, false, if◌then◌else◌, List, Option, None, Some, refl, sym}
 use Rattle.std.proofs.Common.{ap, ◌∙◌, ⊎_elim, inl, inr, arith}
-use Rattle.std.specs.Prelude.{◌==◌, not, is_none, option_map}
+use Rattle.std.specs.Prelude.{◌==◌, ◌||◌, ◌&&◌, not, is_none, option_map}
 use Rattle.std.proofs.lemmas.Bool.{cases_lt, eq-eqb}
 use Rattle.std.proofs.lemmas.Bool.Decides.{nat_tests}
 use Rattle.std.specs.Cmp.{nat_cmp_total}
@@ -9,24 +9,28 @@ use Rattle.std.specs.FinMap.{nat_cmp-IsAntisymmetric}
 use Rattle.std.specs.FinMap.Entries.{find}
 use Rattle.std.specs.Ordering.{nat_cmp}
 use Rattle.blockdisk.specs.Disk.{DiskState}
+use Rattle.meaning.specs.Charges.{quota_in, quota_of}
 use Rattle.meaning.specs.Cores.{lies_outside}
 use Rattle.meaning.specs.Files.{Files, Directory, map_directory}
 use Rattle.meaning.specs.Jobs.{State}
-use Rattle.meaning.specs.Making.{remove_answer}
+use Rattle.meaning.specs.Making.{may_not_remove, is_stranger, remove_answer}
 use Rattle.meaning.specs.Maps.{get, size, total}
 use Rattle.meaning.specs.Published.{Version, without_serials}
+use Rattle.meaning.specs.Rights.{system}
 use Rattle.meaning.specs.Room.{entry_count, names_in, pending_creations}
 use Rattle.meaning.specs.declared.call.Reply.{Reply}
 use Rattle.meaning.specs.declared.call.Reply.TheVariants.{Done, Refused, AddressCheck}
 use Rattle.volume.specs.Beginning.{entries_with, IsDirectoryOf}
+use Rattle.volume.specs.Charging.{quota_in_core, quota_in_files}
 use Rattle.volume.specs.Known.{KnownDirectory, IsWholeDirectory}
 use Rattle.volume.specs.Live.{VolumeCore, IsWholeCore, creates}
 use Rattle.volume.specs.RemovingDirectories.{HasEntries}
 use Rattle.volume.specs.Rest.{RestsAt}
 use Rattle.volume.proofs.Answering.{Holds, all_at_place}
+use Rattle.volume.proofs.Charges.{quota_same}
 use Rattle.volume.proofs.Lookups.{first_place}
 use Rattle.volume.proofs.MakingHeld.{element_at}
-use Rattle.monitor.specs.DeleteDirRows.{IsNowhere, IsThere, is_strange, IsKeptBy, IsRemovable}
+use Rattle.monitor.specs.DeleteDirRows.{IsNowhere, IsThere, is_kept_from, IsKeptBy, IsRemovable}
 use Rattle.monitor.specs.Sides.{UnderKeys, job_of, state_of}
 use Rattle.monitor.specs.declared.job.Job.{Job}
 use Rattle.monitor.proofs.Growths.{Matches, matches, shown_at}
@@ -80,6 +84,16 @@ module _ (d : DiskState) (c : VolumeCore) (files : Files Version) (w : UnderKeys
   counts_some : HasEntries c owner → 0 < entry_count t owner
   counts_some has = let count = entries_are has.0 has.1 in omega (arith, count, has.2)
 
+  -- it has the quota that it has there
+  quota_is : quota_in_core c owner ≡ quota_of t owner
+  quota_is = quota_same d c.known (without_serials files) holds owner ∙ ap quota_in_files (shown_at files owner)
+      ∙ by (get files owner)
+    where
+      by : (o : Option (Directory Version))
+          → quota_in_files (option_map (map_directory (λ (v : Version). v.file)) o) ≡ quota_in o
+      by None = refl
+      by (Some x) = refl
+
   -- The directory, as the machine has it.
   module _ (honest : d.honest) (rests : RestsAt d (without_serials files)) where
     pub none_of : IsNowhere d owner → get files owner ≡ None
@@ -126,7 +140,11 @@ module _ (d : DiskState) (c : VolumeCore) (files : Files Version) (w : UnderKeys
       gone = is_none (get files owner)
 
       abbrev strange : Bool
-      strange = is_strange job.ppn owner
+      strange = may_not_remove t (job_of w job) owner
+
+      -- the volume's test is the machine's
+      strange_is : is_kept_from c job.ppn owner ≡ strange
+      strange_is = λ i. is_stranger (job_of w job) owner || (not (quota_is i == 0) && not (job.ppn == system))
 
       abbrev empty : Bool
       empty = entry_count t owner == 0
@@ -140,15 +158,15 @@ module _ (d : DiskState) (c : VolumeCore) (files : Files Version) (w : UnderKeys
           (λ i. pick (inside i) (is_none (none i)) strange empty) ∙ ap Refused (sym one)
       refused_by code inside (inr (inl (two, there, other))) =
           let found = is_one there in
-          (λ i. pick (inside i) (found i) (other i) empty) ∙ ap Refused (sym two)
+          (λ i. pick (inside i) (found i) ((sym strange_is ∙ other) i) empty) ∙ ap Refused (sym two)
       refused_by code inside (inr (inr (full, there, own, has))) =
           let found = is_one there in
           let filled = some_entries (entry_count t owner) (counts_some has) in
-          (λ i. pick (inside i) (found i) (own i) (filled i)) ∙ ap Refused (sym full)
+          (λ i. pick (inside i) (found i) ((sym strange_is ∙ own) i) (filled i)) ∙ ap Refused (sym full)
 
       pub may_delete : outside ≡ false → IsRemovable d c job.ppn owner → answer ≡ Done
       may_delete inside (there, own, bare) =
           let found = is_one there in
           let none : (entry_count t owner == 0) ≡ true =
           eq-eqb (entry_count t owner) 0 (counts_none (one_of there) bare) in
-          (λ i. pick (inside i) (found i) (own i) (none i))
+          (λ i. pick (inside i) (found i) ((sym strange_is ∙ own) i) (none i))

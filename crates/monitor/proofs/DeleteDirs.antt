@@ -28,7 +28,7 @@ use Rattle.volume.specs.declared.pending.PendingVersion.{PendingVersion}
 use Rattle.volume.proofs.Answering.{directory_none, rest_holds, all_at_place}
 use Rattle.volume.proofs.Lookups.{first_place}
 use Rattle.volume.proofs.Pinning.{total_at}
-use Rattle.monitor.specs.DeleteDirRows.{IsNowhere, IsThere, is_strange, IsKeptBy}
+use Rattle.monitor.specs.DeleteDirRows.{IsNowhere, IsThere, is_kept_from, IsKeptBy}
 use Rattle.monitor.specs.Serving.{ArePlaced}
 
 -- The directory that is deleted is the one asked for.
@@ -69,7 +69,7 @@ there_by d owner failed answer alive value found honest f rests none =
 -- What the volume refuses by.
 pub kept_by : (d : DiskState) (c : VolumeCore) (ppn owner : ℕ) (code : ErrorCode)
     → (code ≡ NoDirectory) ⊎ (code ≡ NotEmpty) → (code ≡ NoDirectory → IsNowhere d owner)
-    → (code ≡ NotEmpty → HasEntries c owner) → IsThere d owner → is_strange ppn owner ≡ false
+    → (code ≡ NotEmpty → HasEntries c owner) → IsThere d owner → is_kept_from c ppn owner ≡ false
     → IsKeptBy d c ppn owner (number_of code)
 kept_by d c ppn owner code (inl is) nowhere filled there own = inl (ap number_of is, nowhere is)
 kept_by d c ppn owner code (inr is) nowhere filled there own = inr (inr (ap number_of is, there, own, filled is))

@@ -3,7 +3,7 @@ use Rattle.std.proofs.Common.{◌≡◌, ◌<◌, ℕ, ◌+◌, Bool, true, fals
 use Rattle.std.proofs.Common.{sym, ap, subst, ◌∙◌, ◌⊎◌, inl, inr, ⊎_elim, arith, slice_index}
 use Rattle.std.proofs.lemmas.Bool.Decides.{nat_tests}
 use Rattle.std.proofs.lemmas.Bool.{both_ways}
-use Rattle.std.specs.Prelude.{◌==◌, if◌then◌else◌, is_none, option_map, ◌↔◌}
+use Rattle.std.specs.Prelude.{◌==◌, ◌||◌, if◌then◌else◌, is_none, option_map, ◌↔◌}
 use Rattle.std.specs.Ordering.{nat_cmp}
 use Rattle.std.specs.Cmp.{nat_cmp_total}
 use Rattle.std.specs.FinMap.{nat_cmp-IsAntisymmetric}
@@ -11,6 +11,7 @@ use Rattle.std.specs.FinMap.Entries.{find}
 use Rattle.words36.specs.Words.{left, IsPpn}
 use Rattle.words36.specs.declared.names.FileName.{FileName}
 use Rattle.blockdisk.specs.Disk.{DiskState}
+use Rattle.meaning.specs.Charges.{exceeds_left, exceeds_limits}
 use Rattle.meaning.specs.Codes.{number_of}
 use Rattle.meaning.specs.Entering.{begin_answer}
 use Rattle.meaning.specs.Files.{Directory, Place, map_directory}
@@ -18,7 +19,7 @@ use Rattle.meaning.specs.Jobs.{State}
 use Rattle.meaning.specs.Looking.{own_if_zero, place_at}
 use Rattle.meaning.specs.Maps.{get}
 use Rattle.meaning.specs.Published.{Version, without_serials}
-use Rattle.meaning.specs.Room.{exceeds_room, has_no_room, entry_count, growth, names_in}
+use Rattle.meaning.specs.Room.{entry_count, growth, names_in}
 use Rattle.meaning.specs.Runs.{is_plain}
 use Rattle.meaning.specs.Stands.{place_of}
 use Rattle.meaning.specs.declared.code.ErrorCode.{ErrorCode}
@@ -48,6 +49,7 @@ use Rattle.monitor.specs.declared.found.Found.{Found}
 use Rattle.monitor.specs.declared.job.Job.{Job}
 use Rattle.monitor.proofs.Beginning.{home, listed, named_before, begin_reply, begin_is}
 use Rattle.monitor.proofs.Growths.{shown_at}
+use Rattle.monitor.proofs.Limits.{AllowsBegin, limits_are}
 
 -- the place that the words at an address name
 pub at_place : (w : UnderKeys) (job : Job) (address ppn : ℕ) (file : FileName)
@@ -115,14 +117,14 @@ module _ (d : DiskState) (map : VolumeCore) (s : State) (known : IsKnown d map s
 
   reply_is : (w : UnderKeys) (job : Job) (place : Place)
       → begin_answer_at (pack_of d) s (job_of w job) place
-      ≡ begin_reply (may job.ppn place) (exceeds_room (pack_of d) s (1 + growth (entry_count s place.ppn)))
-      (has_no_room (pack_of d) s)
+      ≡ begin_reply (may job.ppn place) (exceeds_limits (pack_of d) s place.ppn (1 + growth (entry_count s place.ppn)))
+      (exceeds_limits (pack_of d) s place.ppn 1)
   reply_is w job place =
       begin_is place.name place.ppn (job_of w job) (get s.files place.ppn) (place.name.name == 0) _ _ _
       ∙ (let shown = sym (shown_at s.files place.ppn) in
       λ i. begin_reply (allowed (found_in (shown i) place.name) job.ppn place.ppn (place.name.name
-      == 0) (known.claimed place i)) (exceeds_room (pack_of d) s (1 + growth (entry_count s place.ppn)))
-      (has_no_room (pack_of d) s))
+      == 0) (known.claimed place i)) (exceeds_limits (pack_of d) s place.ppn (1 + growth (entry_count s place.ppn)))
+      (exceeds_limits (pack_of d) s place.ppn 1))
 
   -- no directory has a number that is none
   pub no_directory : (place : Place) → (IsPpn place.ppn → ⊥) → get s.files place.ppn ≡ None
@@ -150,8 +152,8 @@ module _ (d : DiskState) (map : VolumeCore) (s : State) (known : IsKnown d map s
   pub refused : (w : UnderKeys) (job : Job) (place : Place) (code : ErrorCode) → may job.ppn place ≡ Err code
       → begin_answer_at (pack_of d) s (job_of w job) place ≡ replies.Refused (number_of code)
   refused w job place code is = reply_is w job place
-      ∙ ap (λ r. begin_reply r (exceeds_room (pack_of d) s (1 + growth (entry_count s place.ppn)))
-      (has_no_room (pack_of d) s)) is
+      ∙ ap (λ r. begin_reply r (exceeds_limits (pack_of d) s place.ppn (1 + growth (entry_count s place.ppn)))
+      (exceeds_limits (pack_of d) s place.ppn 1)) is
 
   -- how a version begins there
   abbrev pub begins_as : Place → VersionKind
@@ -172,7 +174,11 @@ module _ (d : DiskState) (map : VolumeCore) (s : State) (known : IsKnown d map s
   full kind place x old = nat_lt (space d.size) (map.known.table.booked + begin_cost kind
       (entries_with map x place.ppn) old)
 
-  -- There is a directory, in which a version may begin so, and what is answered goes by the room.
+  -- nor does its directory's quota leave as much
+  abbrev pub past : VersionKind → Place → KnownDirectory → Before → Bool
+  past kind place x old = exceeds_left s place.ppn (begin_cost kind (entries_with map x place.ppn) old)
+
+  -- There is a directory, in which a version may begin so, and what is answered goes by the room and the quota.
   pub record Begins (w : UnderKeys) (job : Job) (place : Place) (kind : VersionKind) : Type 0 where
     pub directory : KnownDirectory
     pub there : IsDirectoryOf map place.ppn directory
@@ -181,7 +187,7 @@ module _ (d : DiskState) (map : VolumeCore) (s : State) (known : IsKnown d map s
     pub named : IsNamed directory place.name old
     pub is_new : is_create kind ≡ is_none old
     pub answer : begin_answer_at (pack_of d) s (job_of w job) place
-        ≡ (if full kind place directory old then replies.Refused 0o14 else replies.Done)
+        ≡ (if full kind place directory old || past kind place directory old then replies.Refused 0o14 else replies.Done)
 
   pub begins : (w : UnderKeys) (job : Job) (place : Place) (kind : VersionKind) → may job.ppn place ≡ Ok kind
       → Begins w job place (begins_as place)
@@ -195,27 +201,30 @@ module _ (d : DiskState) (map : VolumeCore) (s : State) (known : IsKnown d map s
           → is_none old ≡ is_none was → may job.ppn place ≡ Ok kind
           → (is_none was ≡ true → kind ≡ kinds.Create) → (is_none was ≡ false → kind ≡ kinds.Supersede)
           → (is_create (begins_as place) ≡ is_none old) × (begin_answer_at (pack_of d) s (job_of w job) place
-          ≡ (if full (begins_as place) place x old then replies.Refused 0o14 else replies.Done))
+          ≡ (if full (begins_as place) place x old || past (begins_as place) place x old then replies.Refused 0o14
+          else replies.Done))
       by_room x D at count old None name none ok new present =
           subst (λ k. (is_create k ≡ is_none old) × (begin_answer_at (pack_of d) s (job_of w job) place
-          ≡ (if full k place x old then replies.Refused 0o14 else replies.Done)))
+          ≡ (if full k place x old || past k place x old then replies.Refused 0o14 else replies.Done)))
           (sym (kind_found place D at None name)) (
             sym none,
             reply_is w job place
-                ∙ ap (λ r. begin_reply r (exceeds_room (pack_of d) s (1 + growth (entry_count s place.ppn)))
-                (has_no_room (pack_of d) s)) (ok ∙ ap Ok (new refl))
+                ∙ ap (λ r. begin_reply r (exceeds_limits (pack_of d) s place.ppn (1 + growth (entry_count s place.ppn)))
+                (exceeds_limits (pack_of d) s place.ppn 1)) (ok ∙ ap Ok (new refl))
                 ∙ (λ i. if nat_lt (space d.size) (known.booked_is i + begin_cost kinds.Create (count i) old)
+                || exceeds_left s place.ppn (begin_cost kinds.Create (count i) old)
                 then replies.Refused 0o14 else replies.Done),
           )
       by_room x D at count old (Some v) name none ok new present =
           subst (λ k. (is_create k ≡ is_none old) × (begin_answer_at (pack_of d) s (job_of w job) place
-          ≡ (if full k place x old then replies.Refused 0o14 else replies.Done)))
+          ≡ (if full k place x old || past k place x old then replies.Refused 0o14 else replies.Done)))
           (sym (kind_found place D at (Some v) name)) (
             sym none,
             reply_is w job place
-                ∙ ap (λ r. begin_reply r (exceeds_room (pack_of d) s (1 + growth (entry_count s place.ppn)))
-                (has_no_room (pack_of d) s)) (ok ∙ ap Ok (present refl))
+                ∙ ap (λ r. begin_reply r (exceeds_limits (pack_of d) s place.ppn (1 + growth (entry_count s place.ppn)))
+                (exceeds_limits (pack_of d) s place.ppn 1)) (ok ∙ ap Ok (present refl))
                 ∙ (λ i. if nat_lt (space d.size) (known.booked_is i + begin_cost kinds.Supersede (count i) old)
+                || exceeds_left s place.ppn (begin_cost kinds.Supersede (count i) old)
                 then replies.Refused 0o14 else replies.Done),
           )
 
@@ -247,8 +256,19 @@ module _ (d : DiskState) (map : VolumeCore) (s : State) (known : IsKnown d map s
   -- What is answered by what the volume answers.
   module _ (w : UnderKeys) (job : Job) (place : Place) (kind : VersionKind) (b : Begins w job place kind) where
     begun : (space d.size < map.known.table.booked + begin_cost kind (entries_with map b.directory place.ppn) b.old
-        → ⊥) → begin_answer_at (pack_of d) s (job_of w job) place ≡ replies.Done
-    begun fits = b.answer ∙ ap (λ t. if t then replies.Refused 0o14 else replies.Done) (not_less _ _ fits)
+        → ⊥) → past kind place b.directory b.old ≡ false
+        → begin_answer_at (pack_of d) s (job_of w job) place ≡ replies.Done
+    begun fits left = let room = not_less _ _ fits in
+        b.answer ∙ (λ i. if room i || left i then replies.Refused 0o14 else replies.Done)
+
+    -- the quota leaves too little
+    limited : past kind place b.directory b.old ≡ true
+        → begin_answer_at (pack_of d) s (job_of w job) place ≡ replies.Refused 0o14
+    limited many = b.answer ∙ either (full kind place b.directory b.old) (past kind place b.directory b.old) many
+      where
+        either : (a b : Bool) → b ≡ true → (if a || b then replies.Refused 0o14 else replies.Done) ≡ replies.Refused 0o14
+        either true b is = refl
+        either false b is = ap (λ t. if t then replies.Refused 0o14 else replies.Done) is
 
     -- the name is there as the kind has it
     absent_is : is_absent place.name b.directory ≡ is_create kind
@@ -269,12 +289,12 @@ module _ (d : DiskState) (map : VolumeCore) (s : State) (known : IsKnown d map s
         absurd (both_ways (is_create kind) (sym absent_is ∙ said.1) said.0))
         (⊎_elim (λ is. let said = none (ap errors.Refused is) in
         absurd (both_ways (is_create kind) said.0 (sym absent_is ∙ said.1)))
-        (λ is. b.answer ∙ ap (λ t. if t then replies.Refused 0o14 else replies.Done)
+        (λ is. b.answer ∙ ap (λ t. if t || past kind place b.directory b.old then replies.Refused 0o14 else replies.Done)
         (less _ _ (many (ap errors.Refused is))) ∙ ap (λ c. replies.Refused (number_of c)) (sym is))))
         (codes code refl)
     not_begun X errors.Device gone exists none many codes device failed = device refl
     not_begun X errors.NoMemory gone exists none many codes device failed = ap is_plain b.answer
-        ∙ plain (full kind place b.directory b.old)
+        ∙ plain (full kind place b.directory b.old || past kind place b.directory b.old)
       where
         plain : (t : Bool) → is_plain (if t then replies.Refused 0o14 else replies.Done) ≡ false
         plain true = refl
@@ -288,6 +308,25 @@ module _ (d : DiskState) (map : VolumeCore) (s : State) (known : IsKnown d map s
       subst (λ (n : ℕ). MayBegin found job n prime.file) (sym p)
       (subst (λ (x : FileName). MayBegin found job ppn x) (sym f) there)
 
+  -- what it begins with there
+  begins_at : (w : UnderKeys) (job : Job) (found : Found) (kind : VersionKind) (ppn : ℕ) (file : FileName)
+      → MayBegin found job ppn file → kind ≡ kind_for found → Begins w job (place_of ppn file) kind
+  begins_at w job found kind ppn file there kind_is =
+      subst (Begins w job (place_of ppn file)) (sym (kind_is ∙ ap kind_for there.0))
+      (begins w job (place_of ppn file) there.1.0
+      (ap (λ x. allowed x job.ppn ppn (file.name == 0) (claims map.pending (place_of ppn file))) (sym there.0)
+      ∙ there.1.1))
+
+  -- where the directory's quota leaves less than it costs
+  pub limited_at : (w : UnderKeys) (job : Job) (found : Found) (kind : VersionKind) (ppn : ℕ) (file : FileName)
+      → MayBegin found job ppn file → kind ≡ kind_for found → (allows : Bool) → allows ≡ false
+      → AllowsBegin map ppn file kind allows
+      → begin_answer_at (pack_of d) s (job_of w job) (place_of ppn file) ≡ replies.Refused 0o14
+  limited_at w job found kind ppn file there kind_is allows refuses quota =
+      let b = begins_at w job found kind ppn file there kind_is in
+      limited w job (place_of ppn file) kind b ((limits_are d map s known sound honest ppn _).0
+      ((quota b.directory b.there b.old b.named).0 refuses))
+
   -- The same, where the prime block says the place.
   module _ {X : Type 0} (w : UnderKeys) (job : Job) (found : Found) (kind : VersionKind) (prime : Prime)
       (result : Result X CallError) (there : MayBegin found job prime.ppn prime.file) (kind_is : kind ≡ kind_for found)
@@ -296,20 +335,22 @@ module _ (d : DiskState) (map : VolumeCore) (s : State) (known : IsKnown d map s
       → (result ≡ Err (errors.Refused NoRoom)
       ↔ (space d.size < map.known.table.booked + begin_cost kind (entries_with map x prime.ppn) old))) where
     begins_here : Begins w job (place_of prime.ppn prime.file) kind
-    begins_here = subst (Begins w job (place_of prime.ppn prime.file)) (sym (kind_is ∙ ap kind_for there.0))
-        (begins w job (place_of prime.ppn prime.file) there.1.0
-        (ap (λ x. allowed x job.ppn prime.ppn (prime.file.name == 0) (claims map.pending
-        (place_of prime.ppn prime.file))) (sym there.0) ∙ there.1.1))
+    begins_here = begins_at w job found kind prime.ppn prime.file there kind_is
 
     room_here : result ≡ Err (errors.Refused NoRoom)
         ↔ (space d.size < map.known.table.booked + begin_cost kind
         (entries_with map begins_here.directory prime.ppn) begins_here.old)
     room_here = room begins_here.directory begins_here.there begins_here.old begins_here.named begins_here.is_new
 
-    pub begun_at : (x : X) → result ≡ Ok x
+    -- where the quota leaves what it costs
+    pub begun_at : (x : X) → result ≡ Ok x → (allows : Bool) → allows ≡ true
+        → AllowsBegin map prime.ppn prime.file kind allows
         → begin_answer_at (pack_of d) s (job_of w job) (place_of prime.ppn prime.file) ≡ replies.Done
-    begun_at x is = begun w job (place_of prime.ppn prime.file) kind begins_here
+    begun_at x is allows so quota = begun w job (place_of prime.ppn prime.file) kind begins_here
         (λ many. let no = room_here.1 many in cc (is, no))
+        ((limits_are d map s known sound honest prime.ppn _).1
+        (λ over. both_ways allows
+        ((quota begins_here.directory begins_here.there begins_here.old begins_here.named).1 over) so))
 
     pub not_begun_at : (Y : Type 0) (error : CallError) → result ≡ Err error
         → (result ≡ Err (errors.Refused NoDirectory) → find nat_cmp prime.ppn map.known.master.entries ≡ None)

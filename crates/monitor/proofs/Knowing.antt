@@ -13,7 +13,7 @@ use Rattle.monitor.specs.Finding.{IsKnown}
 use Rattle.monitor.specs.Serving.{IsState}
 use Rattle.monitor.specs.declared.job.Job.{Job}
 use Rattle.monitor.proofs.Claiming.{one_if, same_any}
-use Rattle.monitor.proofs.Rooms.{sum_is, creations_are, booked_is}
+use Rattle.monitor.proofs.Rooms.{sum_is, creations_are, written_are, booked_is}
 
 module _ (d : DiskState) (map : VolumeCore) (jobs : List (Option Job)) (s : State) (state : IsState d map jobs s) where
   claimed_is : (place : Place) → is_claimed s place ≡ claims map.pending place
@@ -30,5 +30,6 @@ module _ (d : DiskState) (map : VolumeCore) (jobs : List (Option Job)) (s : Stat
         booked_is = booked_is d map jobs s state sound.whole holds
             ∙ sym (volume.booked_is d map (without_serials s.files) sound.whole holds);
         creations = creations_are d map jobs s state;
+        written = written_are d map jobs s state sound.whole;
         claimed = claimed_is;
       }

@@ -29,6 +29,7 @@ pub mod MakeDirs
 pub mod Closes
 pub mod Claiming
 pub mod Knowing
+pub mod Limits
 pub mod Beginning
 pub mod Entering
 pub mod Enters
@@ -93,6 +94,9 @@ pub mod DeleteDirCalls
 pub mod DeleteDirStates
 pub mod DeleteDirs
 pub mod DeleteDirAnswers
+pub mod QuotaCalls
+pub mod QuotaStates
+pub mod QuotaAnswers
 pub mod MovedFiles
 pub mod MovedCore
 pub mod ReadsMoved

@@ -1,47 +1,55 @@
 -- What the machine answers to a RENAME that moves a file, by what the volume answers.
 use Rattle.std.proofs.Common.{◌≡◌, ◌≢◌, ◌⊎◌, ℕ, ◌+◌, ◌<◌, ◌≤◌, Bool, true, false, if◌then◌else◌, Option, None, Some}
 use Rattle.std.proofs.Common.{Result, Err, refl, sym, ap, subst, ◌∙◌, ⊎_elim, arith}
-use Rattle.std.specs.Prelude.{◌↔◌, ◌==◌, ◌&&◌, not, is_none, nat_lt}
-use Rattle.std.proofs.lemmas.Bool.{cases_Bool, eq-eqb, ne_eqb}
+use Rattle.std.specs.Prelude.{◌↔◌, ◌==◌, ◌&&◌, ◌||◌, not, is_none, nat_lt, option_map}
+use Rattle.std.proofs.lemmas.Bool.{both_ways, cases_Bool, eq-eqb, ne_eqb}
 use Rattle.std.proofs.lemmas.Bool.Decides.{nat_tests}
 use Rattle.std.specs.Ordering.{nat_cmp}
 use Rattle.std.specs.FinMap.Entries.{find}
 use Rattle.words36.specs.declared.names.FileName.{FileName}
 use Rattle.blockdisk.specs.Disk.{DiskState}
+use Rattle.meaning.specs.Charges.{exceeds_left}
 use Rattle.meaning.specs.Codes.{number_of}
-use Rattle.meaning.specs.Files.{Directory, Place, name_cmp}
+use Rattle.meaning.specs.Files.{Directory, Place, map_directory, name_cmp}
 use Rattle.meaning.specs.Jobs as machine
 use Rattle.meaning.specs.Jobs.{State}
 use Rattle.meaning.specs.Looking.{place_at, has_no_directory, is_absent, directory_digit_at}
 use Rattle.meaning.specs.Maps.{get}
 use Rattle.meaning.specs.Published.{Version, without_serials, file_in, file_at, same_place}
-use Rattle.meaning.specs.Renaming.{deletes_at, is_forbidden, crowds, move_answer, rename_from}
+use Rattle.meaning.specs.Renaming.{deletes_at, is_forbidden, crowds, overfills, move_answer, rename_from}
 use Rattle.meaning.specs.Rights.{may_look, may_create}
 use Rattle.meaning.specs.Room.{Pack, names_in, is_claimed, entry_count, growth, booked, has_no_room}
 use Rattle.meaning.specs.Runs.{is_plain}
 use Rattle.meaning.specs.Stands.{place_of}
+use Rattle.meaning.specs.Updating.{present_cost}
 use Rattle.meaning.specs.declared.code.ErrorCode.{ErrorCode}
 use Rattle.meaning.specs.declared.code.ErrorCode.TheVariants.{NoDirectory, NotFound, NameExists, NoRoom}
 use Rattle.meaning.specs.declared.call.Reply.{Reply}
 use Rattle.meaning.specs.declared.call.Reply.TheVariants as replies
+use Rattle.meaning.proofs.MapLists.{get-map_values}
+use Rattle.meaning.proofs.Names.{name_total}
 use Rattle.meaning.proofs.PlaceLaws.{directory_of_file}
 use Rattle.meaning.proofs.SoundLaws.{same_place-equal}
 use Rattle.alloctab.specs.TableState.{space}
 use Rattle.meaning.specs.Layouts.{pack_of}
 use Rattle.volume.specs.Beginning.{entries_with, IsDirectoryOf}
-use Rattle.volume.specs.Known.{KnownDirectory}
+use Rattle.volume.specs.Charging.{IsOver}
+use Rattle.volume.specs.Known.{KnownDirectory, cost_of_version}
 use Rattle.volume.specs.Live.{VolumeCore}
 use Rattle.volume.specs.Moving.{HasFile, HasNoRoom}
 use Rattle.volume.specs.Rest.{IsSoundCore}
 use Rattle.volume.specs.declared.error.CallError.{CallError}
 use Rattle.volume.specs.declared.error.CallError.TheVariants.{Refused}
 use Rattle.volume.proofs.Answering.{Holds, rest_holds}
+use Rattle.volume.proofs.BegunFiles.{IsFileKnown, file_known}
 use Rattle.monitor.specs.Arriving.{arrival_answer}
 use Rattle.monitor.specs.Changing.{change_answer}
 use Rattle.monitor.specs.Finding.{IsKnown}
 use Rattle.monitor.proofs.Beginning.{IsHome, home, home_of, listed}
 use Rattle.monitor.proofs.ChangeAnswers.{rename_goes_on, changed_there}
 use Rattle.monitor.proofs.Entering.{less}
+use Rattle.monitor.proofs.Growths.{shown_at}
+use Rattle.monitor.proofs.Limits.{AllowsMove, LimitsAre, limits_are}
 
 -- The answer, by its tests.
 
@@ -121,7 +129,7 @@ module _ (pack : Pack) (s : State) (job : machine.Job) (e : ℕ) (old new : Plac
       reply is other
 
   arrived : arrival_answer s job old new ≡ replies.Done
-      → answer ≡ (if crowds pack s old new then replies.Refused 0o14 else replies.Done)
+      → answer ≡ (if crowds pack s old new || overfills s old new then replies.Refused 0o14 else replies.Done)
   arrived is = comes_done (has_no_directory s new)
       (not (new.ppn == old.ppn) && not (may_create (directory_digit_at s job new)))
       (not (same_place new old) && not (is_absent s new)) (not (same_place new old) && is_claimed s new) _ is
@@ -149,7 +157,7 @@ module _ (pack : Pack) (s : State) (job : machine.Job) (e : ℕ) (old new : Plac
         else if not (new.ppn == old.ppn) && not (may_create (directory_digit_at s job new)) then replies.Refused 2
         else if not (same_place new old) && not (is_absent s new) then replies.Refused 4
         else if not (same_place new old) && is_claimed s new then replies.Refused 3
-        else if crowds pack s old new then replies.Refused 0o14
+        else if crowds pack s old new || overfills s old new then replies.Refused 0o14
         else replies.Done) none
 
 -- the answer of a RENAME of what a channel reads isn't one that is found before memory and the disk are needed
@@ -163,7 +171,7 @@ rename_late pack s job e old =
     (comes_plain (has_no_directory s new)
     (not (new.ppn == old.ppn) && not (may_create (directory_digit_at s job new)))
     (not (same_place new old) && not (is_absent s new)) (not (same_place new old) && is_claimed s new)
-    (crowds pack s old new)))
+    (crowds pack s old new || overfills s old new)))
 
 -- What a volume answers to a move, where it hasn't failed.
 pub record IsMoveAnswer (size : ℕ) (c : VolumeCore) (ppn : ℕ) (name : FileName) (to_ppn : ℕ) (to : FileName)
@@ -306,17 +314,73 @@ module _ (d : DiskState) (c : VolumeCore) (s : State) (known : IsKnown d c s) (s
       let full = less (space d.size) (booked s + 1) (omega arith) in
       λ i. not (other i) && not (some i == 0) && full i
 
-  module _ (answer : Result (Unit {0}) CallError) (is : IsMoveAnswer d.size c ppn name to_ppn to answer) where
-    from_room : rename_from pack s job e old
-        ≡ (if crowds pack s old new then replies.Refused 0o14 else replies.Done)
-    from_room = at_new pack s job e old new place moves changes ∙ arrived pack s job e old new comes
+  from_room : rename_from pack s job e old
+      ≡ (if crowds pack s old new || overfills s old new then replies.Refused 0o14 else replies.Done)
+  from_room = at_new pack s job e old new place moves changes ∙ arrived pack s job e old new comes
 
+  -- The quota of the new directory.
+
+  from_files : (x : Version) → file_at s.files old ≡ Some x → IsFileKnown c ppn name x.file
+  from_files x there =
+      let at = directory_of_file s.files old x there in
+      file_known d c false sound honest refl (without_serials s.files) known.files ppn name
+      (map_directory (λ (v : Version). v.file) at.0) (shown_at s.files ppn
+      ∙ ap (option_map (map_directory (λ (v : Version). v.file))) at.1) x.file
+      (get-map_values name_total (λ (v : Version). v.file) at.0.files name
+      ∙ ap (option_map (λ (v : Version). v.file)) at.2)
+
+  -- so many blocks the file needs there
+  abbrev needs : ℕ
+  needs = present_cost (file_at s.files old) + growth (entry_count s to_ppn)
+
+  module _ (allows : Bool) (quota : AllowsMove c ppn name to_ppn allows) where
+    quota_here : (allows ≡ false) ↔ ((ppn ≡ to_ppn → ⊥) × IsOver c to_ppn needs)
+    quota_here =
+        let is = from_files moves_from.0 moves_from.1 in
+        let h = home_at to_ppn to moves_home.0 moves_home.1 in
+        let cost : cost_of_version is.version.1 ≡ present_cost (file_at s.files old) =
+        is.cost ∙ ap present_cost (sym moves_from.1) in
+        subst (λ (n : ℕ). (allows ≡ false) ↔ ((ppn ≡ to_ppn → ⊥) × IsOver c to_ppn n))
+        (λ i. cost i + growth (sym (counted_at h.known h.there) i))
+        (quota is.directory h.known is.there h.there (Some is.version) is.named)
+
+    limits : LimitsAre c s
+    limits = limits_are d c s known sound honest
+
+    -- it leaves as much, or the file stays in its directory
+    leaves_it : allows ≡ true → overfills s old new ≡ false
+    leaves_it so = ⊎_elim
+        (λ (same : (to_ppn == ppn) ≡ true). ap (λ b. not b && exceeds_left s to_ppn needs) same)
+        (λ (other : (to_ppn == ppn) ≡ false).
+        let apart : ppn ≡ to_ppn → ⊥ = λ same. both_ways (to_ppn == ppn) other (eq-eqb to_ppn ppn (sym same)) in
+        let left = (limits to_ppn needs).1 (λ over. both_ways allows (quota_here.1 (apart, over)) so) in
+        λ i. not (other i) && left i)
+        (cases_Bool (to_ppn == ppn))
+
+    refuses_it : allows ≡ false → overfills s old new ≡ true
+    refuses_it refuses =
+        let why = quota_here.0 refuses in
+        let other = ne_eqb to_ppn ppn (λ same. why.0 (sym same)) in
+        let past = (limits to_ppn needs).0 why.1 in
+        λ i. not (other i) && past i
+
+    -- what the quota refuses
+    pub moves_limited : allows ≡ false → rename_from pack s job e old ≡ replies.Refused 0o14
+    moves_limited refuses = from_room ∙ either (crowds pack s old new) (overfills s old new) (refuses_it refuses)
+      where
+        either : (a b : Bool) → b ≡ true → (if a || b then replies.Refused 0o14 else replies.Done) ≡ replies.Refused 0o14
+        either true b is = refl
+        either false b is = ap (λ t. if t then replies.Refused 0o14 else replies.Done) is
+
+  module _ (answer : Result (Unit {0}) CallError) (is : IsMoveAnswer d.size c ppn name to_ppn to answer) where
     -- what isn't refused for want of room isn't by the machine
-    pub moves_done : (answer ≡ Err (Refused NoRoom) → ⊥) → rename_from pack s job e old ≡ replies.Done
-    moves_done fits = from_room ∙ ⊎_elim
+    pub moves_done : (answer ≡ Err (Refused NoRoom) → ⊥) → (allows : Bool) → allows ≡ true
+        → AllowsMove c ppn name to_ppn allows → rename_from pack s job e old ≡ replies.Done
+    moves_done fits allows so quota = from_room ∙ ⊎_elim
         (λ (full : crowds pack s old new ≡ true). let no = crowded full in
         absurd (fits (is.no_room.1 (has_file, no.0, no.1))))
-        (λ room. ap (λ b. if b then replies.Refused 0o14 else replies.Done) room)
+        (λ room. let left = leaves_it allows quota so in
+        λ i. if room i || left i then replies.Refused 0o14 else replies.Done)
         (cases_Bool (crowds pack s old new))
 
     -- and it is for nothing else
@@ -340,6 +404,7 @@ module _ (d : DiskState) (c : VolumeCore) (s : State) (known : IsKnown d c s) (s
         absurd (there.2 (none_of _ (entered_at to_ppn to there.0 there.1 ∙ ap is_none free))))
         (λ (last : code ≡ NoRoom).
         let no = is.no_room.0 (refused ∙ ap (λ k. Err (Refused k)) last) in
-        from_room ∙ ap (λ b. if b then replies.Refused 0o14 else replies.Done) (not_crowded no.1 no.2)
+        from_room ∙ ap (λ b. if b || overfills s old new then replies.Refused 0o14 else replies.Done)
+        (not_crowded no.1 no.2)
         ∙ ap (λ k. replies.Refused (number_of k)) (sym last))
         rest') rest) (is.codes code refused)

@@ -57,6 +57,7 @@ use Rattle.monitor.proofs.Called.{quiet_failed}
 use Rattle.monitor.proofs.InputsClosed.{input_behind}
 use Rattle.monitor.proofs.Knowing.{known}
 use Rattle.monitor.proofs.MovedCore.{MovesFile, moves_within, moves_across}
+use Rattle.monitor.proofs.Limits.{AllowsMove}
 use Rattle.monitor.proofs.MovedFiles.{shown_moved}
 use Rattle.monitor.proofs.MovedStates.{readers_moved, moved_keyed, moved_reading, moved_placed, moved_state}
 use Rattle.monitor.proofs.MoveReplies.{IsMoveAnswer, moves_from, moves_home, moves_free, moves_done, moves_refused}
@@ -132,7 +133,8 @@ module _ {D : Type 0} (state : D → DiskState) (only_now : (disk : D) (contents
     (changes : (state disk).honest → (s : State) → IsKnown (state disk) core s → (w : UnderKeys)
     → change_answer s (job_of w job) e (place_of input.ppn input.file) ≡ replies.Done)
     (comes : (state disk).honest → (s : State) → IsKnown (state disk) core s → (w : UnderKeys)
-    → arrival_answer s (job_of w job) (place_of input.ppn input.file) (place_of to_ppn to) ≡ replies.Done) where
+    → arrival_answer s (job_of w job) (place_of input.ppn input.file) (place_of to_ppn to) ≡ replies.Done)
+    (allows : Bool) (so : allows ≡ true) (quota : AllowsMove core input.ppn input.file to_ppn allows) where
   abbrev d : DiskState
   d = state disk
 
@@ -202,7 +204,7 @@ module _ {D : Type 0} (state : D → DiskState) (only_now : (disk : D) (contents
           (row_done d s.files w jobs n job among.there number e moment (timely honest) channel is_open input side free
           inside
           (moves_done d core t here sound honest (job_of w job) e input.ppn input.file to_ppn to (place w) moves
-          (changes honest t here w) (comes honest t here w) answer says.answers fits) serial
+          (changes honest t here w) (comes honest t here w) answer says.answers fits allows so quota) serial
           ∙ ap (λ fs. (replies.Done, state_of fs w moved_jobs)) files_are)
 
     -- A crash.

@@ -42,6 +42,7 @@ use Rattle.monitor.proofs.Calling.{channel_is, channel_set}
 use Rattle.monitor.proofs.Dropped.{same_or_not, leaves_none}
 use Rattle.monitor.proofs.EnterServing.{with_same, with_other}
 use Rattle.monitor.proofs.Knowing.{known}
+use Rattle.monitor.proofs.Limits.{LimitsAre, limits_are}
 use Rattle.monitor.proofs.OutServing.{none_found, place_found, put_writing, writing_put, state_put}
 use Rattle.monitor.proofs.ReadStays.{reads_kept}
 use Rattle.monitor.proofs.Usetos.{on_row, on_none}
@@ -214,6 +215,7 @@ module _ (d d' : DiskState) (map map' : VolumeCore) (jobs jobs' : List (Option J
       (record { words = out.words; core = out.core }) out.found false
       (place_found d map (state_of s.files state.under jobs) state.under out.at.output p (state.versions key p at)
       (subst (λ y. booked y ≡ map.known.table.booked) s_is (known d map jobs s state sound honest).booked_is)
+      (subst (LimitsAre map) s_is (limits_are d map s (known d map jobs s state sound honest) sound honest))
       (length out.words) put.fits)
       ∙ ap (λ y. (
         Done,
@@ -268,7 +270,9 @@ module _ (d : DiskState) (map : VolumeCore) (failed : Bool) (jobs jobs' : List (
       (record { words = out.words; core = out.core }) out.found true
       (none_found d map (state_of s.files state.under jobs) state.under out.at.output p
       (state.versions out.at.output.pending.key p at) (subst (λ y. booked y ≡ map.known.table.booked) before_is
-      (known d map jobs s state sound honest).booked_is) (length out.words) none)
+      (known d map jobs s state sound honest).booked_is)
+      (subst (LimitsAre map) before_is (limits_are d map s (known d map jobs s state sound honest) sound honest))
+      (length out.words) none)
       ∙ ap (λ m. (
         Stopped m,
         with_job (state_of s.files state.under jobs) n

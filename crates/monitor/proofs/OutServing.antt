@@ -2,20 +2,23 @@
 use Rattle.std.proofs.Common.{◌≡◌, ◌<◌, ◌≤◌, ◌+◌, ◌-◌, ℕ, Bool, true, false, List, [], ◌∷◌, length, map, Option, None}
 use Rattle.std.proofs.Common.{Some, refl, sym, ap, ◌∙◌, ◌⊎◌, inl, inr, arith, slice_set}
 use Rattle.std.specs.Prelude.{◌==◌, ◌&&◌, ◌||◌, not, nat_lt, option_map, option_to_list, filter_map}
+use Rattle.std.proofs.lemmas.Bool.{both_ways}
 use Rattle.std.proofs.lemmas.Bool.Decides.{nat_tests}
 use Rattle.blockdisk.specs.Disk.{DiskState}
+use Rattle.meaning.specs.Charges.{exceeds_left}
 use Rattle.meaning.specs.Costs.{blocks_of, version_cost}
 use Rattle.meaning.specs.Files.{Files}
 use Rattle.meaning.specs.Jobs as machine
 use Rattle.meaning.specs.Jobs.{State, slot, with_channel, with_job}
 use Rattle.meaning.specs.Outcomes.{clean}
-use Rattle.meaning.specs.Outputs.{longest, is_before_end, finds_no_place, put_on}
+use Rattle.meaning.specs.Outputs.{longest, is_before_end, outgrows, finds_no_place, put_on}
 use Rattle.meaning.specs.Published.{Version}
 use Rattle.meaning.specs.Room.{booked}
 use Rattle.meaning.specs.Splices.{splice, length_after}
 use Rattle.meaning.proofs.MapSums.{times_head}
 use Rattle.alloctab.specs.TableState.{space}
 use Rattle.meaning.specs.Layouts.{pack_of}
+use Rattle.volume.specs.Charging.{rise, IsTooLong, Outgrows}
 use Rattle.volume.specs.Live.{VolumeCore, pending_at}
 use Rattle.volume.specs.declared.pending.PendingVersion.{PendingVersion}
 use Rattle.monitor.specs.Putting.{FindsNone, moved}
@@ -26,18 +29,19 @@ use Rattle.monitor.specs.declared.channel.Channel.{Channel}
 use Rattle.monitor.specs.declared.output.Output.{Output}
 use Rattle.monitor.specs.declared.job.Job.{Job}
 use Rattle.monitor.proofs.EnterServing.{with_writing, with_same, jobs_same}
+use Rattle.monitor.proofs.Limits.{LimitsAre}
 use Rattle.monitor.proofs.SideLists.{count, count-append, count-channel, count-set, map-set}
 use Rattle.monitor.proofs.Slots.{set-twice}
 
 -- Whether so many words find a place.
 
--- none to put; too long; too many blocks; before the end
-abbrev chain : Bool → Bool → Bool → Bool → Bool
-chain empty long many before = not empty && (long || many || before)
+-- none to put; too long; too many blocks; more than the quota leaves; before the end
+abbrev chain : Bool → Bool → Bool → Bool → Bool → Bool
+chain empty long many grown before = not empty && (long || many || grown || before)
 
 -- by how many there are, how long the version is then, how many blocks there are, and how many it makes
-abbrev crowds : ℕ → ℕ → ℕ → ℕ → Bool → Bool
-crowds n long size blocks before = chain (n == 0) (nat_lt longest long) (nat_lt size blocks) before
+abbrev crowds : ℕ → ℕ → ℕ → ℕ → Bool → Bool → Bool
+crowds n long size blocks grown before = chain (n == 0) (nat_lt longest long) (nat_lt size blocks) grown before
 
 after : (a b : ℕ) → a < b → nat_lt a b ≡ true
 after a b less = grind (arith, nat_tests)
@@ -51,54 +55,104 @@ some_of n is = grind (arith, nat_tests)
 not_none : (n : ℕ) → 0 < n → (n == 0) ≡ false
 not_none n some = grind (arith, nat_tests)
 
-crowded : (n long size blocks : ℕ) (before : Bool)
-    → (0 < n) × ((longest < long) ⊎ (size < blocks) ⊎ (before ≡ true)) → crowds n long size blocks before ≡ true
-crowded n long size blocks before (some, why) = ap (λ z. chain z (nat_lt longest long) (nat_lt size blocks) before)
-    (not_none n some) ∙ by (nat_lt longest long) (nat_lt size blocks) before (each why)
+-- what speaks against them
+abbrev Reasons : ℕ → ℕ → ℕ → Bool → Bool → Type 0
+Reasons long size blocks grown before =
+    (longest < long) ⊎ (size < blocks) ⊎ (grown ≡ true) ⊎ (before ≡ true)
+
+crowded : (n long size blocks : ℕ) (grown before : Bool) → (0 < n) × Reasons long size blocks grown before
+    → crowds n long size blocks grown before ≡ true
+crowded n long size blocks grown before (some, why) =
+    ap (λ z. chain z (nat_lt longest long) (nat_lt size blocks) grown before) (not_none n some)
+    ∙ by (nat_lt longest long) (nat_lt size blocks) grown before (each why)
   where
-    each : (longest < long) ⊎ (size < blocks) ⊎ (before ≡ true)
-        → (nat_lt longest long ≡ true) ⊎ (nat_lt size blocks ≡ true) ⊎ (before ≡ true)
+    each : Reasons long size blocks grown before
+        → (nat_lt longest long ≡ true) ⊎ (nat_lt size blocks ≡ true) ⊎ (grown ≡ true) ⊎ (before ≡ true)
     each (inl past) = inl (after longest long past)
     each (inr (inl past)) = inr (inl (after size blocks past))
-    each (inr (inr is)) = inr (inr is)
+    each (inr (inr (inl is))) = inr (inr (inl is))
+    each (inr (inr (inr is))) = inr (inr (inr is))
 
-    by : (a b e : Bool) → (a ≡ true) ⊎ (b ≡ true) ⊎ (e ≡ true) → chain false a b e ≡ true
-    by true b e is = refl
-    by false true e is = refl
-    by false false true is = refl
-    by false false false (inl is) = is
-    by false false false (inr (inl is)) = is
-    by false false false (inr (inr is)) = is
+    by : (a b c e : Bool) → (a ≡ true) ⊎ (b ≡ true) ⊎ (c ≡ true) ⊎ (e ≡ true) → chain false a b c e ≡ true
+    by true b c e is = refl
+    by false true c e is = refl
+    by false false true e is = refl
+    by false false false true is = refl
+    by false false false false (inl is) = is
+    by false false false false (inr (inl is)) = is
+    by false false false false (inr (inr (inl is))) = is
+    by false false false false (inr (inr (inr is))) = is
 
-free : (n long size blocks : ℕ) (before : Bool)
-    → ((0 < n) × ((longest < long) ⊎ (size < blocks) ⊎ (before ≡ true)) → ⊥)
-    → crowds n long size blocks before ≡ false
-free n long size blocks before not_so =
-    by (n == 0) (nat_lt longest long) (nat_lt size blocks) before refl refl refl refl
+free : (n long size blocks : ℕ) (grown before : Bool) → ((0 < n) × Reasons long size blocks grown before → ⊥)
+    → crowds n long size blocks grown before ≡ false
+free n long size blocks grown before not_so =
+    by (n == 0) (nat_lt longest long) (nat_lt size blocks) grown before refl refl refl refl refl
   where
-    by : (z a b e : Bool) → (n == 0) ≡ z → nat_lt longest long ≡ a → nat_lt size blocks ≡ b → before ≡ e
-        → chain z a b e ≡ false
-    by true a b e is p q r = refl
-    by false true b e is p q r = absurd (not_so (some_of n is, inl (less_of longest long p)))
-    by false false true e is p q r = absurd (not_so (some_of n is, inr (inl (less_of size blocks q))))
-    by false false false true is p q r = absurd (not_so (some_of n is, inr (inr r)))
-    by false false false false is p q r = refl
+    by : (z a b c e : Bool) → (n == 0) ≡ z → nat_lt longest long ≡ a → nat_lt size blocks ≡ b → grown ≡ c → before ≡ e
+        → chain z a b c e ≡ false
+    by true a b c e is p q g r = refl
+    by false true b c e is p q g r = absurd (not_so (some_of n is, inl (less_of longest long p)))
+    by false false true c e is p q g r = absurd (not_so (some_of n is, inr (inl (less_of size blocks q))))
+    by false false false true e is p q g r = absurd (not_so (some_of n is, inr (inr (inl g))))
+    by false false false false true is p q g r = absurd (not_so (some_of n is, inr (inr (inr r))))
+    by false false false false false is p q g r = refl
+
+-- A version grows by more than the quota leaves.
+module _ (map : VolumeCore) (s : State) (limits : LimitsAre map s) (p : PendingVersion) (next n : ℕ) where
+  abbrev more : ℕ
+  more = rise p next n
+
+  abbrev grows : Bool
+  grows = outgrows s p.prime.ppn more
+
+  grows_so : Outgrows map p next n → grows ≡ true
+  grows_so (some, over) = let past = (limits p.prime.ppn more).0 over in
+      let positive = not_none more some in λ i. not (positive i) && past i
+
+  grows_not : (Outgrows map p next n → ⊥) → grows ≡ false
+  grows_not never = by (more == 0) refl
+    where
+      by : (z : Bool) → (more == 0) ≡ z → grows ≡ false
+      by true none = ap (λ b. not b && exceeds_left s p.prime.ppn more) none
+      by false some = let left = (limits p.prime.ppn more).1 (λ over. never (some_of more some, over)) in
+          λ i. not (some i) && left i
 
 module _ (d : DiskState) (map : VolumeCore) (s : State) (w : UnderKeys) (o : Output) (p : PendingVersion)
-    (is : IsWriting d p (w.written o.pending.key)) (books : booked s ≡ map.known.table.booked) (n : ℕ) where
+    (is : IsWriting d p (w.written o.pending.key)) (books : booked s ≡ map.known.table.booked) (limits : LimitsAre map s)
+    (n : ℕ) where
   test_is : finds_no_place (pack_of d) s (output_of w o) n
-      ≡ crowds n (length_after p.version.words o.next n) (space d.size) (map.known.table.booked
-      + (version_cost (length_after p.version.words o.next n) - version_cost p.version.words))
-      (is_before_end (kind_of o.kind) o.next)
+      ≡ crowds n (length_after p.version.words o.next n) (space d.size) (map.known.table.booked + rise p o.next n)
+      (grows map s limits p o.next n) (is_before_end (kind_of o.kind) o.next)
   test_is i = crowds n (length_after (is.words i) o.next n) (space d.size) (books i
       + (version_cost (length_after (is.words i) o.next n) - version_cost (is.words i)))
+      (outgrows s (is.place i).ppn (version_cost (length_after (is.words i) o.next n) - version_cost (is.words i)))
       (is_before_end (kind_of o.kind) o.next)
 
   pub none_found : FindsNone d.size map p o n → finds_no_place (pack_of d) s (output_of w o) n ≡ true
-  none_found why = test_is ∙ crowded n _ (space d.size) _ (is_before_end (kind_of o.kind) o.next) why
+  none_found (some, why) = test_is ∙ crowded n _ (space d.size) _ (grows map s limits p o.next n)
+      (is_before_end (kind_of o.kind) o.next) (some, each why)
+    where
+      each : IsTooLong p o.next n ⊎ (space d.size < map.known.table.booked + rise p o.next n)
+          ⊎ Outgrows map p o.next n ⊎ (is_before_end (kind_of o.kind) o.next ≡ true)
+          → Reasons (length_after p.version.words o.next n) (space d.size) (map.known.table.booked + rise p o.next n)
+          (grows map s limits p o.next n) (is_before_end (kind_of o.kind) o.next)
+      each (inl past) = inl past
+      each (inr (inl past)) = inr (inl past)
+      each (inr (inr (inl grown))) = inr (inr (inl (grows_so map s limits p o.next n grown)))
+      each (inr (inr (inr before))) = inr (inr (inr before))
 
   pub place_found : (FindsNone d.size map p o n → ⊥) → finds_no_place (pack_of d) s (output_of w o) n ≡ false
-  place_found why_not = test_is ∙ free n _ (space d.size) _ (is_before_end (kind_of o.kind) o.next) why_not
+  place_found why_not = test_is ∙ free n _ (space d.size) _ (grows map s limits p o.next n)
+      (is_before_end (kind_of o.kind) o.next) none
+    where
+      none : (0 < n) × Reasons (length_after p.version.words o.next n) (space d.size)
+          (map.known.table.booked + rise p o.next n) (grows map s limits p o.next n)
+          (is_before_end (kind_of o.kind) o.next) → ⊥
+      none (some, inl past) = why_not (some, inl past)
+      none (some, inr (inl past)) = why_not (some, inr (inl past))
+      none (some, inr (inr (inl grown))) = both_ways (grows map s limits p o.next n)
+          (grows_not map s limits p o.next n (λ out. why_not (some, inr (inr (inl out))))) grown
+      none (some, inr (inr (inr before))) = why_not (some, inr (inr (inr before)))
 
 -- The state in which the words are put.
 

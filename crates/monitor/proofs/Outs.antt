@@ -3,8 +3,8 @@ use Rattle.std.proofs.Common.{◌≡◌, ◌<◌, ◌≤◌, ◌+◌, ◌*◌, �
 use Rattle.std.proofs.Common.{Result, Ok, Err, refl, sym, ap, subst, ◌∙◌, ◌⊎◌, inl, inr, arith, slice_set}
 use Rattle.std.proofs.lemmas.Bool.Decides.{nat_tests}
 use Rattle.std.specs.List.{AllByRecursion}
-use Rattle.std.specs.Prelude.{◌↔◌, ◌==◌, ◌&&◌, not, option_to_list, is_some}
-use Rattle.meaning.specs.Costs.{blocks_of}
+use Rattle.std.specs.Prelude.{◌↔◌, ◌-◌, ◌==◌, ◌&&◌, ◌||◌, not, option_to_list, is_some}
+use Rattle.meaning.specs.Costs.{blocks_of, version_cost}
 use Rattle.meaning.specs.Jobs.{slot}
 use Rattle.meaning.specs.Maps.{times}
 use Rattle.meaning.specs.Retrieval.{most_blocks}
@@ -13,15 +13,18 @@ use Rattle.meaning.proofs.MapLaws.{some_same}
 use Rattle.meaning.proofs.MapSums.{times_head}
 use Rattle.meaning.proofs.SlotLaws.{none_some}
 use Rattle.retrieval.specs.Versions.{VersionState}
-use Rattle.volume.specs.Live.{pending_at, is_creation}
+use Rattle.alloctab.specs.TableState.{space}
+use Rattle.meaning.specs.Outputs.{is_before_end}
+use Rattle.volume.specs.Charging.{rise, IsTooLong, Outgrows}
+use Rattle.volume.specs.Live.{VolumeCore, pending_at, is_creation}
 use Rattle.volume.specs.Live.{slot as version_at}
 use Rattle.volume.specs.declared.live.LiveVersion.{LiveVersion}
 use Rattle.volume.specs.declared.pending.PendingVersion.{PendingVersion}
-use Rattle.monitor.specs.Putting.{moved}
+use Rattle.monitor.specs.Putting.{FindsNone, IsBarred, moved}
 use Rattle.monitor.specs.Readers.{readers_of}
 use Rattle.monitor.specs.Rows.{KeepsSides, KeepsReading}
 use Rattle.monitor.specs.Serving.{present, IsSide, IsReader}
-use Rattle.monitor.specs.Sides.{side_of, sides_in, keys_of, reader_of}
+use Rattle.monitor.specs.Sides.{side_of, sides_in, keys_of, kind_of, reader_of}
 use Rattle.monitor.specs.declared.channel.Channel.{Channel}
 use Rattle.monitor.specs.declared.output.Output.{Output}
 use Rattle.monitor.specs.declared.job.Job.{Job}
@@ -74,33 +77,65 @@ not_refused result x e is exact holds = let err : Ok x ≡ Err e = sym is ∙ ex
 pub ok_is_none : {X E : Type 0} (result : Result X E) (x : X) (e : E) → result ≡ Ok x → result ≡ Err e → ⊥
 ok_is_none result x e is err = let wrong : Ok x ≡ Err e = sym is ∙ err in cc wrong
 
--- Whether so many words would be put over what an append began with, as it was tested.
-module _ (n count : ℕ) (before kept : Bool) (tested : kept ≡ (not (count == 0) && before)) (counted : count ≡ n) where
-  pub put_over : kept ≡ true → (0 < n) × (before ≡ true)
-  put_over is = by (count == 0) before refl (sym tested ∙ is)
+-- Whether so many words may be put, whatever room there is, as it was tested: over what an append began with, and by the
+-- quota.
+module _ (c : VolumeCore) (p : PendingVersion) (o : Output) (n : ℕ) (kept allows : Bool)
+    (tested : kept ≡ (not (n == 0) && is_before_end (kind_of o.kind) o.next))
+    (quota : (allows ≡ false) ↔ ((IsTooLong p o.next n → ⊥) × Outgrows c p o.next n)) where
+  some_words : Outgrows c p o.next n → 0 < n
+  some_words grown = by n grown.0
     where
-      by : (z b : Bool) → (count == 0) ≡ z → (not z && b) ≡ true → (0 < n) × (b ≡ true)
-      by true b counts none = cc none
-      by false b some is = (grind (arith, nat_tests), is)
+      by : (m : ℕ) → 0 < rise p o.next m → 0 < m
+      by zero more = let none : 0 < version_cost p.version.words - version_cost p.version.words = more in omega arith
+      by (suc m) more = omega arith
 
-  not_over : kept ≡ false → 0 < n → before ≡ true → ⊥
-  not_over is some = by (count == 0) before refl (sym tested ∙ is)
+  kept_over : kept ≡ true → IsBarred c p o n
+  kept_over is = by (n == 0) (is_before_end (kind_of o.kind) o.next) refl refl (sym tested ∙ is)
     where
-      by : (z b : Bool) → (count == 0) ≡ z → (not z && b) ≡ false → b ≡ true → ⊥
-      by true b counts none over = grind (arith, nat_tests)
-      by false b counts not_so over = let wrong : true ≡ false = sym over ∙ not_so in cc wrong
+      by : (z b : Bool) → (n == 0) ≡ z → is_before_end (kind_of o.kind) o.next ≡ b → (not z && b) ≡ true
+          → IsBarred c p o n
+      by true b counts before none = cc none
+      by false b counts before some = (grind (arith, nat_tests), inr (before ∙ some))
 
-  -- words that neither lack room nor would be put there
-  pub finds_place : {A B : Type 0} → ((0 < n) × (A ⊎ B) → ⊥) → kept ≡ false
-      → (0 < n) × (A ⊎ B ⊎ (before ≡ true)) → ⊥
-  finds_place room is (some, inl long) = room (some, inl long)
-  finds_place room is (some, inr (inl many)) = room (some, inr many)
-  finds_place room is (some, inr (inr over)) = not_over is some over
+  pub barred_by : ((kept || not allows) ≡ true) ↔ IsBarred c p o n
+  barred_by = (said kept allows refl refl, unsaid)
+    where
+      not_zero : (m : ℕ) → 0 < m → (m == 0) ≡ false
+      not_zero m some = grind (arith, nat_tests)
 
--- what lacks room finds no place
-pub lacks_room : {N A B C : Type 0} → N × (A ⊎ B) → N × (A ⊎ B ⊎ C)
-lacks_room (some, inl long) = (some, inl long)
-lacks_room (some, inr many) = (some, inr (inl many))
+      said : (k a : Bool) → kept ≡ k → allows ≡ a → (k || not a) ≡ true → IsBarred c p o n
+      said true a is_kept is_allowed is = kept_over is_kept
+      said false true is_kept is_allowed is = cc is
+      said false false is_kept is_allowed is = let grown = quota.0 is_allowed in (some_words grown.1, inl grown)
+
+      unsaid : IsBarred c p o n → (kept || not allows) ≡ true
+      unsaid (some, inl grown) = by kept
+        where
+          by : (k : Bool) → (k || not allows) ≡ true
+          by true = refl
+          by false = ap not (quota.1 grown)
+      unsaid (some, inr before) =
+          let over : kept ≡ true = tested ∙ (λ i. not (not_zero n some i) && before i) in
+          ap (λ k. k || not allows) over
+
+-- Words that may not be put, whatever room there is, find no place; others do where they don't lack room.
+module _ (size : ℕ) (c : VolumeCore) (p : PendingVersion) (o : Output) (n : ℕ) where
+  pub barred_none : IsBarred c p o n → FindsNone size c p o n
+  barred_none (some, inl grown) = (some, inr (inr (inl grown.1)))
+  barred_none (some, inr before) = (some, inr (inr (inr before)))
+
+  pub finds_place : ((0 < n) × (IsTooLong p o.next n ⊎ (space size < c.known.table.booked + rise p o.next n)) → ⊥)
+      → (IsBarred c p o n → ⊥) → FindsNone size c p o n → ⊥
+  finds_place room free (some, inl long) = room (some, inl long)
+  finds_place room free (some, inr (inl many)) = room (some, inr many)
+  finds_place room free (some, inr (inr (inl grown))) = free (some, inl ((λ long. room (some, inl long)), grown))
+  finds_place room free (some, inr (inr (inr before))) = free (some, inr before)
+
+  -- what lacks room finds no place
+  pub lacks_room : (0 < n) × (IsTooLong p o.next n ⊎ (space size < c.known.table.booked + rise p o.next n))
+      → FindsNone size c p o n
+  lacks_room (some, inl long) = (some, inl long)
+  lacks_room (some, inr many) = (some, inr (inl many))
 
 -- The words are put into the version of an output side, and it moves on.
 module _ (pending pending' : List (Option PendingVersion)) (job job' : Job) (number : ℕ) (c : Channel)

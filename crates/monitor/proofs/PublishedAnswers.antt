@@ -46,6 +46,7 @@ use Rattle.monitor.proofs.Calling.{keeps_same, keeps_channel, reads_same, reads_
 use Rattle.monitor.proofs.Dropped.{leaves_none, keeps_keyed}
 use Rattle.monitor.proofs.Knowing.{known}
 use Rattle.monitor.proofs.Lookups.{placed_still}
+use Rattle.monitor.proofs.Limits.{LimitsAre, limits_are}
 use Rattle.monitor.proofs.OutServing.{none_found, place_found}
 use Rattle.monitor.proofs.Placing.{placed_published}
 use Rattle.monitor.proofs.Publications.{IsBehind}
@@ -150,17 +151,23 @@ module _ {d d' : DiskState} {c b : VolumeCore} {failed failed' : Bool} {reply : 
   books = subst (λ t. booked t ≡ c.known.table.booked) same
       (known d c jobs s state (subst (rest.IsSoundCore d c) alive sound) (by.same.was_honest honest)).booked_is
 
+  limits : LimitsAre c before
+  limits =
+      let sound' = subst (rest.IsSoundCore d c) alive sound in
+      let honest' = by.same.was_honest honest in
+      subst (LimitsAre c) same (limits_are d c s (known d c jobs s state sound' honest') sound' honest')
+
   pub has_place : (last : List ℕ) → ((p : PendingVersion) → pending_at c.pending key ≡ Some p
       → FindsNone d.size c p o (length last) → ⊥)
       → finds_no_place (pack_of d) before (output_of w o) (length last) ≡ false
   has_place last fits = let p = some_is (pending_at c.pending key) live in
-      place_found d c before w o p.0 (state.versions key p.0 p.1) books (length last) (fits p.0 p.1)
+      place_found d c before w o p.0 (state.versions key p.0 p.1) books limits (length last) (fits p.0 p.1)
 
   has_none : (last : List ℕ) → ((p : PendingVersion) → pending_at c.pending key ≡ Some p
       → FindsNone d.size c p o (length last))
       → finds_no_place (pack_of d) before (output_of w o) (length last) ≡ true
   has_none last lacks = let p = some_is (pending_at c.pending key) live in
-      none_found d c before w o p.0 (state.versions key p.0 p.1) books (length last) (lacks p.0 p.1)
+      none_found d c before w o p.0 (state.versions key p.0 p.1) books limits (length last) (lacks p.0 p.1)
 
   -- A crash leaves the files from before, or those of the machine's row.
 

@@ -15,9 +15,11 @@ use Rattle.meaning.specs.Room.{outputs_of, outputs, held_by}
 use Rattle.meaning.specs.Room.{held_versions, current_versions, distinct_cost, pending_creations}
 use Rattle.meaning.specs.Room.{pending_cost, booked}
 use Rattle.meaning.specs.Room as room
+use Rattle.meaning.specs.Charges.{pending_cost_in}
 use Rattle.meaning.specs.Runs.{HaveDistinctSerials}
 use Rattle.meaning.proofs.Names.{name_total}
 use Rattle.meaning.proofs.MapSums.{total-map, size-map_values, sum-map_values}
+use Rattle.volume.specs.Charging.{writes_in}
 use Rattle.volume.specs.Live.{VolumeCore, pending_at, is_creation, creates, cost_beyond, held_cost, IsWholePending}
 use Rattle.volume.specs.Live.{IsWholeCore}
 use Rattle.volume.specs.Live as live
@@ -163,6 +165,16 @@ module _ (d : DiskState) (map : VolumeCore) (jobs : List (Option Job)) (s : Stat
       (λ o p at side. ap version_cost (state.versions o.pending.key p at).words
       ∙ ap cost_of_blocks
       (sym (all_at (IsWholePending d.size) map.pending o.pending.key p whole.waiting at).whole.counted))
+
+  -- the same of one directory
+  pub written_are : IsWholeCore d.size map → (ppn : ℕ) → pending_cost_in s ppn ≡ total (writes_in ppn) map.pending
+  written_are whole ppn =
+      sum_is (λ o. if o.place.ppn == ppn then version_cost (length o.pending.body) else 0) (writes_in ppn) refl
+      (λ o p at side.
+      let place = ap (λ l. l.ppn) (state.versions o.pending.key p at).place in
+      let cost = ap version_cost (state.versions o.pending.key p at).words ∙ ap cost_of_blocks
+      (sym (all_at (IsWholePending d.size) map.pending o.pending.key p whole.waiting at).whole.counted) in
+      λ i. if place i == ppn then cost i else 0)
 
   held_is : held_versions s ≡ shown_by state.under (readers jobs)
   held_is = ap (flat_map held_by) state.jobs_are ∙ held_are state.under jobs

@@ -1,6 +1,6 @@
 -- An ENTER that updates a file or appends to it begins, or is refused, as the machine says.
 use Rattle.std.proofs.Common.{◌≡◌, ◌↔◌, ◌<◌, ℕ, ◌+◌, Bool, true, false, nat_lt, length, Option, None, Some, Result, Ok}
-use Rattle.std.proofs.Common.{Err, refl, sym, ap, ◌∙◌, ⊎_elim}
+use Rattle.std.proofs.Common.{Err, refl, sym, ap, subst, ◌∙◌, ⊎_elim}
 use Rattle.std.proofs.lemmas.Bool.{both_ways}
 use Rattle.std.specs.Prelude.{◌==◌, ◌&&◌, ◌||◌, not, if◌then◌else◌, is_none, option_map}
 use Rattle.std.specs.Ordering.{nat_cmp}
@@ -16,7 +16,7 @@ use Rattle.meaning.specs.Looking.{digit_for_directory, digit_for_version}
 use Rattle.meaning.specs.Maps.{get}
 use Rattle.meaning.specs.Published.{Version, without_serials, file_in, file_at}
 use Rattle.meaning.specs.Rights.{may_look, may_append, may_update, directory_digit, file_digit}
-use Rattle.meaning.specs.Room.{exceeds_room}
+use Rattle.meaning.specs.Charges.{exceeds_left, exceeds_limits}
 use Rattle.meaning.specs.Runs.{is_plain}
 use Rattle.meaning.specs.Updating.{present_cost}
 use Rattle.meaning.specs.declared.code.ErrorCode.{ErrorCode}
@@ -27,9 +27,10 @@ use Rattle.meaning.proofs.MapLists.{get-map_values}
 use Rattle.meaning.proofs.Names.{name_total}
 use Rattle.alloctab.specs.TableState.{space}
 use Rattle.meaning.specs.Layouts.{pack_of}
-use Rattle.volume.specs.Beginning.{is_absent, is_update, IsBeginRefusal, IsDirectoryOf}
+use Rattle.volume.specs.Beginning.{begin_cost, entries_with, is_absent, is_update, IsBeginRefusal, IsDirectoryOf}
+use Rattle.volume.specs.Charging.{IsOver}
 use Rattle.volume.specs.Claims.{claims}
-use Rattle.volume.specs.Known.{KnownDirectory}
+use Rattle.volume.specs.Known.{KnownVersion, KnownDirectory, cost_of_version}
 use Rattle.volume.specs.Live.{VolumeCore, is_create}
 use Rattle.volume.specs.Rest.{IsSoundCore}
 use Rattle.volume.specs.declared.error.CallError.{CallError}
@@ -37,6 +38,7 @@ use Rattle.volume.specs.declared.error.CallError.TheVariants as errors
 use Rattle.volume.specs.declared.pending.Kind.{Kind}
 use Rattle.volume.specs.declared.pending.Kind.TheVariants.{Create, Supersede, Update, Append}
 use Rattle.volume.proofs.Answering.{Holds, rest_holds}
+use Rattle.volume.proofs.BegunFiles.{file_known}
 use Rattle.monitor.specs.Finding.{IsKnown, IsAnswer, found_file, found_in, begun_as}
 use Rattle.monitor.specs.Inputs.{named_in, digit_for}
 use Rattle.monitor.specs.Sides.{UnderKeys, job_of}
@@ -47,6 +49,7 @@ use Rattle.monitor.specs.declared.job.Job.{Job}
 use Rattle.monitor.proofs.Beginning.{home, listed}
 use Rattle.monitor.proofs.Entering.{less, not_less, begun_kind}
 use Rattle.monitor.proofs.Growths.{shown_at}
+use Rattle.monitor.proofs.Limits.{AllowsBegin, limits_are}
 
 -- How a job begins that may.
 
@@ -77,6 +80,14 @@ kind_is (Some d) name who owner is_zero claimed kind is = by (get d.files name) 
         → kind ≡ update_kind (digit_for who owner was)
     by None e = cc e
     by (Some file) e = begun_kind (update_kind (file_digit file.protection who owner)) kind _ is_zero claimed e
+
+-- it costs as much as the one that it begins with
+begins_with_cost : (kind : Kind) (entries : ℕ) (v : ℕ × KnownVersion) → is_update kind ≡ true
+    → begin_cost kind entries (Some v) ≡ cost_of_version v.1
+begins_with_cost Create entries v updates = cc
+begins_with_cost Supersede entries v updates = cc
+begins_with_cost Update entries v updates = refl
+begins_with_cost Append entries v updates = refl
 
 pub no_creation : (kind : Kind) → is_update kind ≡ true → is_create kind ≡ false
 no_creation Create e = cc
@@ -158,7 +169,7 @@ module _ (d : DiskState) (map : VolumeCore) (s : State) (known : IsKnown d map s
 
   reply_is : (w : UnderKeys) (job : Job) (place : Place)
       → update_answer_at (pack_of d) s (job_of w job) place
-      ≡ update_reply (may job.ppn place) (exceeds_room (pack_of d) s (present_cost (file_at s.files place)))
+      ≡ update_reply (may job.ppn place) (exceeds_limits (pack_of d) s place.ppn (present_cost (file_at s.files place)))
   reply_is w job place =
       (λ i. if is_none (get s.files place.ppn) then Refused 1
       else if place.name.name == 0 then Refused 0
@@ -166,24 +177,28 @@ module _ (d : DiskState) (map : VolumeCore) (s : State) (known : IsKnown d map s
       else if not (may_look (digit_for_directory (job_of w job) place.ppn (get s.files place.ppn)))
       || not (may_append (digit_for_version (job_of w job) place.ppn (file_at s.files place))) then Refused 2
       else if known.claimed place i then Refused 3
-      else if exceeds_room (pack_of d) s (present_cost (file_at s.files place)) then Refused 0o14
+      else if exceeds_limits (pack_of d) s place.ppn (present_cost (file_at s.files place)) then Refused 0o14
       else Done)
       ∙ update_is place.name place.ppn (job_of w job) (get s.files place.ppn) (place.name.name == 0)
-      (claims map.pending place) (exceeds_room (pack_of d) s (present_cost (file_at s.files place)))
+      (claims map.pending place) (exceeds_limits (pack_of d) s place.ppn (present_cost (file_at s.files place)))
       ∙ (let plain = sym (shown_at s.files place.ppn) in
       λ i. update_reply (allowed_update (found_in (plain i) place.name) job.ppn place.ppn (place.name.name == 0)
-      (claims map.pending place)) (exceeds_room (pack_of d) s (present_cost (file_at s.files place))))
+      (claims map.pending place)) (exceeds_limits (pack_of d) s place.ppn (present_cost (file_at s.files place))))
 
   pub refused : (w : UnderKeys) (job : Job) (place : Place) (code : ErrorCode) → may job.ppn place ≡ Err code
       → update_answer_at (pack_of d) s (job_of w job) place ≡ Refused (number_of code)
   refused w job place code is = reply_is w job place
-      ∙ ap (λ r. update_reply r (exceeds_room (pack_of d) s (present_cost (file_at s.files place)))) is
+      ∙ ap (λ r. update_reply r (exceeds_limits (pack_of d) s place.ppn (present_cost (file_at s.files place)))) is
 
   -- a file of so many words doesn't fit
   abbrev full : File → Bool
   full file = nat_lt (space d.size) (map.known.table.booked + version_cost (length file.body))
 
-  -- There is a file, over which a job may write, and what is answered goes by the room.
+  -- nor does its directory's quota leave as much
+  abbrev past : Place → File → Bool
+  past place file = exceeds_left s place.ppn (version_cost (length file.body))
+
+  -- There is a file, over which a job may write, and what is answered goes by the room and the quota.
   pub record Updates (w : UnderKeys) (job : Job) (place : Place) : Type 0 where
     pub directory : Directory File
     pub directory_at : get (without_serials s.files) place.ppn ≡ Some directory
@@ -194,7 +209,7 @@ module _ (d : DiskState) (map : VolumeCore) (s : State) (known : IsKnown d map s
     pub there : IsDirectoryOf map place.ppn home
     pub found : find nat_cmp place.ppn map.known.master.entries ≡ None → ⊥
     pub present : is_absent place.name home ≡ false
-    pub answer : update_answer_at (pack_of d) s (job_of w job) place ≡ (if full file then Refused 0o14 else Done)
+    pub answer : update_answer_at (pack_of d) s (job_of w job) place ≡ (if full file || past place file then Refused 0o14 else Done)
 
   pub update_at_file : (w : UnderKeys) (job : Job) (place : Place) (kind : Kind) → may job.ppn place ≡ Ok kind
       → Updates w job place
@@ -221,9 +236,9 @@ module _ (d : DiskState) (map : VolumeCore) (s : State) (known : IsKnown d map s
             found = listed d map s.files holds sound.whole.map place.ppn D at;
             present = h.absent ∙ ap is_none name;
             answer = reply_is w job place
-                ∙ ap (λ r. update_reply r (exceeds_room (pack_of d) s (present_cost (file_at s.files place)))) is
-                ∙ (λ i. if nat_lt (space d.size) (known.booked_is i + present_cost (here i)) then Refused 0o14
-                else Done);
+                ∙ ap (λ r. update_reply r (exceeds_limits (pack_of d) s place.ppn (present_cost (file_at s.files place)))) is
+                ∙ (λ i. if nat_lt (space d.size) (known.booked_is i + present_cost (here i))
+                || exceeds_left s place.ppn (present_cost (here i)) then Refused 0o14 else Done);
           }
 
       by : (was : Option (Directory Version)) → get s.files place.ppn ≡ was
@@ -236,22 +251,54 @@ module _ (d : DiskState) (map : VolumeCore) (s : State) (known : IsKnown d map s
           == 0) (claims map.pending place))
           (sym (get-map_values name_total (λ (v : Version). v.file) D.files place.name)) ∙ ok)
 
+  -- What is answered where its directory's quota leaves as much as the file costs, and where it doesn't.
+  module _ (w : UnderKeys) (job : Job) (place : Place) (kind : Kind) (ok : may job.ppn place ≡ Ok kind)
+      (with_file : is_update kind ≡ true) (allows : Bool)
+      (quota : AllowsBegin map place.ppn place.name kind allows) where
+    abbrev found_at : Updates w job place
+    found_at = update_at_file w job place kind ok
+
+    quota_here : (allows ≡ false) ↔ IsOver map place.ppn (version_cost (length found_at.file.body))
+    quota_here =
+        let is = file_known d map false sound honest refl (without_serials s.files) known.files place.ppn place.name
+        found_at.directory found_at.directory_at found_at.file found_at.file_at in
+        subst (λ (cost : ℕ). (allows ≡ false) ↔ IsOver map place.ppn cost)
+        (begins_with_cost kind (entries_with map is.directory place.ppn) is.version with_file ∙ is.cost)
+        (quota is.directory is.there (Some is.version) is.named)
+
+    left_there : allows ≡ true → past place found_at.file ≡ false
+    left_there so = (limits_are d map s known sound honest place.ppn (version_cost (length found_at.file.body))).1
+        (λ over. both_ways allows (quota_here.1 over) so)
+
+    pub limited : allows ≡ false → update_answer_at (pack_of d) s (job_of w job) place ≡ Refused 0o14
+    limited refuses = found_at.answer ∙ either (full found_at.file) (past place found_at.file)
+        ((limits_are d map s known sound honest place.ppn (version_cost (length found_at.file.body))).0
+        (quota_here.0 refuses))
+      where
+        either : (a b : Bool) → b ≡ true → (if a || b then Refused 0o14 else Done) ≡ Refused 0o14
+        either true b is = refl
+        either false b is = ap (λ t. if t then Refused 0o14 else Done) is
+
   -- What is answered by what the volume answers.
   module _ {X : Type 0} (w : UnderKeys) (job : Job) (place : Place) (kind : Kind) (result : Result X CallError)
       (ok : may job.ppn place ≡ Ok kind)
       (room : (D : Directory File) → get (without_serials s.files) place.ppn ≡ Some D → (file : File)
       → get D.files place.name ≡ Some file → (result ≡ Err (errors.Refused NoRoom)
       ↔ (space d.size < map.known.table.booked + version_cost (length file.body)))) where
-    u : Updates w job place
+    abbrev u : Updates w job place
     u = update_at_file w job place kind ok
 
     room_here : result ≡ Err (errors.Refused NoRoom)
         ↔ (space d.size < map.known.table.booked + version_cost (length u.file.body))
     room_here = room u.directory u.directory_at u.file u.file_at
 
-    pub begun : (x : X) → result ≡ Ok x → update_answer_at (pack_of d) s (job_of w job) place ≡ Done
-    begun x is = u.answer ∙ ap (λ t. if t then Refused 0o14 else Done)
-        (not_less _ _ (λ many. let no = room_here.1 many in cc (is, no)))
+    pub begun : (x : X) → result ≡ Ok x → is_update kind ≡ true → (allows : Bool) → allows ≡ true
+        → AllowsBegin map place.ppn place.name kind allows
+        → update_answer_at (pack_of d) s (job_of w job) place ≡ Done
+    begun x is with_file allows so quota =
+        let fits = not_less _ _ (λ many. let no = room_here.1 many in cc (is, no)) in
+        let left = left_there w job place kind ok with_file allows quota so in
+        u.answer ∙ (λ i. if fits i || left i then Refused 0o14 else Done)
 
     plain : (t : Bool) → is_plain (if t then Refused 0o14 else Done) ≡ false
     plain true = refl
@@ -272,11 +319,11 @@ module _ (d : DiskState) (map : VolumeCore) (s : State) (known : IsKnown d map s
         absurd (both_ways (is_create kind) (no_creation kind with_file) said.0))
         (⊎_elim (λ e. let said = (none u.home u.there).0 (is ∙ ap (λ c. Err (errors.Refused c)) e) in
         absurd (both_ways (is_absent place.name u.home) u.present said.1))
-        (λ e. u.answer ∙ ap (λ t. if t then Refused 0o14 else Done)
+        (λ e. u.answer ∙ ap (λ t. if t || past place u.file then Refused 0o14 else Done)
         (less _ _ (room_here.0 (is ∙ ap (λ c. Err (errors.Refused c)) e)))
         ∙ ap (λ c. Refused (number_of c)) (sym e))))
         (codes code is)
     not_begun Y errors.Device is with_file gone exists none codes device failed = device is
     not_begun Y errors.NoMemory is with_file gone exists none codes device failed =
-        ap is_plain u.answer ∙ plain (full u.file)
+        ap is_plain u.answer ∙ plain (full u.file || past place u.file)
     not_begun Y errors.Failed is with_file gone exists none codes device failed = failed is

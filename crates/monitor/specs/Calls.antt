@@ -2,7 +2,7 @@
 use Rattle.std.specs.Prelude.{◌≡◌, false, Option}
 use Rattle.meaning.specs.declared.call.Call.{Call}
 use Rattle.meaning.specs.declared.call.Call.TheVariants.{Open, Inbuf, Outbuf, Lookup, Enter, Rename, In, Out, Useti}
-use Rattle.meaning.specs.declared.call.Call.TheVariants.{Useto, Close, Releas, Getsts, Reset, MakeDir, DeleteDir}
+use Rattle.meaning.specs.declared.call.Call.TheVariants.{Useto, Close, Releas, Getsts, Reset, MakeDir, DeleteDir, Quota}
 use Rattle.monitor.specs.declared.job.Job.{Job}
 use Rattle.monitor.specs.Rows.{publishes_by}
 
@@ -24,6 +24,7 @@ IsLight (Getsts channel) job = Unit {0}
 IsLight Reset job = Unit {0}
 IsLight (MakeDir address) job = ⊥
 IsLight (DeleteDir address) job = ⊥
+IsLight (Quota address) job = ⊥
 
 -- a call that leaves all that is known of the disk as it was, whatever its answer
 abbrev pub KeepsCore : Call → Type 0
@@ -43,3 +44,4 @@ KeepsCore (Getsts channel) = Unit {0}
 KeepsCore Reset = ⊥
 KeepsCore (MakeDir address) = ⊥
 KeepsCore (DeleteDir address) = ⊥
+KeepsCore (Quota address) = ⊥

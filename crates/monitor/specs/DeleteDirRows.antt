@@ -1,5 +1,5 @@
 -- DeleteDir: what it finds, and what it leaves.
-use Rattle.std.specs.Prelude.{◌≡◌, ◌⊎◌, ℕ, ◌==◌, ◌||◌, not, Bool, true, false, None}
+use Rattle.std.specs.Prelude.{◌≡◌, ◌⊎◌, ℕ, ◌==◌, ◌||◌, ◌&&◌, not, Bool, true, false, None}
 use Rattle.blockdisk.specs.Disk.{DiskState}
 use Rattle.meaning.specs.Cores.{lies_outside}
 use Rattle.meaning.specs.Files.{File, Files}
@@ -8,6 +8,7 @@ use Rattle.meaning.specs.Rights.{system}
 use Rattle.meaning.specs.declared.call.Reply.{Reply}
 use Rattle.meaning.specs.declared.call.Reply.TheVariants.{Done, Value, Refused, Stopped, NoChannel, AddressCheck, NoJob}
 use Rattle.meaning.specs.declared.call.Reply.TheVariants.{NoMemory, Device, Failed, DateRange}
+use Rattle.volume.specs.Charging.{quota_in_core}
 use Rattle.volume.specs.Live.{VolumeCore}
 use Rattle.volume.specs.RemovingDirectories.{HasEntries}
 use Rattle.volume.specs.Rest.{RestsAt}
@@ -22,19 +23,20 @@ IsNowhere d owner = d.honest → (f : Files File) → RestsAt d f → get f owne
 abbrev pub IsThere : DiskState → ℕ → Type 0
 IsThere d owner = d.honest → (f : Files File) → RestsAt d f → get f owner ≡ None → ⊥
 
--- neither [1,2] nor the one whose directory it is
-abbrev pub is_strange : ℕ → ℕ → Bool
-is_strange ppn owner = not ((ppn == system) || (ppn == owner))
+-- neither [1,2] nor the one whose directory it is, or the directory has a quota, and it isn't [1,2]
+abbrev pub is_kept_from : VolumeCore → ℕ → ℕ → Bool
+is_kept_from c ppn owner = not ((ppn == system) || (ppn == owner))
+    || (not (quota_in_core c owner == 0) && not (ppn == system))
 
 -- It is refused for what there is, by this code.
 abbrev pub IsKeptBy : DiskState → VolumeCore → ℕ → ℕ → ℕ → Type 0
 IsKeptBy d c ppn owner code = ((code ≡ 1) × IsNowhere d owner)
-    ⊎ ((code ≡ 2) × IsThere d owner × (is_strange ppn owner ≡ true))
-    ⊎ ((code ≡ 0o22) × IsThere d owner × (is_strange ppn owner ≡ false) × HasEntries c owner)
+    ⊎ ((code ≡ 2) × IsThere d owner × (is_kept_from c ppn owner ≡ true))
+    ⊎ ((code ≡ 0o22) × IsThere d owner × (is_kept_from c ppn owner ≡ false) × HasEntries c owner)
 
 -- The directory is there, the job may delete it, and it is empty.
 abbrev pub IsRemovable : DiskState → VolumeCore → ℕ → ℕ → Type 0
-IsRemovable d c ppn owner = IsThere d owner × (is_strange ppn owner ≡ false) × (HasEntries c owner → ⊥)
+IsRemovable d c ppn owner = IsThere d owner × (is_kept_from c ppn owner ≡ false) × (HasEntries c owner → ⊥)
 
 -- What DeleteDir does to its job, by its answer; `same` says that disk and volume are as they were.
 abbrev pub IsDeleteDir : DiskState → VolumeCore → Type 0 → Job → Job → ℕ → Reply → Type 0

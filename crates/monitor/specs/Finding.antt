@@ -7,6 +7,7 @@ use Rattle.words36.specs.Words.{left}
 use Rattle.blockdisk.specs.Disk.{DiskState}
 use Rattle.meaning.specs.declared.code.ErrorCode.{ErrorCode}
 use Rattle.meaning.specs.declared.code.ErrorCode.TheVariants.{NotFound, NoDirectory, Protection, BeingModified}
+use Rattle.meaning.specs.Charges.{pending_cost_in}
 use Rattle.meaning.specs.Codes.{number_of}
 use Rattle.meaning.specs.Entering.{begin_answer}
 use Rattle.meaning.specs.Files.{File, Directory, Place}
@@ -23,6 +24,7 @@ use Rattle.meaning.specs.declared.call.Reply.TheVariants as replies
 use Rattle.retrieval.specs.Modes.{mode_number}
 use Rattle.retrieval.specs.declared.mode.Mode.{Mode}
 use Rattle.retrieval.specs.declared.prime.Prime.{Prime}
+use Rattle.volume.specs.Charging.{writes_in}
 use Rattle.volume.specs.Claims.{claims}
 use Rattle.volume.specs.Live.{VolumeCore, creates}
 use Rattle.volume.specs.Rest.{RestsAt}
@@ -34,11 +36,12 @@ use Rattle.monitor.specs.declared.found.Found.{Found}
 use Rattle.monitor.specs.declared.found.Found.TheVariants as found
 use Rattle.monitor.specs.declared.job.Job.{Job}
 
--- What a volume knows of a state: its files, and what is booked, being created and claimed.
+-- What a volume knows of a state: its files, and what is booked, being created, being written and claimed.
 pub record IsKnown (d : DiskState) (map : VolumeCore) (s : State) : Type 0 where
   pub files : RestsAt d (without_serials s.files)
   pub booked_is : booked s ≡ map.known.table.booked
   pub creations : (ppn : ℕ) → pending_creations s ppn ≡ total (creates ppn) map.pending
+  pub written : (ppn : ℕ) → pending_cost_in s ppn ≡ total (writes_in ppn) map.pending
   pub claimed : (place : Place) → is_claimed s place ≡ claims map.pending place
 
 -- What stands at a name.

@@ -25,5 +25,6 @@ pub mod Renewing
 pub mod Updating
 pub mod Closing
 pub mod DeleteDirRows
+pub mod QuotaRows
 pub mod Changing
 pub mod Arriving

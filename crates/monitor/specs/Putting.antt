@@ -1,15 +1,15 @@
 -- OUT: the words that it finds in core, and what it does to the version that is written.
-use Rattle.std.specs.Prelude.{◌≡◌, ◌⊎◌, ℕ, ◌+◌, ◌-◌, ◌*◌, ◌<◌, true, false, if◌then◌else◌, List, length, Option}
+use Rattle.std.specs.Prelude.{◌≡◌, ◌⊎◌, ℕ, ◌+◌, ◌<◌, true, false, if◌then◌else◌, List, length, Option}
 use Rattle.std.specs.Prelude.{None, Some, option_map, slice_set}
 use Rattle.blockdisk.specs.Disk.{DiskState}
 use Rattle.meaning.specs.CommandLists.{dump_list}
 use Rattle.meaning.specs.Cores.{after_writes, joined}
-use Rattle.meaning.specs.Costs.{blocks_of, version_cost}
+use Rattle.meaning.specs.Costs.{blocks_of}
 use Rattle.meaning.specs.Inputs.{lacks_header}
 use Rattle.meaning.specs.Jobs.{slot, cleared, block_too_large}
 use Rattle.meaning.specs.Outputs as outputs
 use Rattle.meaning.specs.Outputs.{is_before_end}
-use Rattle.meaning.specs.Retrieval.{HasBody, most_blocks}
+use Rattle.meaning.specs.Retrieval.{HasBody}
 use Rattle.meaning.specs.Rings.{is_buffered, byte_size, out_ready, out_writes, ring_words}
 use Rattle.meaning.specs.Splices.{splice, length_after}
 use Rattle.meaning.specs.declared.area.Area.{Area}
@@ -19,6 +19,7 @@ use Rattle.meaning.specs.declared.call.Reply.TheVariants.{NoMemory, Device, Fail
 use Rattle.alloctab.specs.TableState.{space}
 use Rattle.retrieval.specs.Modes.{mode_number}
 use Rattle.retrieval.specs.Versions.{VersionState}
+use Rattle.volume.specs.Charging.{rise, IsTooLong, Outgrows}
 use Rattle.volume.specs.Live.{VolumeCore, pending_at}
 use Rattle.volume.specs.declared.pending.PendingVersion.{PendingVersion}
 use Rattle.monitor.specs.Sides.{kind_of}
@@ -49,12 +50,17 @@ abbrev pub moved : Channel → Output → ℕ → Channel
 moved c o count = record c { status = cleared c.status; output = Some (record o { next = o.next + blocks_of count }) }
 
 -- So many words find no place at the next block of this side's version: they make it too long, or cost more than there
--- is room for, or would be put over what an append began with.
+-- is room for or than the directory has left, or would be put over what an append began with.
 abbrev pub FindsNone : ℕ → VolumeCore → PendingVersion → Output → ℕ → Type 0
 FindsNone size c p o count =
-    (0 < count) × ((most_blocks * 128 < length_after p.version.words o.next count)
-    ⊎ (space size < c.known.table.booked + (version_cost (length_after p.version.words o.next count)
-    - version_cost p.version.words)) ⊎ (is_before_end (kind_of o.kind) o.next ≡ true))
+    (0 < count) × (IsTooLong p o.next count ⊎ (space size < c.known.table.booked + rise p o.next count)
+    ⊎ Outgrows c p o.next count ⊎ (is_before_end (kind_of o.kind) o.next ≡ true))
+
+-- Whatever room there is, they may not be put there, for one of the last two reasons.
+abbrev pub IsBarred : VolumeCore → PendingVersion → Output → ℕ → Type 0
+IsBarred c p o count =
+    (0 < count) × (((IsTooLong p o.next count → ⊥) × Outgrows c p o.next count)
+    ⊎ (is_before_end (kind_of o.kind) o.next ≡ true))
 
 -- An open channel with an output side, and with a ring's header where it needs one.
 pub record IsAtOutput (job : Job) (number : ℕ) : Type 0 where

@@ -4,7 +4,7 @@ use Rattle.meaning.specs.Cores.{with_right}
 use Rattle.meaning.specs.Jobs.{slot}
 use Rattle.meaning.specs.declared.call.Call.{Call}
 use Rattle.meaning.specs.declared.call.Call.TheVariants.{Open, Inbuf, Outbuf, Lookup, Enter, Rename, In, Out, Useti}
-use Rattle.meaning.specs.declared.call.Call.TheVariants.{Useto, Close, Releas, Getsts, Reset, MakeDir, DeleteDir}
+use Rattle.meaning.specs.declared.call.Call.TheVariants.{Useto, Close, Releas, Getsts, Reset, MakeDir, DeleteDir, Quota}
 use Rattle.monitor.specs.declared.job.Job.{Job}
 
 -- the job with the code in the right half of the second of the words at an address
@@ -30,6 +30,7 @@ refused_with (Getsts channel) job code = job
 refused_with Reset job code = job
 refused_with (MakeDir address) job code = with_code job address code
 refused_with (DeleteDir address) job code = with_code job address code
+refused_with (Quota address) job code = with_code job address code
 
 -- There is a job of this number, and it is as the refusal leaves it; all others are as they were.
 pub record IsRefused (call : Call) (number code : ℕ) (jobs jobs' : List (Option Job)) : Type 0 where

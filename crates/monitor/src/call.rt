@@ -30,6 +30,7 @@ use crate::monitor::Monitor;
 use crate::open::open;
 use crate::out::serve_out;
 use crate::outbuf::outbuf;
+use crate::quota::serve_quota;
 use crate::read::serve_in;
 use crate::releas::serve_release;
 use crate::rename::serve_rename;
@@ -73,6 +74,7 @@ fn answer<D: Disk>(
         Call::Reset => serve_reset(volume, job),
         Call::MakeDir(address) => serve_make_dir(alloc, volume, job, address),
         Call::DeleteDir(address) => serve_delete_dir(volume, job, address),
+        Call::Quota(address) => serve_quota(volume, job, address),
     }
 }
 

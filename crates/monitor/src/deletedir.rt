@@ -9,7 +9,7 @@ ghost use Rattle.volume.specs.Known.{KnownDirectory};
 ghost use Rattle.volume.specs.Places.{prime_at};
 ghost use Rattle.volume.specs.RemovingDirectories.{directory_removed};
 ghost use Rattle.volume.specs.Rest.{IsSoundCore, RestsAt, StandsForOneOf, KeepsRead, KeepsEachWritten};
-ghost use Rattle.monitor.specs.DeleteDirRows.{IsDeleteDir};
+ghost use Rattle.monitor.specs.DeleteDirRows.{is_kept_from, IsDeleteDir};
 ghost use Rattle.monitor.specs.DirectoryRows.{asked_owner};
 ghost use Rattle.monitor.specs.Rows.{KeepsSides, KeepsReading};
 ghost use Rattle.meaning.specs.declared.call.Call.TheVariants.{DeleteDir};
@@ -34,9 +34,16 @@ pub fn serve_delete_dir<D: Disk>(volume: &mut Volume<D>, job: &mut Job, address:
     delete_dir(volume, job, address)
 }
 
+/// Whether a job may not delete a directory: [1,2] may, and the one whose directory it is where it has no quota.
+fn is_kept_from<D: Disk>(volume: &Volume<D>, ppn: Ppn, owner: Ppn) -> bool
+    ensures { result ≡ is_kept_from volume.now.core ppn owner }
+{
+    !is_system(ppn) && (ppn != owner || volume.quota(owner) != 0)
+}
+
 /// DeleteDir: deletes an empty directory, whose it is by the first of the two words at an address. It is refused where
-/// there is no such directory, then to anybody but [1,2] and whose it is, then where it has a file or one is being
-/// created in it.
+/// there is no such directory, then to anybody but [1,2] and, where it has no quota, whose it is, then where it has a
+/// file or one is being created in it.
 fn delete_dir<D: Disk>(volume: &mut Volume<D>, job: &mut Job, address: u32) -> Reply
     requires serves { volume.old.failed ≡ false }
     requires sound { IsSoundCore (D.state volume.old.disk) volume.old.core volume.old.failed }
@@ -80,7 +87,7 @@ fn delete_dir<D: Disk>(volume: &mut Volume<D>, job: &mut Job, address: u32) -> R
     if volume.directory(owner).is_err() {
         return refuse(&mut job.core, address, ErrorCode::NoDirectory);
     }
-    if !is_system(job.ppn) && job.ppn != owner {
+    if is_kept_from(volume, job.ppn, owner) {
         return refuse(&mut job.core, address, ErrorCode::Protection);
     }
     match volume.delete_dir(owner) {

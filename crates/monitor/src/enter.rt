@@ -315,9 +315,13 @@ fn begin_at<D: Disk>(
         Ok(found) => found,
         Err(code) => return Err(CallError::Refused(code)),
     };
+    let kind = kind_for(found);
+    if !volume.quota_allows_begin(kind, ppn, &file) {
+        return Err(CallError::Refused(ErrorCode::NoRoom));
+    }
     let prime = prime_for(&job.core, address, ppn, file, found, mode, moment);
     let kept = copy_of(&prime);
-    match volume.begin(alloc, kind_for(found), prime) {
+    match volume.begin(alloc, kind, prime) {
         Ok(pending) => Ok((pending, kept)),
         Err(error) => Err(error),
     }

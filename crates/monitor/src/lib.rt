@@ -14,8 +14,8 @@
 //! 5. `deposit` and `examine` put and show a word of a job's core as the machine does (`answered`, `value`), and
 //!    `deposit_all` and `examine_all` words in a row, as if one after the other (`done`, `answered`).
 //! 6. `call` is the table of the calls, and each call is the file of its name. It answers OPEN, INBUF, OUTBUF, LOOKUP,
-//!    ENTER, RENAME, IN, OUT, USETI, USETO, CLOSE, RELEAS, GETSTS, RESET, MakeDir and DeleteDir, in dump mode and over
-//!    rings of buffers, as the machine's rows do, or wants memory where the machine may, or blames the device; and
+//!    ENTER, RENAME, IN, OUT, USETI, USETO, CLOSE, RELEAS, GETSTS, RESET, MakeDir, DeleteDir and Quota, in dump mode and
+//!    over rings of buffers, as the machine's rows do, or wants memory where the machine may, or blames the device; and
 //!    leaves the state of that row. (`answered`) What every call promises is one record. (`IsServing`) At any moment of
 //!    it a crash leaves the files from before, or those of that row where it is Done or met a fault of the device.
 //!    (`crash`) Which answers, and which calls, leave the disk alone is said beside. (`idle`, `light`) A refusal leaves
@@ -26,7 +26,7 @@
 //!    name; each version that is held is held once for each input side that reads it. (`AreKeyed`, `ArePlaced`,
 //!    `AreReading`) What an IN answers and leaves is told by its own job's record, which no other job changes.
 //!    (`still`, `apart`)
-//! 8. `room`, `blocks` and `layout` are the volume's; nothing changes the layout. (`layout`) `finish` gives the disk
+//! 8. `room`, `charge`, `blocks` and `layout` are the volume's; nothing changes the layout. (`layout`) `finish` gives the disk
 //!    back as it stands.
 //! 9. A monitor that has failed answers Failed to every event and changes nothing. It fails with the device; on an
 //!    honest disk with nothing else. (`failed`, `broken`, `blamed`, `counted`, `served`)
@@ -65,6 +65,7 @@ mod out;
 mod outbuf;
 mod output;
 mod publishing;
+mod quota;
 mod read;
 mod read_in;
 mod reading_laws;
@@ -89,4 +90,4 @@ pub use monitor::Monitor;
 pub use output::{Kind, Output};
 pub use reading_laws::{what_is_read_is_booked, what_is_read_stays};
 pub use restart::start_after_crash;
-pub use volume::VolumeError as StartError;
+pub use volume::{Charge, VolumeError as StartError};

@@ -8,6 +8,7 @@ ghost use Rattle.meaning.specs.Published.{without_serials};
 ghost use Rattle.meaning.specs.Room.{room};
 ghost use Rattle.meaning.specs.Runs.{Service, Serving, IsStart};
 ghost use Rattle.meaning.specs.Stands.{Stands};
+ghost use Rattle.monitor.specs.QuotaRows.{charge_told};
 ghost use Rattle.monitor.specs.Runs.{HasStarted};
 ghost use Rattle.monitor.specs.Serving.{Serves};
 ghost use Rattle.monitor.specs.Sides.{no_jobs};
@@ -21,7 +22,8 @@ use blockdisk::{Disk, NoMemory};
 use meaning::layout::Layout;
 use std::alloc::Global;
 use std::marker::Model;
-use volume::Volume;
+use volume::{Charge, Volume};
+use words36::Ppn;
 
 /// A service over the files of one disk: a volume, and the jobs that are logged in. Contracts see it as one value
 /// (`MonitorState`): the disk, what is known of it, whether it has failed, the jobs, and the layout of the disk.
@@ -131,6 +133,17 @@ impl<D: Disk> Monitor<D> {
     {
         let _failed = self.volume.has_failed(); // which says what holds of a volume between two calls
         self.volume.room()
+    }
+
+    /// What a directory is charged for, with its quota; `None` where there is no such directory. Nothing is promised of
+    /// it where the monitor has failed.
+    pub fn charge(&self, ppn: Ppn) -> Option<Charge>
+        ensures { (D.state self.now.disk).honest → (s : State)
+            → Serves (D.state self.now.disk) self.now.map self.now.failed self.now.jobs (Serving s)
+            → result ≡ charge_told s ppn }
+    {
+        let _failed = self.volume.has_failed(); // which says what holds of a volume between two calls
+        self.volume.charge(ppn)
     }
 
     /// Ends the service, and gives the disk back as it stands.

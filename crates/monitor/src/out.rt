@@ -1,4 +1,4 @@
-ghost use Rattle.std.specs.Prelude.{◌≡◌, ◌⊎◌, ◌↔◌, ◌<◌, ◌≤◌, ◌+◌, ◌^◌, ℕ, false, IsTrue, All, IfOk, IfErr, IsErrOf};
+ghost use Rattle.std.specs.Prelude.{◌≡◌, ◌⊎◌, ◌↔◌, ◌<◌, ◌≤◌, ◌+◌, ◌^◌, ℕ, false, true, IsTrue, All, IfOk, IfErr, IsErrOf};
 ghost use Rattle.std.specs.Prelude.{List, length, None, Some, not, ◌&&◌, ◌==◌};
 ghost use Rattle.std.specs.List.{AllByRecursion};
 ghost use Rattle.blockdisk.specs.Disk.{LeavesOnly, SameDisk, one_more};
@@ -15,7 +15,7 @@ ghost use Rattle.meaning.specs.declared.call.Reply.TheVariants.{Device, Failed};
 ghost use Rattle.volume.specs.Live.{pending_at};
 ghost use Rattle.volume.specs.Rest.{RestsAt, KeepsRead};
 ghost use Rattle.volume.specs.declared.pending.PendingVersion.{PendingVersion};
-ghost use Rattle.monitor.specs.Putting.{outgoing_at, moved, IsOther, IsOut};
+ghost use Rattle.monitor.specs.Putting.{outgoing_at, moved, IsBarred, IsOther, IsOut};
 ghost use Rattle.monitor.specs.Rows.{KeepsSides, KeepsReading};
 ghost use Rattle.monitor.specs.Serving.{present, IsSide};
 ghost use Rattle.monitor.specs.Sides.{kind_of, sides_in, keys_of};
@@ -128,13 +128,24 @@ fn moved(channel: Channel, output: Output, count: usize) -> Channel
 }
 
 /// Whether so many words would be put over blocks that an append began with.
-pub fn is_kept(output: Output, count: usize) -> bool
+fn is_kept(output: Output, count: usize) -> bool
     ensures { result ≡ (not (count == 0) && is_before_end (kind_of output.kind) output.next) }
 {
     match output.kind {
         Kind::Append(blocks) => count != 0 && output.next <= blocks,
         Kind::Create | Kind::Supersede | Kind::Update => false,
     }
+}
+
+/// Whether so many words may not be put at an output side's next block, whatever room there is: they would be put over
+/// blocks that an append began with, or the version costs more with them, and by more than the quota of its directory
+/// leaves.
+pub fn is_barred<D: Disk>(volume: &Volume<D>, output: Output, count: usize) -> bool
+    requires first { 0 < output.next }
+    ensures { (p : PendingVersion) → pending_at volume.now.core.pending output.pending.key ≡ Some p
+        → ((result ≡ true) ↔ IsBarred volume.now.core p output count) }
+{
+    is_kept(output, count) || !volume.quota_allows_put(output.pending, output.next, count)
 }
 
 /// OUT: puts the words that the command list at an address names, or those of the ring's current buffer, at the block
@@ -199,7 +210,7 @@ fn out<D: Disk>(
         Err(CoreError::AddressCheck) => return Reply::AddressCheck,
         Err(CoreError::NoMemory) => return Reply::NoMemory,
     };
-    if is_kept(output, words.len()) {
+    if is_barred(volume, output, words.len()) {
         return stop(job, number, channel, BLOCK_TOO_LARGE);
     }
     match volume.put_words(output.pending, output.next, words.as_slice()) {

@@ -11,7 +11,7 @@ ghost use Rattle.monitor.specs.Lists.{unpublished_by};
 ghost use Rattle.monitor.specs.Publishing.{last_at, MayPublish, IsPublishing};
 
 use crate::channel::Channel;
-use crate::out::is_kept;
+use crate::out::is_barred;
 use crate::output::Output;
 use crate::status::{BLOCK_TOO_LARGE, cleared};
 use blockdisk::Disk;
@@ -85,7 +85,7 @@ pub fn publish_output<D: Disk>(
     let Ok(words) = last_words(core, channel) else {
         return Reply::AddressCheck; // the only error
     };
-    if is_kept(output, words.len()) {
+    if is_barred(volume, output, words.len()) {
         return too_large(channel);
     }
     match volume.publish(alloc, output.pending, output.next, words) {

@@ -359,6 +359,9 @@ fn move_file<D: Disk>(
     if let Err(code) = may_come(volume, job.ppn, &input, ppn, &name) {
         return refuse(&mut job.core, address, code);
     }
+    if !volume.quota_allows_move(input.ppn, &input.file, ppn) {
+        return refuse(&mut job.core, address, ErrorCode::NoRoom);
+    }
     let changed = volume.rename(alloc, input.ppn, &input.file, ppn, &name, protection);
     answer_change(volume, job, number, address, channel, input, changed)
 }

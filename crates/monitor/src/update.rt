@@ -175,6 +175,9 @@ fn begin_update<D: Disk>(
         Ok(kind) => kind,
         Err(code) => return Err(CallError::Refused(code)),
     };
+    if !volume.quota_allows_begin(kind, input.ppn, &input.file) {
+        return Err(CallError::Refused(ErrorCode::NoRoom));
+    }
     match volume.begin(alloc, kind, place_of(input, moment)) {
         Ok(pending) => Ok((pending, kind)),
         Err(error) => Err(error),

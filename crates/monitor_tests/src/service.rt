@@ -1,4 +1,5 @@
 use blockdisk::{Disk, MemDisk, NoMemory};
+use meaning::layout::Layout;
 use meaning::{Call, Reply};
 use monitor::Monitor;
 use std::alloc::Global;
@@ -8,6 +9,9 @@ use words36::{BLOCK_WORDS, Block, Moment, Ppn, Word};
 
 /// The home copies, in blocks 1 and 2. The table is block 14, the free space begins at 15.
 const HOME: [u64; 6] = [0o465154634562, 1, 0o100, 1, 0o11, 0o17];
+
+/// The home copies of layout 2.
+const HOME_2: [u64; 6] = [0o465154634562, 2, 0o100, 1, 0o11, 0o17];
 
 /// The master directory, in block 15: [10,20] with protection 775.
 const MASTER: [u64; 5] = [0, 1, 0o000010000020, 0o775000000000, 0o20];
@@ -58,14 +62,14 @@ pub(crate) const LIST: u32 = 0o400;
 pub(crate) const WORDS: u32 = 0o1000;
 
 /// How many words a core has.
-const CORE: u32 = 0o40000;
+pub(crate) const CORE: u32 = 0o40000;
 
 pub(crate) fn word(number: u64) -> Word {
     Word::new(number).unwrap_or(Word::ZERO)
 }
 
 /// The number [10,20].
-fn owner(rt: &impl Abort) -> Ppn {
+pub(crate) fn owner(rt: &impl Abort) -> Ppn {
     let Some(ppn) = Ppn::new(0o10, 0o20) else {
         panic!(rt; "no such number");
     };
@@ -87,8 +91,8 @@ pub(crate) fn start(rt: &impl Abort, alloc: Global, disk: MemDisk) -> Monitor<Me
 }
 
 /// Makes a disk a volume in which there is no directory.
-fn init(rt: &impl Abort, disk: &mut MemDisk) {
-    assert!(rt; Volume::init(disk) == Ok(()));
+fn init(rt: &impl Abort, disk: &mut MemDisk, layout: Layout) {
+    assert!(rt; Volume::init_layout(disk, layout) == Ok(()));
 }
 
 /// A monitor over a fresh volume of so many blocks, in which there is no directory.
@@ -96,9 +100,10 @@ pub(crate) fn fresh(
     rt: &impl Abort,
     alloc: Global,
     blocks: u32,
+    layout: Layout,
 ) -> Result<Monitor<MemDisk>, NoMemory> {
     let mut disk = MemDisk::new(alloc, blocks, 4000)?;
-    init(rt, &mut disk);
+    init(rt, &mut disk, layout);
     Ok(start(rt, alloc, disk))
 }
 
@@ -169,7 +174,7 @@ pub(crate) fn fill(
 }
 
 /// What a call is answered with, at date 0 and minute 0.
-fn call(monitor: &mut Monitor<MemDisk>, alloc: Global, job: u32, call: Call) -> Reply {
+pub(crate) fn call(monitor: &mut Monitor<MemDisk>, alloc: Global, job: u32, call: Call) -> Reply {
     match Moment::new(0, 0) {
         Ok(moment) => monitor.call(alloc, job, &call, moment),
         Err(_) => Reply::Failed,
@@ -177,7 +182,7 @@ fn call(monitor: &mut Monitor<MemDisk>, alloc: Global, job: u32, call: Call) -> 
 }
 
 /// A call of a job is done.
-fn expect_done(
+pub(crate) fn expect_done(
     rt: &impl Abort,
     monitor: &mut Monitor<MemDisk>,
     alloc: Global,
@@ -190,6 +195,19 @@ fn expect_done(
 /// Logs a job in as [10,20].
 pub(crate) fn login(rt: &impl Abort, monitor: &mut Monitor<MemDisk>, alloc: Global, job: u32) {
     assert!(rt; monitor.login(alloc, job, owner(rt), CORE) == Reply::Done);
+}
+
+/// Logs a job in as [1,2].
+pub(crate) fn login_system(
+    rt: &impl Abort,
+    monitor: &mut Monitor<MemDisk>,
+    alloc: Global,
+    job: u32,
+) {
+    let Some(system) = Ppn::new(1, 2) else {
+        panic!(rt; "no such number");
+    };
+    assert!(rt; monitor.login(alloc, job, system, CORE) == Reply::Done);
 }
 
 /// Makes the directory [10,20], by job 1.
@@ -223,19 +241,47 @@ pub(crate) fn ready(
     alloc: Global,
     blocks: u32,
 ) -> Result<Monitor<MemDisk>, NoMemory> {
-    let mut monitor = fresh(rt, alloc, blocks)?;
+    ready_in(rt, alloc, blocks, Layout::One)
+}
+
+/// The same in this layout.
+pub(crate) fn ready_in(
+    rt: &impl Abort,
+    alloc: Global,
+    blocks: u32,
+    layout: Layout,
+) -> Result<Monitor<MemDisk>, NoMemory> {
+    let mut monitor = fresh(rt, alloc, blocks, layout)?;
     get_ready(rt, &mut monitor, alloc);
     Ok(monitor)
 }
 
-/// Gives a block of a disk with nothing recorded these words, and zeros behind them.
-fn put(rt: &impl Abort, disk: &mut MemDisk, n: u32, words: &[u64]) {
+/// A block that begins with these words, and is zero behind them.
+fn beginning(words: &[u64]) -> Block {
     let mut block: Block = [Word::ZERO; BLOCK_WORDS];
     for (place, &number) in block.iter_mut().zip(words) {
         *place = word(number);
     }
+    block
+}
+
+/// Gives a block of a disk with nothing recorded these words, and zeros behind them.
+fn put(rt: &impl Abort, disk: &mut MemDisk, n: u32, words: &[u64]) {
     assert!(rt; n < disk.blocks());
-    disk.load(n, &block);
+    disk.load(n, &beginning(words));
+}
+
+/// A block of a disk has these words, and zeros behind them.
+fn expect_block(rt: &impl Abort, disk: &mut MemDisk, n: u32, words: &[u64]) {
+    assert!(rt; n < disk.blocks());
+    assert!(rt; disk.read(n) == Ok(beginning(words)));
+}
+
+/// The blocks of the directory [10,20] of a disk, and of FOO.TXT.
+pub(crate) fn expect_file(rt: &impl Abort, disk: &mut MemDisk) {
+    expect_block(rt, disk, 16, &DIRECTORY);
+    expect_block(rt, disk, 17, &PRIME);
+    expect_block(rt, disk, 18, &OLD);
 }
 
 /// The blocks of a disk on which FOO.TXT of [10,20] has two words.
@@ -253,5 +299,20 @@ fn put_image(rt: &impl Abort, disk: &mut MemDisk) {
 pub(crate) fn image(rt: &impl Abort, alloc: Global, calls: usize) -> Result<MemDisk, NoMemory> {
     let mut disk = MemDisk::new(alloc, 64, calls)?;
     put_image(rt, &mut disk);
+    Ok(disk)
+}
+
+/// The same disk in layout 2, with this quota for [10,20].
+pub(crate) fn limited_image(
+    rt: &impl Abort,
+    alloc: Global,
+    quota: u32,
+    calls: usize,
+) -> Result<MemDisk, NoMemory> {
+    let mut disk = image(rt, alloc, calls)?;
+    put(rt, &mut disk, 1, &HOME_2);
+    put(rt, &mut disk, 2, &HOME_2);
+    let protection = 0o775000000000 + u64::from(quota);
+    put(rt, &mut disk, 15, &[0, 1, MASTER[2], protection, MASTER[4]]);
     Ok(disk)
 }

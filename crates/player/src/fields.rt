@@ -1,4 +1,5 @@
 use anyhow::{Context, Result};
+use words36::Ppn;
 
 /// What stands at a place of a line, or nothing where it doesn't go that far.
 pub fn field<'a>(fields: &[&'a str], place: usize) -> &'a str {
@@ -35,4 +36,17 @@ pub fn octal_or_zero(fields: &[&str], place: usize) -> Result<u64> {
     } else {
         Ok(0)
     }
+}
+
+/// The owner of a directory at a place of a line: `[p,n]`, in octal.
+pub fn owner(fields: &[&str], place: usize) -> Result<Ppn> {
+    let field = field(fields, place);
+    let halves = field
+        .strip_prefix('[')
+        .and_then(|field| field.strip_suffix(']'))
+        .and_then(|field| field.split_once(','));
+    let (project, programmer) = halves.context(format_args!("not an owner: {field:?}"))?;
+    let project = u32::from_str_radix(project, 8)?;
+    let programmer = u32::from_str_radix(programmer, 8)?;
+    Ppn::new(project, programmer).context(format_args!("not an owner: {field:?}"))
 }

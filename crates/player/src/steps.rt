@@ -1,5 +1,5 @@
 use crate::desk::Desk;
-use crate::fields::{decimal, decimal_or, field, octal};
+use crate::fields::{decimal, decimal_or, field, octal, owner};
 use crate::row::{step, without_remark};
 use anyhow::Result;
 use blockdisk::Disk;
@@ -140,8 +140,25 @@ fn play_event<D: Disk>(
             desk.expect(rt, line, line, blocks.as_str())?;
             Ok(())
         }
+        Some("CHARGE") => expect_charge(rt, monitor, desk, &fields, wanted),
         Some(_) => play_words(rt, monitor, desk, &fields, (event, wanted)),
     }
+}
+
+/// `CHARGE [p,n]`: a directory has this quota and this charge, or there is none.
+fn expect_charge<D: Disk>(
+    rt: &impl Print,
+    monitor: &Monitor<D>,
+    desk: &mut Desk,
+    fields: &[&str],
+    wanted: &str,
+) -> Result<()> {
+    let found = match monitor.charge(owner(fields, 1)?) {
+        Some(charge) => format!(in desk.alloc; "{} {}", charge.quota, charge.used)?,
+        None => String::from_str(desk.alloc, "None")?,
+    };
+    desk.expect(rt, "CHARGE", wanted, found.as_str())?;
+    Ok(())
 }
 
 /// Plays a step about several words, or one event.

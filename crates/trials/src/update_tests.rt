@@ -15,7 +15,7 @@ use volume::{CallError, Kind, Pending, Volume};
 use words36::{Ppn, Word};
 
 /// BAR in SIXBIT.
-const BAR: u64 = 0o424162000000;
+pub(crate) const BAR: u64 = 0o424162000000;
 
 /// A version of a file of [10,20] isn't begun, for this reason.
 fn expect_refused(
@@ -61,7 +61,7 @@ fn made(alloc: Global) -> Option<Volume<MemDisk>> {
 }
 
 /// The number [10,21].
-fn other_ppn(rt: &impl Abort) -> Ppn {
+pub(crate) fn other_ppn(rt: &impl Abort) -> Ppn {
     Ppn::new(0o10, 0o21).expect(rt, "a PPN")
 }
 
@@ -130,7 +130,11 @@ fn each_allocation_of_an_update_refused(rt: HostRuntime) {
 }
 
 /// FOO.TXT of [10,20] becomes BAR.TXT of [10,21].
-fn move_out(rt: &impl Abort, alloc: Global, volume: &mut Volume<MemDisk>) -> Result<(), CallError> {
+pub(crate) fn move_out(
+    rt: &impl Abort,
+    alloc: Global,
+    volume: &mut Volume<MemDisk>,
+) -> Result<(), CallError> {
     let (ppn, name) = (ppn_of(rt), file_name(FOO));
     let to = file_name(BAR);
     assert!(rt; to.name.bits() > 0);

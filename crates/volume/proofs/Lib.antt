@@ -1,4 +1,6 @@
 pub mod Quotas
+pub mod Charges
+pub mod ChargeSums
 pub mod HomeCopies
 pub mod Packs
 pub mod FreshTable
@@ -108,3 +110,7 @@ pub mod PrimesRead
 pub mod HomesKept
 pub mod PublishingHomes
 pub mod Migrations
+pub mod SetQuotaEntries
+pub mod SetQuotaCore
+pub mod SetQuotaLaw
+pub mod SetQuotaTransactions

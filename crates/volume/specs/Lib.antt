@@ -26,3 +26,4 @@ pub mod HomeBlocks
 pub mod PrimeBlocks
 pub mod Quotas
 pub mod Migrating
+pub mod Charging

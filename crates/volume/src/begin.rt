@@ -84,7 +84,11 @@ pub fn growth_at(core: &LiveMap, place: usize, ppn: Ppn) -> u32
 /// # Errors
 ///
 /// `Refused(NoDirectory)` where there is no such directory.
-fn find_before(core: &LiveMap, ppn: Ppn, name: &FileName) -> Result<Option<usize>, CallError>
+pub(crate) fn find_before(
+    core: &LiveMap,
+    ppn: Ppn,
+    name: &FileName,
+) -> Result<Option<usize>, CallError>
     requires whole { IsWholeCore core.now.table.size (core_of core.now) }
     ensures before { IfOk result (IsBefore (core_of core.now) ppn name.now) }
     ensures absent { IsErr result → find nat_cmp ppn (core_of core.now).known.master.entries ≡ None }
@@ -110,7 +114,7 @@ fn misfit(kind: Kind, before: Option<usize>) -> Option<ErrorCode>
 }
 
 /// What the version under a key costs; nothing, where there is none.
-fn cost_before(versions: &Slab<LiveVersion>, before: Option<usize>) -> u32
+pub(crate) fn cost_before(versions: &Slab<LiveVersion>, before: Option<usize>) -> u32
     requires few { IfSome before (λ key. IfSome (slot versions.now.slots key)
         (λ v. length v.version.blocks ≤ most_blocks)) }
     ensures { result ≡ cost_before (version_before versions.now.slots before) }
@@ -125,7 +129,13 @@ fn cost_before(versions: &Slab<LiveVersion>, before: Option<usize>) -> u32
 }
 
 /// What a version costs that is begun in the directory at a place, by what its name has before.
-fn begin_cost(core: &LiveMap, place: usize, ppn: Ppn, kind: Kind, before: Option<usize>) -> u32
+pub(crate) fn begin_cost(
+    core: &LiveMap,
+    place: usize,
+    ppn: Ppn,
+    kind: Kind,
+    before: Option<usize>,
+) -> u32
     requires inside { place < length core.now.directories.items }
     requires few { (d : KnownDirectory) → slice_get (core_of core.now).known.directories place ≡ Some d
         → entries_with (core_of core.now) d ppn < 2 ^ 64 }

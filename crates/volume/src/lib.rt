@@ -53,7 +53,11 @@
 //!    A crash at any moment leaves what stands for the files that it stood for, in the layout that they had or in
 //!    layout 2; where it answers Ok, in layout 2. It refuses what `open` refuses. (`crash`, `synced`, `files`, `done`,
 //!    `already`, `refused`, `kept`)
-//! 16. No call after `open` writes a home copy: on an honest disk blocks 0 to 2 stay, except after `Device`, and a
+//! 16. `set_quota` gives a directory another quota by one change of the master directory: a crash finds it, or the quota
+//!     from before, and nothing else of core changes. (`crash`, `done`, `limited`) `charge` and `quota` answer from core
+//!     what a directory is charged for and may have, and `quota_allows_begin`, `quota_allows_put` and
+//!     `quota_allows_move` whether its quota leaves what a call would add. (`charged`, `value`)
+//! 17. No call after `open` writes a home copy: on an honest disk blocks 0 to 2 stay, except after `Device`, and a
 //!    crash at any moment of a call leaves there what one could leave before it. (`homes`, `home_blocks`)
 //!
 //! Between two calls the volume knows the map of its disk: the chains of its directories with their entries
@@ -65,6 +69,7 @@
 
 mod begin;
 mod blocks;
+mod charge;
 mod claims;
 mod copy;
 mod cost;
@@ -95,11 +100,13 @@ mod read;
 mod rename;
 mod rename_across;
 mod rename_within;
+mod set_quota;
 mod start;
 mod supplies;
 mod transaction;
 mod words;
 
+pub use charge::Charge;
 pub use error::{CallError, CopyError, VolumeError};
 pub use file_facts::FileFacts;
 pub use files::StoredVersion;

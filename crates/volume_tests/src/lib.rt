@@ -1,7 +1,7 @@
 //! Tests of how a volume comes to be, through its public calls alone: it is made and opened, its home copies, logs,
-//! directories and files are read, or refused for what is wrong with them, and directories are made, on disks that
-//! serve and on disks that fail. They stand apart from the crate that they test so that it is proved once, and from
-//! `trials`, where versions are written and read. There is no code here beside them.
+//! directories and files are read, or refused for what is wrong with them, and directories are made and get quotas, on
+//! disks that serve and on disks that fail. They stand apart from the crate that they test so that it is proved once,
+//! and from `trials`, where versions are written and read. There is no code here beside them.
 #![tactic(auto)]
 
 #[cfg(test)]
@@ -21,8 +21,14 @@ mod init_tests;
 #[cfg(test)]
 mod make_tests;
 #[cfg(test)]
+mod migrate_image_tests;
+#[cfg(test)]
 mod migrate_tests;
 #[cfg(test)]
 mod open_tests;
 #[cfg(test)]
 mod quota_tests;
+#[cfg(test)]
+mod set_quota_tests;
+#[cfg(test)]
+mod stop_tests;

@@ -18,12 +18,12 @@ const CALLS: usize = 12;
 const READS: u64 = 7;
 
 /// A home copy of V1 for this layout.
-fn home(layout: u64) -> Block {
+pub(crate) fn home(layout: u64) -> Block {
     beginning(&[HOME[0], layout, 0o100, 1, 0o11, 0o17])
 }
 
 /// Migrates a volume. What else `migrate` promises stays behind this function.
-fn migrate<D: Disk>(alloc: Global, disk: &mut D) -> Result<Migrated, VolumeError> {
+pub(crate) fn migrate<D: Disk>(alloc: Global, disk: &mut D) -> Result<Migrated, VolumeError> {
     Volume::migrate(alloc, disk)
 }
 

@@ -1,4 +1,4 @@
-use Rattle.commands.proofs.SayingLaws.{protection_of_fits, protected_fits}
+use Rattle.commands.proofs.SayingLaws.{protection_of_fits, protected_fits, blocks_of_fits}
 use Rattle.commands.proofs.AnswerLaws.{spoke_unknown}
 use Rattle.commands.proofs.answer.answer.Goals as goal
 
@@ -15,3 +15,7 @@ make_dir_for-requires g c = protection_of_fits c.args.meant c.in-Some.command c.
 pub protect_for-requires : goal.protect_for-requires
 protect_for-requires g c = protected_fits c.args.meant c.in-Some.command c.in-Protect.spec c.in-Protect.protection
     c.in-Some.is c.in-Protect.is c.requires
+
+pub limit_for-requires : goal.limit_for-requires
+limit_for-requires g c = blocks_of_fits c.args.meant c.in-Some.command c.in-Quota.owner c.in-Quota.blocks
+    c.in-Some.is c.in-Quota.is c.requires

@@ -12,4 +12,4 @@ returns-in-Err g c = rw c.in-Err.is (concludes_refusal g.S.FileService.machine g
     (λ bytes. bytes.items) c.refuse.result c.args.moment c.args.tally.now c.refuse.new.tally _ _ c.in-Err.reply
     c.refusal.result.now c.is_broken.result
     (c.reset.ensures (refuses c.in-Err.reply)) c.refusal.ensures c.is_broken.ensures c.refuse.ensures.refused
-    c.refuse.ensures.broke c.refuse.ensures.text)
+    c.refuse.ensures.broke c.refuse.ensures.reason c.refuse.ensures.text)

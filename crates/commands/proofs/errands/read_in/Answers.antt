@@ -1,4 +1,4 @@
-use Rattle.std.proofs.Common.{ℕ, List, subst}
+use Rattle.std.proofs.Common.{ℕ, List, Ok, subst}
 use Rattle.std.proofs.lemmas.Result.{err_from_is_err_and}
 use Rattle.meaning.specs.Errands.{keeps}
 use Rattle.commands.specs.Reasons.{HasWords, words_said}
@@ -33,7 +33,7 @@ returns-in_err-print g c =
     (errand_cut g.S.FileService.machine (λ bytes. bytes.items) c.put_words-text.result _ _ _ _ plan
     c.put_words-text.new.tally c.in_err-print.field-0.0
     (carried g.S.FileService.machine (λ bytes. bytes.items) c.put_words-text.result _ _ plan c.none-tally.result
-    c.put_words-text.new.tally c.none-tally.ensures c.put_words-text.ensures) c.in_err-print.ensures) tt)
+    c.put_words-text.new.tally c.none-tally.ensures c.put_words-text.ensures) c.in_err-print.ensures) _ (λ acts written p. p) tt)
 
 pub returns : goal.returns
 returns g c =
@@ -46,9 +46,10 @@ returns g c =
     (subst (λ (l : List ℕ). HasWords (λ v. v.items) c.args.encoding l c.in-Ok.words) c.deref.ensures.value
     c.in-Ok.ensures))
     (errand_done g.S.FileService.machine (λ bytes. bytes.items) c.put_words-text.result _ _ _ _ plan
-    (record c.put_words-text.new.tally { reason = c.reason_of-tally.result }) tt
+    c.put_words-text.new.tally tt
     (carried g.S.FileService.machine (λ bytes. bytes.items) c.put_words-text.result _ _ plan c.none-tally.result
     c.put_words-text.new.tally c.none-tally.ensures c.put_words-text.ensures) c.in_ok-print.ensures)
+    (Ok (record c.put_words-text.new.tally { reason = c.reason_of-tally.result })) (λ acts written p. p)
     (c.reason_of-tally.ensures c.args.encoding c.in_ok-bytes.bytes.items
     (subst (λ (l : List ℕ). HasWords (λ v. v.items) c.args.encoding l c.in-Ok.words) c.deref.ensures.value
     c.in-Ok.ensures))

@@ -14,7 +14,7 @@ returns-in_err-print g c =
     (refused_reply g.S.FileService.machine g.met.S.FileService.stands (λ bytes. bytes.items) c.refuse-text.result _
     c.none-tally.result c.refuse-text.new.tally c.args.reply.now c.refusal.result.now c.is_broken.result
     c.refusal.ensures c.is_broken.ensures c.refuse-text.ensures.refused c.refuse-text.ensures.broke
-    c.refuse-text.ensures.text)) c.in_err-print.ensures)
+    c.refuse-text.ensures.reason c.refuse-text.ensures.text)) c.in_err-print.ensures)
 
 pub returns : goal.returns
 returns g c =
@@ -25,4 +25,4 @@ returns g c =
     (refused_reply g.S.FileService.machine g.met.S.FileService.stands (λ bytes. bytes.items) c.refuse-text.result _
     c.none-tally.result c.refuse-text.new.tally c.args.reply.now c.refusal.result.now c.is_broken.result
     c.refusal.ensures c.is_broken.ensures c.refuse-text.ensures.refused c.refuse-text.ensures.broke
-    c.refuse-text.ensures.text)) c.in_ok-print.ensures
+    c.refuse-text.ensures.reason c.refuse-text.ensures.text)) c.in_ok-print.ensures

@@ -11,4 +11,4 @@ returns-in-Err g c = shown_refused g.S.FileService.machine g.met.S.FileService.s
     (λ bytes. bytes.items) c.refuse.result c.args.tally.now c.refuse.new.tally _ _ c.args.style c.args.owner
     c.in-Err.reply
     c.refusal.result.now c.is_broken.result c.in-Err.ensures c.refusal.ensures c.is_broken.ensures
-    c.refuse.ensures.refused c.refuse.ensures.broke c.refuse.ensures.text
+    c.refuse.ensures.refused c.refuse.ensures.broke c.refuse.ensures.reason c.refuse.ensures.text

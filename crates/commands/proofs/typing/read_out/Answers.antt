@@ -7,14 +7,14 @@ returns-in-Ok g c =
     typed_out g.S.FileService.machine (λ bytes. bytes.items) _ _ _ _ c.args.moment c.args.encoding c.args.spec
     c.args.tally.now c.args.tally.now c.type_file-read.result c.new-typed.result c.type_file-read.new.typed
     c.type_file-read.ensures c.reset.ensures
-    c.in-Ok.field-0 c.in-Ok.is refl refl c.new-typed.ensures (λ words told. told.1 c.if-typed.true)
+    c.in-Ok.field-0 c.in-Ok.is refl refl refl c.new-typed.ensures (λ words told. told.1 c.if-typed.true)
 
 pub returns-in-Ok-2 : goal.returns-in-Ok-2
 returns-in-Ok-2 g c =
     typed_out g.S.FileService.machine (λ bytes. bytes.items) _ _ _ _ c.args.moment c.args.encoding c.args.spec
     c.args.tally.now c.args.tally.now c.type_file-read.result c.new-typed.result c.type_file-read.new.typed
     c.type_file-read.ensures c.reset.ensures
-    c.in-Ok.field-0 c.in-Ok.is refl refl c.new-typed.ensures (λ words told. tt)
+    c.in-Ok.field-0 c.in-Ok.is refl refl refl c.new-typed.ensures (λ words told. tt)
 
 pub returns-in-Err : goal.returns-in-Err
 returns-in-Err g c =
@@ -22,4 +22,4 @@ returns-in-Err g c =
     c.args.spec c.args.tally.now c.refuse.new.tally c.type_file-read.result c.new-typed.result
     c.type_file-read.new.typed c.type_file-read.ensures c.reset.ensures
     c.in-Err.reply c.refusal.result.now c.is_broken.result c.in-Err.is c.refusal.ensures c.is_broken.ensures
-    c.refuse.ensures.refused c.refuse.ensures.broke c.refuse.ensures.text
+    c.refuse.ensures.refused c.refuse.ensures.broke c.refuse.ensures.reason c.refuse.ensures.text

@@ -39,6 +39,10 @@ pub returns-in-DeleteDir-clause-serving : goal.returns-in-DeleteDir-clause-servi
 returns-in-DeleteDir-clause-serving g c =
     as_called c.in-DeleteDir.is (c.serve_delete_dir.ensures.serving c.args.moment c.requires.timely)
 
+pub returns-in-Quota-clause-serving : goal.returns-in-Quota-clause-serving
+returns-in-Quota-clause-serving g c =
+    as_called c.in-Quota.is (c.serve_quota.ensures.serving c.args.moment c.requires.timely)
+
 pub returns-in-Inbuf-clause-serving : goal.returns-in-Inbuf-clause-serving
 returns-in-Inbuf-clause-serving g c =
     let volume = c.args.volume.now in

@@ -5,7 +5,7 @@ use Rattle.words36.specs.Words.{IsPpn}
 use Rattle.meaning.specs.Codes.{number_of}
 use Rattle.meaning.specs.declared.code.ErrorCode.TheVariants.{NoDirectory, NotEmpty}
 use Rattle.volume.specs.RemovingDirectories.{HasEntries}
-use Rattle.monitor.specs.DeleteDirRows.{IsDeleteDir, IsNowhere, IsThere, IsRemovable, IsKeptBy, is_strange}
+use Rattle.monitor.specs.DeleteDirRows.{IsDeleteDir, IsNowhere, IsThere, IsRemovable, IsKeptBy, is_kept_from}
 use Rattle.monitor.specs.DirectoryRows.{asked_owner}
 use Rattle.monitor.proofs.DeleteDirs.{crash_asked, done_asked, nowhere_numbered, nowhere_known, there_by, kept_by}
 use Rattle.monitor.proofs.MakeDirs.{keeps_core}
@@ -32,9 +32,9 @@ pub returns-then-is_err-clause-keeps : goal.returns-then-is_err-clause-keeps
 returns-then-is_err-clause-keeps g c = keeps_core c.args.volume.now.core.pending c.args.volume.now.core.pending
     c.args.job.now c.refuse-then-is_err.new.core refl
 
-pub returns-then-ne-clause-keeps : goal.returns-then-ne-clause-keeps
-returns-then-ne-clause-keeps g c = keeps_core c.args.volume.now.core.pending c.args.volume.now.core.pending
-    c.args.job.now c.refuse-then-ne.new.core refl
+pub returns-then-is_kept_from-clause-keeps : goal.returns-then-is_kept_from-clause-keeps
+returns-then-is_kept_from-clause-keeps g c = keeps_core c.args.volume.now.core.pending c.args.volume.now.core.pending
+    c.args.job.now c.refuse-then-is_kept_from.new.core refl
 
 pub returns-in-Ok-clause-outcome : goal.returns-in-Ok-clause-outcome
 returns-in-Ok-clause-outcome g c =
@@ -42,7 +42,8 @@ returns-in-Ok-clause-outcome g c =
     let old = c.args.volume.now in
     let there : IsThere d c.in-Some.owner = there_by d c.in-Some.owner old.failed c.directory.result c.requires.serves
     c.directory.ensures.value (sym c.is_err.ensures.value ∙ c.if-is_err.false) in
-    let own : is_strange c.args.job.now.ppn c.in-Some.owner ≡ false = search rules in
+    let own : is_kept_from old.core c.args.job.now.ppn c.in-Some.owner ≡ false =
+    sym c.is_kept_from.ensures ∙ c.if-is_kept_from.false in
     let bare : HasEntries old.core c.in-Some.owner → ⊥ = search rules in
     let inside = sym c.lies_outside.ensures.value ∙ c.if-lies_outside.false in (
       refl,
@@ -73,7 +74,8 @@ returns-in-Err-Refused-clause-outcome g c =
     let old = c.args.volume.now in
     let there : IsThere d c.in-Some.owner = there_by d c.in-Some.owner old.failed c.directory.result c.requires.serves
     c.directory.ensures.value (sym c.is_err.ensures.value ∙ c.if-is_err.false) in
-    let own : is_strange c.args.job.now.ppn c.in-Some.owner ≡ false = search rules in
+    let own : is_kept_from old.core c.args.job.now.ppn c.in-Some.owner ≡ false =
+    sym c.is_kept_from.ensures ∙ c.if-is_kept_from.false in
     let code = c.in-Err-Refused.code in
     let same : (c.delete_dir.new.self.disk ≡ old.disk) × (c.delete_dir.new.self.core ≡ old.core) = search rules in
     let codes : (code ≡ NoDirectory) ⊎ (code ≡ NotEmpty) = search rules in
@@ -109,7 +111,8 @@ returns-in-Err-Device-clause-outcome g c =
     let old = c.args.volume.now in
     let there : IsThere d c.in-Some.owner = there_by d c.in-Some.owner old.failed c.directory.result c.requires.serves
     c.directory.ensures.value (sym c.is_err.ensures.value ∙ c.if-is_err.false) in
-    let own : is_strange c.args.job.now.ppn c.in-Some.owner ≡ false = search rules in
+    let own : is_kept_from old.core c.args.job.now.ppn c.in-Some.owner ≡ false =
+    sym c.is_kept_from.ensures ∙ c.if-is_kept_from.false in
     let bare : HasEntries old.core c.in-Some.owner → ⊥ = search rules in
     let inside = sym c.lies_outside.ensures.value ∙ c.if-lies_outside.false in (
       refl,

@@ -1,4 +1,4 @@
-use Rattle.std.proofs.Common.{◌≡◌, ◌∙◌, ℕ, ap, subst, Err}
+use Rattle.std.proofs.Common.{◌≡◌, ◌∙◌, ℕ, ap, sym, subst, Err, rules}
 use Rattle.words36.specs.declared.names.FileName.{FileName}
 use Rattle.meaning.specs.Codes.{number_of}
 use Rattle.meaning.specs.Layouts.{pack_of}
@@ -10,7 +10,9 @@ use Rattle.volume.specs.Rest.{IsSoundCore}
 use Rattle.monitor.specs.Finding.{IsAnswer, begin_answer_at}
 use Rattle.monitor.specs.Sides.{job_of}
 use Rattle.monitor.proofs.Answering.{contrary}
-use Rattle.monitor.proofs.Entering.{at_place, no_owner, refused, may_begin_at, begun_at, not_begun_at}
+use Rattle.monitor.proofs.Entering.{at_place, no_owner, refused, may_begin_at, limited_at, begun_at}
+use Rattle.monitor.proofs.Entering.{not_begun_at}
+use Rattle.monitor.proofs.Limits.{AllowsBegin}
 use Rattle.monitor.proofs.enter.begin_at.Goals as goal
 
 pub returns-in_default-clause-answered : goal.returns-in_default-clause-answered
@@ -43,11 +45,16 @@ returns-in-Ok-begin-clause-answered g c h alive s known w =
     (c.prime_for-prime.ensures.ppn ∙ c.in-Some.ensures.there)
     (ap (λ (x : FileName). x.name) c.prime_for-prime.ensures.file ∙ c.name_at-file.ensures.0)
     (ap (λ (x : FileName). x.ext) c.prime_for-prime.ensures.file ∙ c.name_at-file.ensures.1))
-    (begun_at d map s known sound was w c.args.job.now c.in-Ok.found c.kind_for.result prime c.begin.result
+    (begun_at d map s known sound was w c.args.job.now c.in-Ok.found c.kind_for-kind.result prime c.begin.result
     (may_begin_at d map s known sound was c.in-Ok.found c.args.job.now c.in-Some.ppn c.name_at-file.result prime
     c.prime_for-prime.ensures.ppn c.prime_for-prime.ensures.file
     (c.in-Ok.ensures.found was alive (without_serials s.files) known.files))
-    c.kind_for.ensures (c.begin.ensures.room alive) c.in-Ok-begin.pending c.in-Ok-begin.is)
+    c.kind_for-kind.ensures (c.begin.ensures.room alive) c.in-Ok-begin.pending c.in-Ok-begin.is
+    c.quota_allows_begin.result (search rules)
+    (subst (λ (ppn : ℕ). AllowsBegin map ppn prime.file c.kind_for-kind.result c.quota_allows_begin.result)
+    (sym c.prime_for-prime.ensures.ppn)
+    (subst (λ (file : FileName). AllowsBegin map c.in-Some.ppn file c.kind_for-kind.result c.quota_allows_begin.result)
+    (sym c.prime_for-prime.ensures.file) c.quota_allows_begin.ensures.value)))
 
 pub returns-in-Err-begin-clause-answered : goal.returns-in-Err-begin-clause-answered
 returns-in-Err-begin-clause-answered g c h alive s known w =
@@ -62,10 +69,23 @@ returns-in-Err-begin-clause-answered g c h alive s known w =
     (c.prime_for-prime.ensures.ppn ∙ c.in-Some.ensures.there)
     (ap (λ (x : FileName). x.name) c.prime_for-prime.ensures.file ∙ c.name_at-file.ensures.0)
     (ap (λ (x : FileName). x.ext) c.prime_for-prime.ensures.file ∙ c.name_at-file.ensures.1))
-    (not_begun_at d map s known sound was w c.args.job.now c.in-Ok.found c.kind_for.result prime c.begin.result
+    (not_begun_at d map s known sound was w c.args.job.now c.in-Ok.found c.kind_for-kind.result prime c.begin.result
     (may_begin_at d map s known sound was c.in-Ok.found c.args.job.now c.in-Some.ppn c.name_at-file.result prime
     c.prime_for-prime.ensures.ppn c.prime_for-prime.ensures.file
     (c.in-Ok.ensures.found was alive (without_serials s.files) known.files))
-    c.kind_for.ensures (c.begin.ensures.room alive) ℕ c.in-Err-begin.error c.in-Err-begin.is
+    c.kind_for-kind.ensures (c.begin.ensures.room alive) ℕ c.in-Err-begin.error c.in-Err-begin.is
     (c.begin.ensures.absent alive).0 (c.begin.ensures.exists alive) (c.begin.ensures.not_found alive)
     c.begin.ensures.codes c.begin.ensures.served (λ e. contrary alive (c.begin.ensures.failed.0 e)))
+
+-- the quota leaves too little
+pub returns-then-not-quota_allows_begin-clause-answered : goal.returns-then-not-quota_allows_begin-clause-answered
+returns-then-not-quota_allows_begin-clause-answered g c h alive s known w =
+    let d = g.D.Disk.state c.args.volume.now.disk in
+    let map = c.args.volume.now.core in
+    let sound = subst (IsSoundCore d map) alive c.requires.sound in
+    subst (λ p. begin_answer_at (pack_of d) s (job_of w c.args.job.now) p ≡ Refused 0o14)
+    (at_place w c.args.job.now c.args.address c.in-Some.ppn c.name_at-file.result c.in-Some.ensures.there
+    c.name_at-file.ensures.0 c.name_at-file.ensures.1)
+    (limited_at d map s known sound h w c.args.job.now c.in-Ok.found c.kind_for-kind.result c.in-Some.ppn
+    c.name_at-file.result (c.in-Ok.ensures.found h alive (without_serials s.files) known.files)
+    c.kind_for-kind.ensures c.quota_allows_begin.result (search rules) c.quota_allows_begin.ensures.value)

@@ -1,18 +1,17 @@
-use Rattle.std.proofs.Common.{rules, ◌≡◌, ◌*◌, ◌<◌, ◌≤◌, ◌^◌, length, Some, Err, refl, sym, ap, subst, ◌∙◌, inl}
-use Rattle.std.proofs.Common.{inr, arith, slice_set}
-use Rattle.meaning.specs.Outputs.{is_before_end}
+use Rattle.std.proofs.Common.{rules, ℕ, ◌≡◌, ◌*◌, ◌<◌, ◌≤◌, ◌^◌, length, Some, Err, refl, sym, ap, subst, ◌∙◌, inl}
+use Rattle.std.proofs.Common.{arith, slice_set}
+use Rattle.std.proofs.lemmas.Bool.{both_ways}
 use Rattle.meaning.specs.Retrieval.{most_blocks}
 use Rattle.meaning.specs.Splices.{length_after}
 use Rattle.meaning.specs.declared.code.ErrorCode.TheVariants.{NoRoom}
 use Rattle.volume.specs.declared.error.CallError.TheVariants.{Refused}
 use Rattle.volume.specs.Live.{VolumeCore}
-use Rattle.monitor.specs.Putting.{moved, IsOut}
+use Rattle.monitor.specs.Putting.{moved, IsBarred, IsOut}
 use Rattle.monitor.specs.Rows.{KeepsSides}
-use Rattle.monitor.specs.Sides.{kind_of}
 use Rattle.monitor.proofs.Calling.{keeps_same}
 use Rattle.monitor.proofs.Outgoings.{Found, at_output, goes_out, has_outgoing}
 use Rattle.monitor.proofs.Outs.{version_there, version_live, its_side, next_fits, not_refused, keeps_put}
-use Rattle.monitor.proofs.Outs.{put_over, finds_place, lacks_room, reads_status, reads_moved}
+use Rattle.monitor.proofs.Outs.{barred_none, finds_place, lacks_room, reads_status, reads_moved}
 use Rattle.monitor.proofs.Usetos.{keeps_status}
 use Rattle.monitor.proofs.out.out.Goals as goal
 
@@ -82,8 +81,8 @@ put_words-requires-clause-first g c =
     (its_side c.args.volume.now.core.pending c.args.job.now c.args.number c.in-Some.channel
     (sym c.channel.ensures ∙ c.in-Some.is) c.in-Some-output.output c.in-Some-output.is c.requires.sides).starts
 
-pub returns-then-is_kept-clause-outcome : goal.returns-then-is_kept-clause-outcome
-returns-then-is_kept-clause-outcome g c =
+pub returns-then-is_barred-clause-outcome : goal.returns-then-is_barred-clause-outcome
+returns-then-is_barred-clause-outcome g c =
     subst (IsOut (g.D.Disk.state c.args.volume.now.disk) (g.D.Disk.state c.args.volume.now.disk)
     c.args.volume.now.core c.args.volume.now.core
     ((c.args.volume.now.disk ≡ c.args.volume.now.disk) × (c.args.volume.now.core ≡ c.args.volume.now.core))
@@ -94,21 +93,22 @@ returns-then-is_kept-clause-outcome g c =
           c.in-Ok.words.items c.in-Ok.ensures.words,
       refl,
       c.stop.ensures.kept,
-      λ p at. let over = put_over (length c.in-Ok.words.items) _
-          (is_before_end (kind_of c.in-Some-output.output.kind) c.in-Some-output.output.next) c.is_kept.result
-          c.is_kept.ensures
-          (omega (arith, c.in-Ok.words.ok, c.len.ensures)) c.if-is_kept.true in
-          (over.0, inr (inr over.1)),
+      λ p at.
+          let counted : c.len.result ≡ length c.in-Ok.words.items = omega (arith, c.in-Ok.words.ok, c.len.ensures) in
+          barred_none (g.D.Disk.state c.args.volume.now.disk).size c.args.volume.now.core p c.in-Some-output.output
+          (length c.in-Ok.words.items)
+          (subst (IsBarred c.args.volume.now.core p c.in-Some-output.output) counted
+          ((c.is_barred.ensures p at).0 c.if-is_barred.true)),
       (refl, refl),
     )
 
-pub returns-then-is_kept-clause-keeps : goal.returns-then-is_kept-clause-keeps
-returns-then-is_kept-clause-keeps g c alive =
+pub returns-then-is_barred-clause-keeps : goal.returns-then-is_barred-clause-keeps
+returns-then-is_barred-clause-keeps g c alive =
     keeps_status c.args.job.now c.args.number 0 c.in-Some.channel (sym c.channel.ensures ∙ c.in-Some.is)
     c.args.volume.now.core.pending c.stop.new.job _ c.stop.ensures.kept
 
-pub returns-then-is_kept-clause-reads : goal.returns-then-is_kept-clause-reads
-returns-then-is_kept-clause-reads g c alive =
+pub returns-then-is_barred-clause-reads : goal.returns-then-is_barred-clause-reads
+returns-then-is_barred-clause-reads g c alive =
     reads_status c.args.volume.now.core.live c.args.volume.now.core.live c.args.job.now refl c.args.number
     c.in-Some.channel (sym c.channel.ensures ∙ c.in-Some.is) _ c.stop.new.job c.stop.ensures.kept
 
@@ -153,12 +153,15 @@ returns-in-Ok-put_words-clause-outcome g c =
           (subst (Found c.args.job.now.core c.in-Some.channel c.args.address) (sym c.as_slice.ensures.value)
           c.in-Ok.ensures.words).1),
       λ p at. let put = c.in-Ok-put_words.ensures.put p at in record {
-        fits = finds_place (length c.as_slice.result.now) _
-            (is_before_end (kind_of c.in-Some-output.output.kind) c.in-Some-output.output.next) c.is_kept.result
-            c.is_kept.ensures
-            (omega (arith, c.in-Ok.words.ok, c.len.ensures, ap length c.as_slice.ensures.value))
+        fits =
+            let asked : c.len.result ≡ length c.as_slice.result.now = omega
+            (arith, c.in-Ok.words.ok, c.len.ensures, ap length c.as_slice.ensures.value) in
+            finds_place (g.D.Disk.state c.args.volume.now.disk).size c.args.volume.now.core p c.in-Some-output.output
+            (length c.as_slice.result.now)
             (not_refused c.put_words.result c.in-Ok-put_words.field-0 (Refused NoRoom) c.in-Ok-put_words.is
-            (c.put_words.ensures.room c.requires.serves p at)) c.if-is_kept.false;
+            (c.put_words.ensures.room c.requires.serves p at))
+            (subst (λ (n : ℕ). IsBarred c.args.volume.now.core p c.in-Some-output.output n → ⊥) asked
+            (λ barred. both_ways c.is_barred.result c.if-is_barred.false ((c.is_barred.ensures p at).1 barred)));
         version = put.0;
         here = put.1;
         length_is = put.2;
@@ -204,7 +207,8 @@ returns-in-Err-Refused-clause-outcome g c =
           c.in-Ok.ensures.words),
       refl,
       c.stop-in-Err-Refused.ensures.kept,
-      (λ p at. lacks_room ((c.put_words.ensures.room c.requires.serves p at).0
+      (λ p at. lacks_room (g.D.Disk.state c.args.volume.now.disk).size c.args.volume.now.core p
+          c.in-Some-output.output (length c.as_slice.result.now) ((c.put_words.ensures.room c.requires.serves p at).0
           (c.in-Err-Refused.is ∙ ap Err c.in-Err-Refused.field-0-is ∙ ap (λ code. Err (Refused code))
           (c.put_words.ensures.codes c.in-Err-Refused.field-0-0
           (c.in-Err-Refused.is ∙ ap Err c.in-Err-Refused.field-0-is))))),
@@ -233,3 +237,9 @@ returns-in-Err-NoMemory-put_words-clause-keeps g c alive =
     subst (λ (core : VolumeCore). KeepsSides c.args.volume.now.core.pending core.pending c.args.job.now c.args.job.now)
     (sym same.1)
     (keeps_same c.args.volume.now.core.pending c.args.job.now)
+
+pub is_barred-requires : goal.is_barred-requires
+is_barred-requires g c = record {
+  first = (its_side c.args.volume.now.core.pending c.args.job.now c.args.number c.in-Some.channel
+      (sym c.channel.ensures ∙ c.in-Some.is) c.in-Some-output.output c.in-Some-output.is c.requires.sides).starts;
+}

@@ -1,11 +1,11 @@
-use Rattle.std.proofs.Common.{◌≤◌, ◌/◌, ◌^◌, refl, sym, ap, subst, ◌∙◌, ⊎_elim, arith}
+use Rattle.std.proofs.Common.{◌≤◌, ◌/◌, ◌^◌, refl, sym, ap, subst, ◌∙◌, ⊎_elim, arith, rules}
 use Rattle.std.specs.Prelude.{is_none}
 use Rattle.std.proofs.lemmas.Bool.{ne_eqb}
 use Rattle.meaning.specs.Codes.{number_of}
 use Rattle.meaning.specs.Layouts.{pack_of}
 use Rattle.meaning.specs.Looking.{place_at}
 use Rattle.meaning.specs.Stands.{place_of}
-use Rattle.meaning.specs.declared.code.ErrorCode.TheVariants.{NoDirectory}
+use Rattle.meaning.specs.declared.code.ErrorCode.TheVariants.{NoDirectory, NoRoom}
 use Rattle.meaning.specs.declared.call.Call.TheVariants.{Rename}
 use Rattle.meaning.specs.declared.call.Reply.TheVariants as replies
 use Rattle.volume.specs.Rest.{IsSoundCore}
@@ -15,7 +15,7 @@ use Rattle.monitor.proofs.Answering.{contrary}
 use Rattle.monitor.proofs.ChangeAnswers.{rename_stops}
 use Rattle.monitor.proofs.Entering.{at_place, no_directory}
 use Rattle.monitor.proofs.InputsClosed.{input_is_held}
-use Rattle.monitor.proofs.MoveReplies.{arrival_refused, arrival_homeless, other_place}
+use Rattle.monitor.proofs.MoveReplies.{arrival_refused, arrival_homeless, moves_limited, other_place}
 use Rattle.monitor.proofs.MoveServing.{read_on, move_serves}
 use Rattle.monitor.proofs.Moves.{address_within, asks_for}
 use Rattle.monitor.proofs.ReadingJobs.{job_held}
@@ -168,6 +168,7 @@ returns-clause-serving g c =
     (asks_for w job e (c.bits.result / 2 ^ 27)
     c.requires.named (ap (λ x. x / 2 ^ 27) (c.bits.ensures.value ∙ c.word_at.ensures.value))))
     (λ h s known w. c.in_default-may_come.ensures.answered h ready.alive s known (job_of w job) refl)
+    c.quota_allows_move.result (search rules) c.quota_allows_move.ensures.value
     c.rename-changed.result
     (record {
       crash = facts.crash;
@@ -196,3 +197,35 @@ returns-clause-serving g c =
       same = facts.same;
     })
     after.volume.core c.answer_change.ensures.closed)
+
+pub refuse-requires-then-not-quota_allows_move : goal.refuse-requires-then-not-quota_allows_move
+refuse-requires-then-not-quota_allows_move g c = address_fits c.args.job.now.core c.args.address c.requires.inside
+    (subst (λ n. n ≤ 0o400000) c.length-length.ensures.value c.length-length.ensures.most)
+
+-- the quota leaves too little
+pub returns-then-not-quota_allows_move-clause-serving : goal.returns-then-not-quota_allows_move-clause-serving
+returns-then-not-quota_allows_move-clause-serving g c = λ moment timely jobs n among.
+    let volume = c.args.volume.now in
+    let job = c.args.job.now in
+    let input = c.args.input in
+    let d = g.D.Disk.state volume.disk in
+    let ready = c.requires.ready in
+    let sound = subst (IsSoundCore d volume.core) ready.alive ready.sound in
+    let moves = ne_eqb _ 0 c.requires.named in
+    let name = c.name_at-name.result in
+    refusing_serves g.D.Disk.state g.met.D.Disk.only_now volume.disk volume.core volume.failed ready.alive job
+    c.args.number c.args.address c.args.channel input c.requires.there c.requires.side c.requires.free
+    c.requires.inside sound ready.placed NoRoom
+    (λ h s known w.
+    let e = c.args.address in
+    moves_limited d volume.core s known sound h (job_of w job) e input.ppn input.file c.in-Some.ppn name
+    (at_place w job e c.in-Some.ppn name c.in-Some.ensures.there c.name_at-name.ensures.0 c.name_at-name.ensures.1)
+    moves (c.in_default.ensures.answered h ready.alive s known (job_of w job) e refl
+    (asks_for w job e (c.bits.result / 2 ^ 27)
+    c.requires.named (ap (λ x. x / 2 ^ 27) (c.bits.ensures.value ∙ c.word_at.ensures.value))))
+    (c.in_default-may_come.ensures.answered h ready.alive s known (job_of w job) refl)
+    c.quota_allows_move.result c.quota_allows_move.ensures.value (search rules))
+    moment timely jobs n among (record job { core = c.refuse-then-not-quota_allows_move.new.core })
+    c.refuse-then-not-quota_allows_move.result
+    (ap (λ core. record job { core = core }) c.refuse-then-not-quota_allows_move.ensures.kept)
+    c.refuse-then-not-quota_allows_move.ensures.answered

@@ -1,4 +1,4 @@
-use Rattle.std.proofs.Common.{◌≡◌, ◌∙◌, ℕ, sym, subst, Ok, Err}
+use Rattle.std.proofs.Common.{◌≡◌, ◌∙◌, ℕ, sym, subst, Ok, Err, rules}
 use Rattle.std.specs.Prelude.{◌==◌}
 use Rattle.words36.specs.declared.names.FileName.{FileName}
 use Rattle.meaning.specs.Files.{Place}
@@ -14,7 +14,8 @@ use Rattle.monitor.specs.Finding.{IsAnswer}
 use Rattle.monitor.specs.Sides.{job_of}
 use Rattle.monitor.specs.Updating.{allowed_update, update_answer_at}
 use Rattle.monitor.proofs.Answering.{contrary}
-use Rattle.monitor.proofs.Updates.{updates, may, refused, begun, not_begun}
+use Rattle.monitor.proofs.Updates.{updates, may, refused, limited, begun, not_begun}
+use Rattle.monitor.proofs.Limits.{AllowsBegin}
 use Rattle.monitor.proofs.update.begin_update.Goals as goal
 
 pub returns-in-Ok-begin-clause-begun : goal.returns-in-Ok-begin-clause-begun
@@ -68,7 +69,9 @@ returns-in-Ok-begin-clause-answered g c h alive s known w =
     (subst (λ (p : Place). may d map s known sound was job.ppn p ≡ Ok c.in-Ok.kind) (sym at) ok)
     (λ D here file there. c.begin.ensures.full h alive (without_serials s.files) known.files with_file D here file
     there)
-    c.in-Ok-begin.pending c.in-Ok-begin.is)
+    c.in-Ok-begin.pending c.in-Ok-begin.is with_file c.quota_allows_begin.result (search rules)
+    (subst (λ (p : Place). AllowsBegin map p.ppn p.name c.in-Ok.kind c.quota_allows_begin.result) (sym at)
+    c.quota_allows_begin.ensures.value))
 
 pub returns-in-Err-begin-clause-answered : goal.returns-in-Err-begin-clause-answered
 returns-in-Err-begin-clause-answered g c h alive s known w =
@@ -95,3 +98,18 @@ returns-in-Err-begin-clause-answered g c h alive s known w =
     ℕ c.in-Err-begin.error c.in-Err-begin.is with_file
     (c.begin.ensures.absent alive).0 (c.begin.ensures.exists alive) (c.begin.ensures.not_found alive)
     c.begin.ensures.codes c.begin.ensures.served (λ e. contrary alive (c.begin.ensures.failed.0 e)))
+
+-- the quota leaves too little
+pub returns-then-not-quota_allows_begin-clause-answered : goal.returns-then-not-quota_allows_begin-clause-answered
+returns-then-not-quota_allows_begin-clause-answered g c h alive s known w =
+    let d = g.D.Disk.state c.args.volume.now.disk in
+    let map = c.args.volume.now.core in
+    let job = c.args.job.now in
+    let input = c.args.input.now in
+    let sound = subst (IsSoundCore d map) alive c.requires.sound in
+    let with_file = updates c.find-found.result job.ppn input.ppn _ _ c.in-Ok.kind (sym c.in-Ok.ensures) in
+    let ok : may d map s known sound h job.ppn (place_of input.ppn input.file) ≡ Ok c.in-Ok.kind =
+    (λ i. allowed_update (sym (c.find-found.ensures h alive (without_serials s.files) known.files) i) job.ppn
+    input.ppn (sym c.bits-is_zero.ensures.value i == 0) (sym c.is_claimed-claimed.ensures i)) ∙ sym c.in-Ok.ensures in
+    limited d map s known sound h w job (place_of input.ppn input.file) c.in-Ok.kind ok with_file
+    c.quota_allows_begin.result c.quota_allows_begin.ensures.value (search rules)

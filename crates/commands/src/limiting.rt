@@ -1,0 +1,29 @@
+ghost use Rattle.std.specs.Prelude.{◌≡◌, ◌<◌, ◌^◌, Some};
+ghost use Rattle.meaning.specs.declared.command.Command.TheVariants.{Quota as QuotaLine};
+ghost use Rattle.commands.specs.Sessions.{Spoke};
+
+use crate::answer::Tally;
+use crate::asking::ask_all;
+use crate::concluding::conclude;
+use crate::requests::limits;
+use crate::service::FileService;
+use std::alloc::{AllocError, Global};
+use words36::{Moment, Ppn};
+
+/// Answers QUOTA, for a job that is logged in.
+pub fn limit<S: FileService>(
+    alloc: Global,
+    service: &mut S,
+    moment: Moment,
+    me: Ppn,
+    tally: &mut Tally,
+    owner: Ppn,
+    blocks: u32,
+) -> Result<Vec<u8>, AllocError>
+    requires { blocks < 2 ^ 18 }
+    ensures { Spoke (λ bytes. bytes.items) result S.machine service.old service.new moment (Some me)
+        (Some me) tally.old tally.new (Some (QuotaLine owner blocks)) }
+{
+    let limited = ask_all(alloc, service, &limits(moment, owner, blocks));
+    conclude(alloc, service, moment, tally, limited)
+}

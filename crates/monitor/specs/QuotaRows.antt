@@ -1,0 +1,53 @@
+-- Quota: what it finds, and what it leaves. And what is told of a directory's charge.
+use Rattle.std.specs.Prelude.{◌≡◌, ◌⊎◌, ℕ, ◌+◌, ◌==◌, List, true, false, Option, option_map, slice_index}
+use Rattle.words36.specs.Words.{left}
+use Rattle.blockdisk.specs.Disk.{DiskState}
+use Rattle.meaning.specs.Charges.{charge}
+use Rattle.meaning.specs.Cores.{lies_outside}
+use Rattle.meaning.specs.Jobs.{State}
+use Rattle.meaning.specs.Maps.{get}
+use Rattle.meaning.specs.Rights.{system}
+use Rattle.meaning.specs.declared.call.Reply.{Reply}
+use Rattle.meaning.specs.declared.call.Reply.TheVariants.{Done, Value, Refused, Stopped, NoChannel, AddressCheck, NoJob}
+use Rattle.meaning.specs.declared.call.Reply.TheVariants.{NoMemory, Device, Failed, DateRange}
+use Rattle.volume.specs.declared.charge.Charge.{Charge}
+use Rattle.monitor.specs.DeleteDirRows.{IsNowhere, IsThere}
+use Rattle.monitor.specs.DirectoryRows.{asked_owner}
+use Rattle.monitor.specs.Refusals.{with_code}
+use Rattle.monitor.specs.declared.job.Job.{Job}
+
+-- what a directory is charged for, and its quota
+abbrev pub charge_told : State → ℕ → Option Charge
+charge_told s ppn = option_map (λ d. record { quota = d.quota; used = charge s ppn }) (get s.files ppn)
+
+-- the quota that the words at an address ask for
+abbrev pub asked_quota : List ℕ → ℕ → ℕ
+asked_quota core e = left (slice_index core (e + 1))
+
+-- It is refused in this layout, or for what there is, by this code.
+abbrev pub IsDenied : DiskState → ℕ → ℕ → ℕ → ℕ → Type 0
+IsDenied d layout ppn owner code = ((code ≡ 5) × ((layout == 1) ≡ true))
+    ⊎ ((code ≡ 1) × ((layout == 1) ≡ false) × IsNowhere d owner)
+    ⊎ ((code ≡ 2) × ((layout == 1) ≡ false) × IsThere d owner × ((ppn == system) ≡ false))
+
+-- The layout has quotas, the directory is there, and the job may give it one.
+abbrev pub IsLimitable : DiskState → ℕ → ℕ → ℕ → Type 0
+IsLimitable d layout ppn owner = ((layout == 1) ≡ false) × IsThere d owner × ((ppn == system) ≡ true)
+
+-- What Quota does to its job, by its answer; `same` says that disk and volume are as they were.
+abbrev pub IsQuota : DiskState → ℕ → Type 0 → Job → Job → ℕ → Reply → Type 0
+IsQuota d layout same job job' e Done =
+    (job' ≡ job) × (lies_outside job.core e 2 ≡ false) × IsLimitable d layout job.ppn (asked_owner job.core e)
+IsQuota d layout same job job' e (Refused code) =
+    (job' ≡ with_code job e code) × same × (lies_outside job.core e 2 ≡ false)
+    × IsDenied d layout job.ppn (asked_owner job.core e) code
+IsQuota d layout same job job' e AddressCheck = (job' ≡ job) × same × (lies_outside job.core e 2 ≡ true)
+IsQuota d layout same job job' e Device =
+    (job' ≡ job) × (lies_outside job.core e 2 ≡ false) × IsLimitable d layout job.ppn (asked_owner job.core e)
+IsQuota d layout same job job' e NoMemory = ⊥
+IsQuota d layout same job job' e (Value word) = ⊥
+IsQuota d layout same job job' e (Stopped status) = ⊥
+IsQuota d layout same job job' e NoChannel = ⊥
+IsQuota d layout same job job' e NoJob = ⊥
+IsQuota d layout same job job' e Failed = ⊥
+IsQuota d layout same job job' e DateRange = ⊥

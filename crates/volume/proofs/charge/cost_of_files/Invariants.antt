@@ -1,0 +1,7 @@
+use Rattle.std.proofs.Common.{◌≡◌, take}
+use Rattle.meaning.specs.Maps.{total}
+use Rattle.volume.proofs.ChargeSums.{cost_under}
+use Rattle.volume.proofs.charge.cost_of_files.Given as goal
+
+abbrev pub invariant-loop-i : goal.invariant-loop-i
+invariant-loop-i l = l.cost ≡ total (cost_under l.versions.slots) (take l.i l.keys.items)

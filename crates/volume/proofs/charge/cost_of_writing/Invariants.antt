@@ -1,0 +1,13 @@
+use Rattle.std.proofs.Common.{◌≡◌, ◌+◌}
+use Rattle.meaning.specs.Maps.{total}
+use Rattle.volume.specs.Charging.{writes_in}
+use Rattle.volume.proofs.ChargeSums.{written, HaveFewBlocks}
+use Rattle.volume.proofs.charge.cost_of_writing.Given as goal
+
+-- those that were counted and those that are left are all
+abbrev pub invariant-loop-version : goal.invariant-loop-version
+invariant-loop-version l =
+    (goal.iterator-loop-version).can_next l.version-iterator ×
+    (goal.iterator-loop-version).is_finite l.version-iterator ×
+    (l.cost + written l.ppn l.version-iterator ≡ total (writes_in l.ppn) l.pending.slots) ×
+    HaveFewBlocks l.version-iterator

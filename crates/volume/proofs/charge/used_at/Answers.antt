@@ -1,0 +1,102 @@
+use Rattle.std.proofs.Common.{◌≡◌, ◌+◌, ap, sym, ◌∙◌, arith}
+use Rattle.std.proofs.lemmas.List.{length-map}
+use Rattle.meaning.proofs.MapLaws.{some_same}
+use Rattle.meaning.specs.Costs.{directory_cost}
+use Rattle.volume.specs.Beginning.{entries_with}
+use Rattle.volume.specs.Charging.{used_by}
+use Rattle.volume.specs.Cores.{file_view}
+use Rattle.volume.specs.Known.{KnownDirectory}
+use Rattle.volume.specs.LiveCores.{core_of, live_directory}
+use Rattle.volume.proofs.Beginnings.{place_of}
+use Rattle.volume.proofs.ChargeSums.{charge_fits}
+use Rattle.volume.proofs.Growing.{entries_few}
+use Rattle.volume.proofs.charge.used_at.Goals as goal
+
+pub overflow_add-entries : goal.overflow_add-entries
+overflow_add-entries c =
+    let m = c.args.core.now in
+    let item = c.index-directory.result.now in
+    let d = live_directory m.versions.slots item in
+    let at = place_of (live_directory m.versions.slots) m.directories.items c.args.place item item c.requires.inside
+    c.index-directory.ensures in
+    let few = entries_few m.table.size (core_of m) c.args.ppn c.args.place d c.requires.whole at in
+    let many = length-map item.chain.entries file_view in
+    let entries = c.len.ensures in
+    let created = c.creations.ensures in
+    omega arith
+
+pub cost_of_files-files-requires-clause-fits : goal.cost_of_files-files-requires-clause-fits
+cost_of_files-files-requires-clause-fits c =
+    let m = c.args.core.now in
+    let item = c.index-directory.result.now in
+    let d = live_directory m.versions.slots item in
+    let at = place_of (live_directory m.versions.slots) m.directories.items c.args.place item item c.requires.inside
+    c.index-directory.ensures in
+    let fits = charge_fits m.table.size (core_of m) c.args.ppn c.args.place d c.requires.whole at in
+    omega arith
+
+pub overflow_add-result : goal.overflow_add-result
+overflow_add-result c =
+    let m = c.args.core.now in
+    let item = c.index-directory.result.now in
+    let d = live_directory m.versions.slots item in
+    let at = place_of (live_directory m.versions.slots) m.directories.items c.args.place item item c.requires.inside
+    c.index-directory.ensures in
+    let few = entries_few m.table.size (core_of m) c.args.ppn c.args.place d c.requires.whole at in
+    let many = length-map item.chain.entries file_view in
+    let entries = c.len.ensures in
+    let created = c.creations.ensures in
+    let fits = charge_fits m.table.size (core_of m) c.args.ppn c.args.place d c.requires.whole at in
+    let own = c.directory_cost.ensures in
+    let files = c.cost_of_files-files.ensures in
+    omega arith
+
+pub overflow_add-result-2 : goal.overflow_add-result-2
+overflow_add-result-2 c =
+    let m = c.args.core.now in
+    let item = c.index-directory.result.now in
+    let d = live_directory m.versions.slots item in
+    let at = place_of (live_directory m.versions.slots) m.directories.items c.args.place item item c.requires.inside
+    c.index-directory.ensures in
+    let few = entries_few m.table.size (core_of m) c.args.ppn c.args.place d c.requires.whole at in
+    let many = length-map item.chain.entries file_view in
+    let entries = c.len.ensures in
+    let created = c.creations.ensures in
+    let fits = charge_fits m.table.size (core_of m) c.args.ppn c.args.place d c.requires.whole at in
+    let own = c.directory_cost.ensures in
+    let files = c.cost_of_files-files.ensures in
+    let writing = c.cost_of_writing-writing.ensures in
+    omega arith
+
+pub returns-clause-few : goal.returns-clause-few
+returns-clause-few c =
+    let m = c.args.core.now in
+    let item = c.index-directory.result.now in
+    let d = live_directory m.versions.slots item in
+    let at = place_of (live_directory m.versions.slots) m.directories.items c.args.place item item c.requires.inside
+    c.index-directory.ensures in
+    let few = entries_few m.table.size (core_of m) c.args.ppn c.args.place d c.requires.whole at in
+    let many = length-map item.chain.entries file_view in
+    let entries = c.len.ensures in
+    let created = c.creations.ensures in
+    let fits = charge_fits m.table.size (core_of m) c.args.ppn c.args.place d c.requires.whole at in
+    let own = c.directory_cost.ensures in
+    let files = c.cost_of_files-files.ensures in
+    let writing = c.cost_of_writing-writing.ensures in
+    omega arith
+
+pub returns-clause-value : goal.returns-clause-value
+returns-clause-value c d is =
+    let m = c.args.core.now in
+    let item = c.index-directory.result.now in
+    let x = live_directory m.versions.slots item in
+    let at = place_of (live_directory m.versions.slots) m.directories.items c.args.place item item c.requires.inside
+    c.index-directory.ensures in
+    let same : x ≡ d = some_same (sym at ∙ is) in
+    let many = length-map item.chain.entries file_view in
+    let entries = c.len.ensures in
+    let created = c.creations.ensures in
+    let own : c.directory_cost.result ≡ directory_cost (entries_with (core_of m) x c.args.ppn) =
+    c.directory_cost.ensures ∙ ap directory_cost (omega arith) in
+    (λ i. own i + c.cost_of_files-files.ensures i + c.cost_of_writing-writing.ensures i)
+    ∙ ap (λ (k : KnownDirectory). used_by (core_of m) k c.args.ppn) same

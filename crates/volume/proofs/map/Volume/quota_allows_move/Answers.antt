@@ -1,0 +1,17 @@
+use Rattle.std.proofs.Common.{◌+◌, sym, ◌∙◌}
+use Rattle.meaning.specs.Room.{growth}
+use Rattle.volume.specs.Beginning.{entries_with}
+use Rattle.volume.specs.Charging.{IsOver}
+use Rattle.volume.specs.Known.{cost_before}
+use Rattle.volume.specs.LiveCores.{core_of}
+use Rattle.volume.proofs.Charges.{apart_over}
+use Rattle.volume.proofs.map.Volume.quota_allows_move.Goals as goal
+
+pub returns : goal.returns
+returns g c = record {
+  value = rw (← c.self.view_is) (λ d t there there_t old named.
+      let core = core_of c.self.inside.map in
+      apart_over c.args.ppn c.args.to c.move_is_over.result
+      (IsOver core c.args.to (cost_before old + growth (entries_with core t c.args.to)))
+      (sym c.eq.ensures ∙ c.if-eq.false) (c.move_is_over.ensures d t there there_t old named));
+}

@@ -1,0 +1,101 @@
+-- What a directory in core is charged for, what its quota leaves, and what another quota makes of core.
+use Rattle.std.specs.Prelude.{◌≡◌, ℕ, ◌+◌, ◌-◌, ◌*◌, ◌/◌, ◌%◌, ◌^◌, ◌==◌, ◌<◌, ◌≤◌, if◌then◌else◌}
+use Rattle.std.specs.Prelude.{List, [], length, Option, Some, None, slice_get}
+use Rattle.std.specs.Ordering.{nat_cmp}
+use Rattle.std.specs.FinMap.Entries.{find}
+use Rattle.meaning.specs.declared.put.Put.{Put}
+use Rattle.meaning.specs.Costs.{directory_cost, version_cost}
+use Rattle.meaning.specs.Directories.{master_words}
+use Rattle.meaning.specs.Files.{File, Directory}
+use Rattle.meaning.specs.Maps.{size, sum_over, total}
+use Rattle.meaning.specs.Retrieval.{most_blocks}
+use Rattle.meaning.specs.Splices.{length_after}
+use Rattle.directory.specs.Edits.{StandsAt, PutsChain, inserted}
+use Rattle.volume.specs.Beginning.{entries_with}
+use Rattle.volume.specs.Known.{KnownDirectory, cost_of_version}
+use Rattle.volume.specs.Live.{VolumeCore, pending_cost}
+use Rattle.volume.specs.declared.charge.Charge.{Charge}
+use Rattle.volume.specs.declared.pending.PendingVersion.{PendingVersion}
+
+-- what a version costs that is being written in a directory
+abbrev pub writes_in : ℕ → Option PendingVersion → ℕ
+writes_in ppn None = 0
+writes_in ppn (Some p) = if p.prime.ppn == ppn then pending_cost (Some p) else 0
+
+-- the directory's own cost with what is being created in it, its current files, and what is being written in it
+abbrev pub used_by : VolumeCore → KnownDirectory → ℕ → ℕ
+used_by c d ppn = directory_cost (entries_with c d ppn) + total cost_of_version d.versions
+    + total (writes_in ppn) c.pending
+
+-- The directory is there, and this is its quota and what it is charged for.
+pub record IsCharged (c : VolumeCore) (ppn : ℕ) (charge : Charge) : Type 0 where
+  pub place : ℕ
+  pub word : ℕ × ℕ
+  pub there : StandsAt nat_cmp c.known.master.entries ppn word place
+  pub directory : KnownDirectory
+  pub directory_at : slice_get c.known.directories place ≡ Some directory
+  pub quota_is : charge.quota ≡ word.0 % 2 ^ 18
+  pub used_is : charge.used ≡ used_by c directory ppn
+
+-- n blocks more are more than the directory has left; a quota of 0 is no limit
+abbrev pub IsOver : VolumeCore → ℕ → ℕ → Type 0
+IsOver c ppn more = (charge : Charge) × IsCharged c ppn charge × (0 < charge.quota)
+    × (charge.quota < charge.used + more)
+
+-- by how much a version that is being written costs more with so many words at a block
+abbrev pub rise : PendingVersion → ℕ → ℕ → ℕ
+rise p block count = version_cost (length_after p.version.words block count) - version_cost p.version.words
+
+-- it costs more then, and by more than its directory has left
+abbrev pub Outgrows : VolumeCore → PendingVersion → ℕ → ℕ → Type 0
+Outgrows c p block count = (0 < rise p block count) × IsOver c p.prime.ppn (rise p block count)
+
+-- no file has as many words
+abbrev pub IsTooLong : PendingVersion → ℕ → ℕ → Type 0
+IsTooLong p block count = most_blocks * 128 < length_after p.version.words block count
+
+-- The same by the files.
+
+abbrev pub charge_answer : Option (Directory File) → ℕ → ℕ → Option Charge
+charge_answer None creations writing = None
+charge_answer (Some d) creations writing = Some (record {
+  quota = d.quota;
+  used = directory_cost (size d.files + creations) + sum_over (λ f. version_cost (length f.body)) d.files + writing;
+})
+
+abbrev pub quota_in_files : Option (Directory File) → ℕ
+quota_in_files None = 0
+quota_in_files (Some d) = d.quota
+
+-- the quota of a directory in core, 0 where there is none
+abbrev pub quota_in_word : Option (ℕ × ℕ) → ℕ
+quota_in_word None = 0
+quota_in_word (Some word) = word.0 % 2 ^ 18
+
+abbrev pub quota_in_core : VolumeCore → ℕ → ℕ
+quota_in_core c ppn = quota_in_word (find nat_cmp ppn c.known.master.entries)
+
+-- Another quota.
+
+-- the word of a directory's entry with another quota
+abbrev pub word_limited : ℕ × ℕ → ℕ → ℕ × ℕ
+word_limited word quota = (word.0 / 2 ^ 18 * 2 ^ 18 + quota, word.1)
+
+-- The directory's entry has this quota, and nothing else changes in core.
+pub record IsLimited (c c' : VolumeCore) (ppn quota : ℕ) : Type 0 where
+  pub place : ℕ
+  pub word : ℕ × ℕ
+  pub there : StandsAt nat_cmp c.known.master.entries ppn word place
+  pub core : c' ≡ record c {
+    known = record c.known {
+      master = record c.known.master {
+        entries = inserted nat_cmp c.known.master.entries (ppn, word_limited word quota);
+      };
+    };
+  }
+
+-- The same, with the puts that will make it so on the disk.
+pub record LimitsDirectory (c c' : VolumeCore) (ppn quota : ℕ) (puts : List Put) : Type 0 where
+  pub limited : IsLimited c c' ppn quota
+  pub put : PutsChain master_words c.known.master c'.known.master [] puts
+  pub few : length puts ≤ 2
