@@ -1,21 +1,15 @@
-use Rattle.std.proofs.Common.{rules, ◌≡◌, ◌+◌, ◌*◌, ◌<◌, ◌≤◌, ◌⊎◌, ◌∷◌, ◌++◌, ℕ, None, IfOk, IfErr, OnOk, IsErrOf, length, ◌-◌, ◌/◌, ◌%◌, Bool, true, false, nat_eq, nat_lt, List, [], slice_index_or, slice_set, bit_and, bit_or, Fits, w8, w32, w64, Bor, MutBor}
-use Rattle.std.specs.List.{AllByRecursion}
-use Rattle.blockdisk.specs.Disk.{Keeps, SameDisk, IsWholeBlock, one_more}
-use Rattle.meaning.specs.Maps.{times}
-use Rattle.meaning.specs.Costs.{blocks_of}
-use Rattle.meaning.specs.Regions.{IsVolumeSize}
+use Rattle.std.proofs.Common.{inl, inr}
 use Rattle.meaning.specs.Layouts.{layout_number}
-use Rattle.meaning.specs.Retrieval.{most_blocks}
-use Rattle.meaning.specs.Stands.{place_of}
-use Rattle.meaning.specs.Faults.{InSpace, IsBadVersion}
-use Rattle.alloctab.specs.Lists.{digit_at}
-use Rattle.retrieval.specs.Reading.{IsVersionAt}
-use Rattle.retrieval.specs.Writing.{rib_count}
-use Rattle.volume.specs.FileReading.{IsFileFound, IsOtherPlace, IsReachedTwice, IsDamagedData, IsVersionRefusal, IsDataRefusal, IsFileRefusal}
-use Rattle.volume.specs.FaultsFound.{NamesInSpace}
-use Rattle.volume.specs.declared.error.VolumeError.TheVariants.{BadRetrieval, BlockTwice, Device, NoMemory, BadData}
+use Rattle.volume.proofs.OtherPlaces.{differ, names_differ, other_place}
 use Rattle.volume.proofs.files.read_named.Goals as goal
+use Rattle.volume.proofs.files.read_named.Goals.{then-ne-via-then-ne, then-ne-via-else-ne+then-ne-2}
 
--- src/files.rt:82:9
 pub returns-then-ne-clause-bad_version : goal.returns-then-ne-clause-bad_version
-returns-then-ne-clause-bad_version g c = ?
+returns-then-ne-clause-bad_version g c h k is =
+    let s = g.D.Disk.state c.args.disk.now in
+    let read = c.in-Ok.read in
+    inr (cc, other_place s.size (layout_number c.args.layout) s.contents c.args.prime read.0 read.1 c.args.ppn c.args.name
+    (c.in-Ok.ensures.ok h) (elim c.then-ne.branch [
+      | then-ne-via-then-ne w ↦ inl (differ c.in-Ok.read.0.ppn c.args.ppn w.if-ne.ensures)
+      | then-ne-via-else-ne+then-ne-2 w ↦ inr (names_differ c.in-Ok.read.0.file c.args.name w.if-ne-2.ensures)
+    ]))
