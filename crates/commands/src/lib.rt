@@ -34,7 +34,9 @@
 //!    last one. Each does a plan by calls of job 1, which logs in for it, and writes what that says; what a crash
 //!    leaves is said as of a session. (`Delivery`, `Errand`, `Survey`) `list` of all directories says that the service
 //!    has stopped only if it has failed. (`AreAsked`) `check` writes what a volume has. (`Checked`) If the input of
-//!    `put` can't be a file, the tally has the first byte or word that doesn't fit. (`IsMisfit`)
+//!    `put` can't be a file, the tally has the first byte or word that doesn't fit, or how much a file holds.
+//!    (`IsMisfit`) Reading stops early only at bytes with which no file begins, or at more than one holds.
+//!    (`BeginsNoFile`, `IsTooLong`)
 #![tactic(auto)]
 
 mod answer;
