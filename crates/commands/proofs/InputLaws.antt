@@ -1,5 +1,5 @@
 -- Inputs that are read piece by piece, and where that stops.
-use Rattle.std.proofs.Common.{◌≡◌, ◌⊎◌, ◌<◌, ◌≤◌, ℕ, Bool, List, [], ◌∷◌, ◌++◌, length, Option, Some, None, subst, inl, inr}
+use Rattle.std.proofs.Common.{◌⊎◌, ◌<◌, ◌≤◌, ℕ, Bool, List, [], ◌∷◌, ◌++◌, Some, None, subst, inl, inr}
 use Rattle.std.proofs.Common.{append-nil, arith}
 use Rattle.meaning.specs.Errands.{is_character, AreWords}
 use Rattle.meaning.specs.Spellings.{Are}
