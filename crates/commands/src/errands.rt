@@ -152,8 +152,8 @@ fn write_no_room<W: Write, S: FileService>(
 }
 
 /// Makes a file of what a reader has, by a job that logs in for it, and writes how that went. All of the input is read
-/// and tested before anything is asked of the service; if it can't be a file, reading stops where that shows, and
-/// nothing is asked.
+/// and tested before anything is asked of the service. Reading stops early at bytes with which no file begins, and at
+/// more than a file can hold; nothing is asked then.
 ///
 /// # Errors
 ///

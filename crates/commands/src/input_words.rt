@@ -66,7 +66,8 @@ fn is_hopeless(encoding: Encoding, piece: &[u8]) -> bool
     }
 }
 
-/// Reads an input to its end, or until its bytes show that it can't be a file.
+/// Reads an input to its end. Stops early at a piece with which no input can be a file, and at more bytes than a file can
+/// hold.
 ///
 /// # Errors
 ///

@@ -36,7 +36,7 @@
 //!    has stopped only if it has failed. (`AreAsked`) `check` writes what a volume has. (`Checked`) If the input of
 //!    `put` can't be a file, the tally has the first byte or word that doesn't fit, or how much a file holds.
 //!    (`IsMisfit`) Reading stops early only at bytes with which no file begins, or at more than one holds.
-//!    (`BeginsNoFile`, `IsTooLong`)
+//!    (`BeginsNoFile`, `IsTooLong`, `long_inputs_fit_no_file`)
 #![tactic(auto)]
 
 mod answer;
@@ -78,7 +78,7 @@ pub use answer::Tally;
 pub use dates::date_named;
 pub use error::SessionError;
 pub use laws::{
-    errands_reach_files, lines_have_one_meaning, orders_have_one_reading,
+    errands_reach_files, lines_have_one_meaning, long_inputs_fit_no_file, orders_have_one_reading,
     served_texts_are_functions,
 };
 pub use meaning::{Encoding, Style};

@@ -112,8 +112,8 @@ pub fn get<W: Write, D: Disk>(
 }
 
 /// Makes a file of all that a reader has, by job 1, which logs in for it as the owner of a directory, at a moment; a
-/// file that is there is superseded. All of the input is read and tested before anything is asked; if it can't be a
-/// file, reading stops once that shows. `OK` is written, or why not.
+/// file that is there is superseded. All of the input is read and tested before anything is asked. Reading stops
+/// early at bytes with which no file begins, and at more than a file can hold. `OK` is written, or why not.
 ///
 /// # Errors
 ///
