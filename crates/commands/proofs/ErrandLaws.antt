@@ -1,6 +1,6 @@
 -- What is left of a service and of a writer where a job logs in for one thing.
 use Rattle.std.proofs.Common.{◌≡◌, ◌⊎◌, ℕ, ◌||◌, Bool, true, false, List, [], Option, None, Some, Result, Ok, Err, refl}
-use Rattle.std.proofs.Common.{sym, ◌∙◌, ap, subst, inl, inr, IfOk, ℤ}
+use Rattle.std.proofs.Common.{sym, ◌∙◌, ap, subst, inl, inr, IfOk, ℤ, ◌≤◌, length, arith}
 use Rattle.std.specs.Prelude.{IsErrOf}
 use Rattle.std.specs.Io.KnownBytes.{Appends, Consumes, IsAtEnd}
 use Rattle.std.proofs.KnownBytes.{Appends-nil}
@@ -16,15 +16,17 @@ use Rattle.meaning.specs.declared.call.Reply.{Reply}
 use Rattle.meaning.specs.declared.call.Reply.TheVariants.{NoMemory as NoMemoryReply, Failed}
 use Rattle.meaning.specs.declared.encoding.Encoding.{Encoding}
 use Rattle.commands.specs.Asking.{Led, Concludes}
-use Rattle.commands.specs.Errands.{fresh, Carries, Performs, Errand, IsUnread, Delivery, Checked, TellsMisfit}
+use Rattle.commands.specs.Errands.{fresh, Carries, Performs, Errand, IsUnread, Delivery, Checked, TellsMisfit, no_room}
 use Rattle.commands.specs.Machines.{Machine, AlwaysStands}
-use Rattle.commands.specs.Reasons.{HasWords, words_said}
+use Rattle.commands.specs.Reasons.{HasWords, IsInputReason, words_said, most_bytes, IsTooLong, BeginsNoFile}
 use Rattle.commands.specs.Sessions.{WritesText}
 use Rattle.commands.specs.Streams.{spoken}
 use Rattle.commands.specs.declared.answer.Tally.{Tally}
 use Rattle.commands.specs.declared.error.SessionError.{SessionError}
 use Rattle.commands.specs.declared.reason.Misfit.{Misfit}
 use Rattle.commands.specs.declared.error.SessionError.TheVariants.{Read, NoMemory}
+use Rattle.commands.specs.declared.reason.Misfit.TheVariants.{Excess}
+use Rattle.commands.specs.declared.reason.Reason.TheVariants.{Input}
 use Rattle.commands.proofs.GoingLaws.{goes_nowhere}
 use Rattle.commands.proofs.LedLaws.{led_on, led_still}
 use Rattle.commands.proofs.AnswerLaws.{or-true}
@@ -149,21 +151,49 @@ module _ {V E S : Type 0} (machine : S → Machine) (stands : AlwaysStands machi
 module _ {S : Type 0} (machine : S → Machine) (source left sink full : Option (List ℕ)) (a b : S) (encoding : Encoding)
     (plan : Option (List ℕ) → Plan) where
   pub delivered : (result : Result Tally SessionError) (read : List ℕ) (words : Option (List ℕ))
-      → Consumes source left read → IsAtEnd left → AreWords encoding read words
+      → Consumes source left read → IsAtEnd left ⊎ BeginsNoFile encoding read → length read ≤ most_bytes encoding
+      → AreWords encoding read words
       → Errand sink full machine a b (plan words) result → (told : Result Tally SessionError)
       → ((acts : List Act) (written : List ℕ) → Performs (plan words) acts written result
       → Performs (plan words) acts written told) → TellsMisfit encoding read told
       → Delivery source left sink full machine a b encoding plan told
-  delivered result read words consumed ended are p told same tells = record {
+  delivered result read words consumed ended few are p told same tells = record {
     read = read;
     written = p.written;
     acts = p.acts;
     consumed = consumed;
     appended = p.appended;
     goes = p.goes;
-    delivers = inl (ended, words, are, same p.acts p.written p.performs);
+    delivers = inl (ended, few, words, are, same p.acts p.written p.performs);
     tells = tells;
   }
+
+  pub excessive : (result : Result Tally SessionError) (read : List ℕ) → Consumes source left read
+      → IsTooLong encoding read → Errand sink full machine a b no_room result → (told : Result Tally SessionError)
+      → ((acts : List Act) (written : List ℕ) → Performs no_room acts written result
+      → Performs no_room acts written told) → TellsMisfit encoding read told
+      → Delivery source left sink full machine a b encoding plan told
+  excessive result read consumed long p told same tells = record {
+    read = read;
+    written = p.written;
+    acts = p.acts;
+    consumed = consumed;
+    appended = p.appended;
+    goes = p.goes;
+    delivers = inr (inl (long, same p.acts p.written p.performs));
+    tells = tells;
+  }
+
+-- the reason of an input that isn't too long
+pub tells_fitting : (encoding : Encoding) (read : List ℕ) (tally : Tally) → length read ≤ most_bytes encoding
+    → IsInputReason encoding read tally.reason → TellsMisfit encoding read (Ok tally)
+tells_fitting encoding read tally few reason = (reason, λ long. let wrong : ⊥ = omega (arith, long) in absurd wrong)
+
+-- and of one that is
+pub tells_excess : (encoding : Encoding) (read : List ℕ) (most : ℕ) → most ≡ most_bytes encoding
+    → IsTooLong encoding read → IsInputReason encoding read (Some (Input (Excess most)))
+    × (IsTooLong encoding read → Some (Input (Excess most)) ≡ Some (Input (Excess (most_bytes encoding))))
+tells_excess encoding read most same long = ((same, long), λ _. ap (λ (n : ℕ). Some (Input (Excess n))) same)
 
 -- what an input has that says words, or none
 pub words_are : {V : Type 0} (items : V → List ℕ) (encoding : Encoding) (bytes : List ℕ) (words : Result V Misfit)
@@ -187,7 +217,7 @@ undelivered machine stands source left sink a encoding plan result read consumed
   consumed = consumed;
   appended = Appends-nil sink;
   goes = goes_nowhere machine stands a;
-  delivers = inr (unread, refl, refl);
+  delivers = inr (inr (unread, refl, refl));
   tells = tells_nothing encoding read result unread;
 }
 

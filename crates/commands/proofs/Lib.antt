@@ -22,6 +22,8 @@ pub mod ObeyLaws
 pub mod ReadingLaws
 pub mod TypingLaws
 pub mod SpecLaws
+pub mod InputLaws
+pub mod ExcessLaws
 pub mod ErrandLaws
 pub mod OutcomeLaws
 pub mod SurveyLaws

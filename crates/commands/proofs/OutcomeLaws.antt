@@ -1,7 +1,8 @@
 -- What the errands of job 1 come to.
 use Rattle.std.proofs.Common.{◌≡◌, ◌⊎◌, inl, inr, ⊎_elim, ◌<◌, ℕ, true, false, List, [], ◌∷◌, length, Option, Some}
-use Rattle.std.proofs.Common.{None, refl}
-use Rattle.std.proofs.Common.{sym, ap, subst, ◌∙◌}
+use Rattle.std.proofs.Common.{None, refl, sym, ap, subst, ◌∙◌}
+use Rattle.std.specs.Prelude.{codes}
+use Rattle.std.specs.Io.KnownBytes.{IsAtEnd}
 use Rattle.words36.specs.declared.moment.Moment.{Moment}
 use Rattle.meaning.specs.Copies.{AreShort, HasFiles, IsLineRefused, IsPrinted, HasHalfwordExtension}
 use Rattle.meaning.specs.Causes.{IsRefusedAt}
@@ -20,8 +21,10 @@ use Rattle.meaning.proofs.CauseLaws.{put_refusals, get_refusals}
 use Rattle.meaning.proofs.ErrandRuns.{puts_are_exact, gets_are_exact}
 use Rattle.commands.specs.Machines.{Machine}
 use Rattle.commands.specs.Outcomes.{IsStored, DeliveriesKeepFiles, ErrandsShowFiles}
+use Rattle.commands.specs.Reasons.{BeginsNoFile}
 use Rattle.commands.specs.Streams.{spoken}
 use Rattle.commands.proofs.GoingLaws.{acts_went}
+use Rattle.commands.proofs.InputLaws.{no_file, not_both}
 
 -- nothing is asked where the input is no file's
 complained : (pack : Pack) (s : State) (acts : List Act) (text : List ℕ) (said : Spoken) (last : Service)
@@ -39,19 +42,26 @@ not_refused : (files : Files Version) (said other : Spoken) (last : Service) →
 not_refused files said other last refused e is =
     let wrong : true ≡ false = sym refused.0 ∙ ap (λ (x : Spoken). x.refused) e ∙ is in cc
 
-delivered : (pack : Pack) (s : State) (moment : Moment) (me : ℕ) (encoding : Encoding) (spec : Spec) (read : List ℕ)
-    (words : Option (List ℕ)) (acts : List Act) (said : Spoken) (last : Service) → 1 < length s.jobs
-    → HasHalfwordExtension spec
+-- an input that has words was read to its end
+whole : {A : Type 0} (encoding : Encoding) (read words : List ℕ) → AreWords encoding read (Some words)
+    → A ⊎ BeginsNoFile encoding read → A
+whole encoding read words are (inl at_end) = at_end
+whole encoding read words are (inr none) = absurd (not_both encoding read words are (no_file encoding read none))
+
+delivered : (pack : Pack) (s : State) (moment : Moment) (me : ℕ) (encoding : Encoding) (spec : Spec) (at_end : Type 0)
+    (read : List ℕ) (words : Option (List ℕ)) (acts : List Act) (said : Spoken) (last : Service) → 1 < length s.jobs
+    → HasHalfwordExtension spec → at_end ⊎ BeginsNoFile encoding read
     → AreWords encoding read words → Conducts (keeps moment me encoding spec words) acts said
-    → Went pack (Serving s) acts last → IsStored moment me s encoding spec read acts said last
-delivered pack s moment me encoding spec read None acts said last there few are led went =
+    → Went pack (Serving s) acts last → IsStored moment me s encoding spec at_end read acts said last
+delivered pack s moment me encoding spec at_end read None acts said last there few ended are led went =
     let c = complained pack s acts (unfit encoding) said last led went in
-    inr (c.0, inl (are, c.1))
-delivered pack s moment me encoding spec read (Some words) acts said last there few are led went = ⊎_elim
-    (λ put. inl (words, are, put))
+    inr (c.0, inl (ended, are, c.1))
+delivered pack s moment me encoding spec at_end read (Some words) acts said last there few ended are led went = ⊎_elim
+    (λ put. inl (whole encoding read words are ended, words, are, put))
     (λ refused. inr (
       refused,
-      ⊎_elim (λ is. absurd (not_refused s.files said ok last refused is refl)) inr
+      ⊎_elim (λ is. absurd (not_refused s.files said ok last refused is refl))
+          (λ cause. inr (inr (whole encoding read words are ended, cause)))
           (put_refusals moment me encoding spec words acts said led),
     ))
     (puts_are_exact pack moment me s encoding spec words said last there few (acts, led, went))
@@ -76,19 +86,16 @@ module _ {S : Type 0} (machine : S → Machine) where
   deliveries_keep_files source left sink full old new moment me encoding spec tally d honest s serves there few =
       let end = d.goes.went honest (Serving s) serves in
       let went = acts_went machine (machine old).pack old (Serving s) d.acts new end.0 end.2 in
+      let stored : IsStored moment me s encoding spec (IsAtEnd left) d.read d.acts (spoken d.written tally) end.0 =
       ⊎_elim
-      (λ done. (
-        d.read,
-        d.written,
-        d.consumed,
-        done.0,
-        d.appended,
-        end.0,
-        end.1,
-        delivered (machine old).pack s moment me encoding spec d.read done.1 d.acts
-            (spoken d.written tally) end.0 there few
-            done.2 done.3 went,
-      )) (λ unread. absurd unread.0) d.delivers
+      (λ done. delivered (machine old).pack s moment me encoding spec (IsAtEnd left) d.read done.2 d.acts
+      (spoken d.written tally) end.0 there few done.0 done.3 done.4 went)
+      (⊎_elim
+      (λ long.
+      let c = complained (machine old).pack s d.acts (codes "?No room") (spoken d.written tally) end.0 long.1 went in
+      inr (c.0, inr (inl (long.0, c.1))))
+      (λ unread. absurd unread.0)) d.delivers in
+      (d.read, d.written, d.consumed, d.appended, end.0, end.1, stored)
 
   pub errands_show_files : ErrandsShowFiles machine
   errands_show_files sink full old new moment me encoding spec tally e honest s serves there few short =

@@ -21,7 +21,7 @@ no_character bytes i h e a = e ∙ are_at is_character bytes i h a
 
 -- Eight bytes a word.
 
-length-words : (words : List ℕ) → length (flat_map word_bytes words) ≡ 8 * length words
+pub length-words : (words : List ℕ) → length (flat_map word_bytes words) ≡ 8 * length words
 length-words [] = refl
 length-words (w ∷ words) = omega (arith, length-words words)
 

@@ -1,6 +1,6 @@
 -- What becomes of the service, and of a reader and a writer, where job 1 logs in for one thing.
 use Rattle.std.specs.Prelude.{◌≡◌, ◌⊎◌, ◌<◌, ℕ, false, List, [], ◌∷◌, ◌++◌, length, MatchResult, IfOk, IfErr, Option}
-use Rattle.std.specs.Prelude.{Some, None, Result, Ok, Err}
+use Rattle.std.specs.Prelude.{Some, None, Result, Ok, Err, codes, ◌≤◌}
 use Rattle.words36.specs.declared.moment.Moment.{Moment}
 use Rattle.std.specs.Io.KnownBytes.{Appends, Consumes, IsAtEnd}
 use Rattle.meaning.specs.Errands.{AreWords, surveys_of, volume_line}
@@ -9,18 +9,20 @@ use Rattle.meaning.specs.Maps.{keys}
 use Rattle.meaning.specs.Plans.{Act, Plan, Say, Leads, Conducts}
 use Rattle.meaning.specs.Room.{room}
 use Rattle.meaning.specs.Runs.{Serving, Broken}
-use Rattle.meaning.specs.Texts.{Spoken}
+use Rattle.meaning.specs.Texts.{Spoken, complains}
 use Rattle.meaning.specs.declared.call.Reply.{Reply}
 use Rattle.meaning.specs.declared.call.Reply.TheVariants.{NoMemory as NoMemoryReply, Failed}
 use Rattle.meaning.specs.declared.encoding.Encoding.{Encoding}
 use Rattle.meaning.specs.declared.style.Style.{Style}
 use Rattle.commands.specs.Asking.{Led}
 use Rattle.commands.specs.Machines.{Machine, GoesBy}
-use Rattle.commands.specs.Reasons.{IsInputReason}
+use Rattle.commands.specs.Reasons.{IsInputReason, BeginsNoFile, IsTooLong, most_bytes}
 use Rattle.commands.specs.Streams.{IsCut, spoken}
 use Rattle.commands.specs.declared.answer.Tally.{Tally}
 use Rattle.commands.specs.declared.error.SessionError.{SessionError}
 use Rattle.commands.specs.declared.error.SessionError.TheVariants.{Read, Write, NoMemory}
+use Rattle.commands.specs.declared.reason.Misfit.TheVariants.{Excess}
+use Rattle.commands.specs.declared.reason.Reason.TheVariants.{Input}
 
 -- nothing was counted yet
 abbrev pub fresh : Tally
@@ -60,17 +62,25 @@ IsUnread (Err Read) = Unit {0}
 IsUnread (Err Write) = ⊥
 IsUnread (Err NoMemory) = Unit {0}
 
--- The whole input was read, and then a plan for the words that it says was done; or it wasn't read, and nothing was
--- done and written.
+-- what is said of an input that is too long, for which nothing is asked
+abbrev pub no_room : Plan
+no_room = Say (complains (codes "?No room"))
+
+-- The input was read to its end, or to bytes with which no file begins, and then a plan for the words that it says was
+-- done; or it is too long, and that was said; or it wasn't read, and nothing was done and written.
 abbrev pub Delivers : Encoding → Type 0 → (Option (List ℕ) → Plan) → List ℕ → List Act → List ℕ
     → Result Tally SessionError → Type 0
 Delivers encoding at_end plan read acts written result =
-    (at_end × (words : Option (List ℕ)) × AreWords encoding read words × Performs (plan words) acts written result)
+    ((at_end ⊎ BeginsNoFile encoding read) × (length read ≤ most_bytes encoding) × (words : Option (List ℕ))
+    × AreWords encoding read words × Performs (plan words) acts written result)
+    ⊎ (IsTooLong encoding read × Performs no_room acts written result)
     ⊎ (IsUnread result × (acts ≡ []) × (written ≡ []))
 
--- If an input that was answered can't be a file, the tally says why.
+-- If an input that was answered can't be a file, the tally says why; if it is too long, it says that.
 abbrev pub TellsMisfit : Encoding → List ℕ → Result Tally SessionError → Type 0
-TellsMisfit encoding read (Ok tally) = IsInputReason encoding read tally.reason
+TellsMisfit encoding read (Ok tally) =
+    IsInputReason encoding read tally.reason
+    × (IsTooLong encoding read → tally.reason ≡ Some (Input (Excess (most_bytes encoding))))
 TellsMisfit encoding read (Err error) = Unit {0}
 
 -- What was taken from the reader and put into the writer, and what became of the service.

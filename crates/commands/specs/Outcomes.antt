@@ -1,5 +1,5 @@
 -- What the errands of job 1 come to, where the service has kept its promises.
-use Rattle.std.specs.Prelude.{◌≡◌, ◌⊎◌, ◌<◌, ℕ, List, length, Option, None, Some, Ok}
+use Rattle.std.specs.Prelude.{◌≡◌, ◌⊎◌, ◌<◌, ℕ, List, length, Option, None, Some, Ok, codes}
 use Rattle.std.specs.Io.KnownBytes.{Appends, Consumes, IsAtEnd}
 use Rattle.words36.specs.declared.moment.Moment.{Moment}
 use Rattle.meaning.specs.Copies.{AreShort, IsPut, IsLineRefused, IsPrinted, HasHalfwordExtension}
@@ -13,18 +13,25 @@ use Rattle.meaning.specs.declared.command.Spec.{Spec}
 use Rattle.meaning.specs.declared.encoding.Encoding.{Encoding}
 use Rattle.commands.specs.Errands.{Delivery, Errand}
 use Rattle.commands.specs.Machines.{Machine}
+use Rattle.commands.specs.Reasons.{BeginsNoFile, IsTooLong}
 use Rattle.commands.specs.Streams.{spoken}
 use Rattle.commands.specs.declared.answer.Tally.{Tally}
 
--- The file has the words that were read. Or it was refused and nothing has changed: no file can have these bytes, or a
+-- Why an input was refused: it is no file, read to its end or to bytes with which none begins; it is too long; or a
 -- reply was not the one wanted.
-abbrev pub IsStored : Moment → ℕ → State → Encoding → Spec → List ℕ → List Act → Spoken → Service → Type 0
-IsStored moment me s encoding spec read acts said last =
-    ((words : List ℕ) × AreWords encoding read (Some words) × IsPut moment me s encoding spec words said last)
-    ⊎ (IsLineRefused s.files said last
-    × (AreWords encoding read None × (said ≡ complains (unfit encoding)) ⊎ IsRefusedAt moment acts said))
+abbrev pub IsRefusedFor : Moment → Encoding → Type 0 → List ℕ → List Act → Spoken → Type 0
+IsRefusedFor moment encoding at_end read acts said =
+    ((at_end ⊎ BeginsNoFile encoding read) × AreWords encoding read None × (said ≡ complains (unfit encoding)))
+    ⊎ (IsTooLong encoding read × (said ≡ complains (codes "?No room")))
+    ⊎ (at_end × IsRefusedAt moment acts said)
 
--- An input that was read to its end, and whose answer was written, is kept or refused.
+-- The file has the words of the whole input. Or the input was refused and nothing has changed.
+abbrev pub IsStored : Moment → ℕ → State → Encoding → Spec → Type 0 → List ℕ → List Act → Spoken → Service → Type 0
+IsStored moment me s encoding spec at_end read acts said last =
+    (at_end × (words : List ℕ) × AreWords encoding read (Some words) × IsPut moment me s encoding spec words said last)
+    ⊎ (IsLineRefused s.files said last × IsRefusedFor moment encoding at_end read acts said)
+
+-- An input whose answer was written is kept or refused; it is kept only if it was read to its end.
 abbrev pub DeliveriesKeepFiles : {S : Type 0} → (S → Machine) → Type 0
 DeliveriesKeepFiles {S} machine =
     (source left sink full : Option (List ℕ)) (old new : S) (moment : Moment) (me : ℕ) (encoding : Encoding)
@@ -32,9 +39,9 @@ DeliveriesKeepFiles {S} machine =
     → (delivery : Delivery source left sink full machine old new encoding (keeps moment me encoding spec) (Ok tally))
     → (machine new).honest → (s : State) → (machine old).serves (Serving s) → 1 < length s.jobs
     → HasHalfwordExtension spec
-    → (read : List ℕ) × (written : List ℕ) × Consumes source left read × IsAtEnd left × Appends sink full written
+    → (read : List ℕ) × (written : List ℕ) × Consumes source left read × Appends sink full written
     × (last : Service) × (machine new).serves last
-    × IsStored moment me s encoding spec read delivery.acts (spoken written tally) last
+    × IsStored moment me s encoding spec (IsAtEnd left) read delivery.acts (spoken written tally) last
 
 -- A file that is got is written as its version's words, or is refused at a reply that was not wanted; the files stay.
 abbrev pub ErrandsShowFiles : {S : Type 0} → (S → Machine) → Type 0

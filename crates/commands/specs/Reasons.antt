@@ -5,18 +5,31 @@ use Rattle.std.specs.Prelude.{if◌then◌else◌}
 use Rattle.words36.specs.Blocks.{number_at}
 use Rattle.meaning.specs.Errands.{is_character, AreWords}
 use Rattle.meaning.specs.Lines.{Line, feed, fitting, without_return}
+use Rattle.meaning.specs.Outputs.{longest}
 use Rattle.meaning.specs.Spellings.{Are}
 use Rattle.meaning.specs.declared.encoding.Encoding.{Encoding}
 use Rattle.meaning.specs.declared.encoding.Encoding.TheVariants.{Characters, Words}
 use Rattle.commands.specs.declared.reason.Misfit.{Misfit}
-use Rattle.commands.specs.declared.reason.Misfit.TheVariants.{Byte, Length, Word}
+use Rattle.commands.specs.declared.reason.Misfit.TheVariants.{Byte, Length, Word, Excess}
 use Rattle.commands.specs.declared.reason.Reason.{Reason}
 use Rattle.commands.specs.declared.reason.Reason.TheVariants.{Lines, Input}
 
 -- Bytes that can't be a file.
 
+-- the most bytes that a file can hold: five characters to a word, or eight bytes
+abbrev pub most_bytes : Encoding → ℕ
+most_bytes Characters = 5 * longest
+most_bytes Words = 8 * longest
+
+abbrev pub IsTooLong : Encoding → List ℕ → Type 0
+IsTooLong encoding bytes = most_bytes encoding < length bytes
+
+-- no input that begins with these bytes can be a file
+abbrev pub BeginsNoFile : Encoding → List ℕ → Type 0
+BeginsNoFile encoding bytes = (more : List ℕ) → AreWords encoding (bytes ++ more) None
+
 -- the first byte that isn't a character; a number of bytes that eight doesn't divide; the first word of more than 36
--- bits
+-- bits; more bytes than a file can hold
 abbrev pub IsMisfit : Encoding → List ℕ → Misfit → Type 0
 IsMisfit encoding bytes (Byte byte place) =
     (encoding ≡ Characters) × (0 < place) × (place ≤ length bytes) × Are is_character (take (place - 1) bytes)
@@ -25,6 +38,7 @@ IsMisfit encoding bytes (Length count) = (encoding ≡ Words) × (count ≡ leng
 IsMisfit encoding bytes (Word place) =
     (encoding ≡ Words) × (0 < place) × (8 * place ≤ length bytes) × (length bytes % 8 ≡ 0)
     × ((before : ℕ) → before + 1 < place → number_at bytes before < 2 ^ 36) × (2 ^ 36 ≤ number_at bytes (place - 1))
+IsMisfit encoding bytes (Excess most) = (most ≡ most_bytes encoding) × IsTooLong encoding bytes
 
 -- the words that bytes say, or why they don't say any
 abbrev pub HasWords : {V : Type 0} → (V → List ℕ) → Encoding → List ℕ → Result V Misfit → Type 0

@@ -1,15 +1,15 @@
-ghost use Rattle.std.specs.Prelude.{ℕ, List};
+ghost use Rattle.std.specs.Prelude.{◌≡◌, ℕ, List};
 ghost use Rattle.meaning.specs.Errands.{gets, keeps, surveys};
 ghost use Rattle.meaning.specs.Plans.{Say};
 ghost use Rattle.meaning.specs.Texts.{refuses};
 ghost use Rattle.commands.specs.Asking.{Concludes};
 ghost use Rattle.meaning.specs.declared.encoding.Encoding.{Encoding as Encodings};
-ghost use Rattle.commands.specs.Errands.{Delivery, Errand};
+ghost use Rattle.commands.specs.Errands.{Delivery, Errand, no_room};
 ghost use Rattle.commands.specs.Reasons.{HasWords, IsInputReason, words_said};
 
 use crate::answer::{Tally, is_broken, refuse};
 use crate::concluding::conclude;
-use crate::input_words::{read_input, unfit, words_of};
+use crate::input_words::{most_bytes, read_input, unfit, words_of};
 use crate::putting::{enter, put_file};
 use crate::run::print;
 use crate::service::FileService;
@@ -136,13 +136,29 @@ fn put_words<S: FileService>(
     }
 }
 
+/// Writes that an input is too long.
+fn write_no_room<W: Write, S: FileService>(
+    alloc: Global,
+    writer: &mut W,
+    service: &mut S,
+) -> Result<Tally, SessionError>
+    ensures { Errand (W.contents writer.old) (W.contents writer.new) S.machine service.old service.new
+        no_room result }
+{
+    let mut tally = Tally::none();
+    let text = refuse(alloc, &mut tally, "?No room", false);
+    print(writer, text)?;
+    Ok(tally)
+}
+
 /// Makes a file of what a reader has, by a job that logs in for it, and writes how that went. All of the input is read
-/// and tested before anything is asked of the service.
+/// and tested before anything is asked of the service. Reading stops early at bytes with which no file begins, and at
+/// more than a file can hold; nothing is asked then.
 ///
 /// # Errors
 ///
-/// `Read` where the reader failed, and `NoMemory` where its bytes or their words found no room: nothing was asked then.
-/// `Write` where the writer failed, `NoMemory` where the text found no room: the calls were made.
+/// `Read` if the reader failed, and `NoMemory` if its bytes or their words found no room: nothing was asked then.
+/// `Write` if the writer failed, `NoMemory` if the text found no room: the calls were made.
 pub fn read_in<R: Read, W: Write, S: FileService>(
     alloc: Global,
     reader: &mut R,
@@ -156,7 +172,13 @@ pub fn read_in<R: Read, W: Write, S: FileService>(
     ensures { Delivery (R.remaining reader.old) (R.remaining reader.new) (W.contents writer.old)
         (W.contents writer.new) S.machine service.old service.new encoding (keeps moment owner encoding spec) result }
 {
-    let bytes = read_input(alloc, reader)?;
+    let bytes = read_input(alloc, encoding, reader)?;
+    let most = most_bytes(encoding);
+    if bytes.len() > most {
+        let mut said = write_no_room(alloc, writer, service)?;
+        said.reason = Some(Reason::Input(Misfit::Excess(most)));
+        return Ok(said);
+    }
     let Ok(words) = words_of(alloc, encoding, &bytes) else {
         return Err(SessionError::NoMemory);
     };

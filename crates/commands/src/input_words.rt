@@ -1,15 +1,17 @@
-ghost use Rattle.std.specs.Prelude.{◌≡◌, ◌<◌, ◌↔◌, ◌⊎◌, ◌*◌, ◌+◌, ◌≤◌, ◌^◌, ℕ, List, IfOk, IfErr, OnOk, IfSome, IsSome};
-ghost use Rattle.std.specs.Prelude.{length, IfNone};
-ghost use Rattle.std.specs.Io.KnownBytes.{Consumes, IsAtEnd};
+ghost use Rattle.std.specs.Prelude.{◌≡◌, ◌<◌, ◌↔◌, ◌⊎◌, ◌*◌, ◌+◌, ◌≤◌, ◌^◌, ◌++◌, ℕ, List, IfOk, IfErr, IfSome, IsSome};
+ghost use Rattle.std.specs.Prelude.{length, take, IfNone, IsTrue, OnErr};
+ghost use Rattle.std.specs.Io.{ReadsAtMost};
+ghost use Rattle.std.specs.Io.KnownBytes.{Consumes, IsAtEnd, Keeps};
 ghost use Rattle.words36.specs.Blocks.{number_at};
 ghost use Rattle.meaning.specs.Errands.{is_character, unfit};
 ghost use Rattle.meaning.specs.Spellings.{Are};
 ghost use Rattle.meaning.specs.declared.encoding.Encoding.TheVariants.{Characters, Words};
-ghost use Rattle.commands.specs.Reasons.{HasWords, IsMisfit};
+ghost use Rattle.commands.specs.Reasons.{HasWords, IsMisfit, BeginsNoFile, IsTooLong, most_bytes};
 ghost use Rattle.commands.specs.declared.error.SessionError.TheVariants.{Read as ReadFault, NoMemory};
 
 use crate::{Misfit, SessionError};
 use meaning::Encoding;
+use meaning::layout::MOST_WORDS;
 use std::alloc::{AllocError, Global};
 use std::io::{ErrorKind, Read};
 use words36::{Word, pack_ascii};
@@ -17,23 +19,87 @@ use words36::{Word, pack_ascii};
 /// How many bytes a word takes.
 const WORD_BYTES: usize = 8;
 
-/// Reads a whole input.
+/// How many characters a word has.
+const WORD_CHARACTERS: usize = 5;
+
+/// How many bytes are read at once.
+const PIECE_BYTES: usize = 4096;
+
+/// The most bytes that a file can hold.
+pub fn most_bytes(encoding: Encoding) -> usize
+    ensures { result ≡ most_bytes encoding }
+{
+    match encoding {
+        Encoding::Characters => WORD_CHARACTERS * MOST_WORDS as usize,
+        Encoding::Words => WORD_BYTES * MOST_WORDS as usize,
+    }
+}
+
+/// Reads a piece of an input, and tries again if a signal came between.
+fn read_piece<R: Read>(reader: &mut R, piece: &mut [u8]) -> Result<usize, SessionError>
+    ensures bound { ReadsAtMost result piece.new }
+    ensures ok { IfOk result (λ n. Consumes (R.remaining reader.old) (R.remaining reader.new) (take n piece.new)) }
+    ensures end { IfOk result (λ n. n ≡ 0 → 0 < length piece.old → IsAtEnd (R.remaining reader.new)) }
+    ensures kept { OnErr result (Keeps (R.remaining reader.old) (R.remaining reader.new)) }
+    ensures err { IfErr result (λ error. error ≡ ReadFault) }
+{
+    for _ in 0..u64::MAX {
+        match reader.read(piece) {
+            Ok(count) => return Ok(count),
+            Err(error) => {
+                if error.kind() != ErrorKind::Interrupted {
+                    return Err(SessionError::Read);
+                }
+            }
+        }
+    }
+    Err(SessionError::Read)
+}
+
+/// Whether no input can be a file that has this piece, wherever the piece begins.
+fn is_hopeless(encoding: Encoding, piece: &[u8]) -> bool
+    ensures { IsTrue result → (before : List ℕ) → BeginsNoFile encoding (before ++ piece.now) }
+{
+    match encoding {
+        Encoding::Characters => first_misfit(piece).is_some(),
+        Encoding::Words => false,
+    }
+}
+
+/// Reads an input to its end. Stops early at a piece with which no input can be a file, and at more bytes than a file can
+/// hold.
 ///
 /// # Errors
 ///
-/// `Read` where the reader failed, `NoMemory` where its bytes found no room.
-pub fn read_input<R: Read>(alloc: Global, reader: &mut R) -> Result<Vec<u8>, SessionError>
+/// `Read` if the reader failed, `NoMemory` if its bytes found no room.
+pub fn read_input<R: Read>(
+    alloc: Global,
+    encoding: Encoding,
+    reader: &mut R,
+) -> Result<Vec<u8>, SessionError>
     ensures ok { IfOk result (λ bytes. Consumes (R.remaining reader.old) (R.remaining reader.new) bytes.items) }
-    ensures end { OnOk result (IsAtEnd (R.remaining reader.new)) }
+    ensures end { IfOk result (λ bytes. IsAtEnd (R.remaining reader.new) ⊎ IsTooLong encoding bytes.items
+        ⊎ BeginsNoFile encoding bytes.items) }
+    ensures bound { IfOk result (λ bytes. length bytes.items ≤ most_bytes encoding + 4096) }
     ensures err { IfErr result (λ error. (error ≡ ReadFault) ⊎ (error ≡ NoMemory)) }
     ensures taken { (read : List ℕ) × Consumes (R.remaining reader.old) (R.remaining reader.new) read }
 {
+    let most = most_bytes(encoding);
     let mut bytes = Vec::new(alloc);
-    match reader.read_to_end(&mut bytes) {
-        Ok(_) => Ok(bytes),
-        Err(error) if error.kind() == ErrorKind::OutOfMemory => Err(SessionError::NoMemory),
-        Err(_) => Err(SessionError::Read),
+    let mut piece = [0; PIECE_BYTES];
+    while bytes.len() <= most {
+        let count = read_piece(reader, &mut piece)?;
+        if count == 0 {
+            return Ok(bytes);
+        }
+        let Ok(()) = bytes.extend_from_slice(&piece[..count]) else {
+            return Err(SessionError::NoMemory);
+        };
+        if is_hopeless(encoding, &piece[..count]) {
+            return Ok(bytes);
+        }
     }
+    Ok(bytes)
 }
 
 /// Whether a byte is a character that a file can have: ASCII, and no null.

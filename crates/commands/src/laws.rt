@@ -1,7 +1,9 @@
-ghost use Rattle.std.specs.Prelude.{◌≡◌, ℕ, List, Option};
+ghost use Rattle.std.specs.Prelude.{◌≡◌, ◌↔◌, ◌<◌, ℕ, List, Option, Some, length};
 ghost use Rattle.words36.specs.declared.moment.Moment.{Moment};
 ghost use Rattle.meaning.specs.Lines.{Line};
 ghost use Rattle.meaning.specs.Commands.{Means};
+ghost use Rattle.meaning.specs.Errands.{AreWords};
+ghost use Rattle.meaning.specs.Outputs.{longest};
 ghost use Rattle.meaning.specs.Plans.{Act};
 ghost use Rattle.meaning.specs.Jobs.{State};
 ghost use Rattle.meaning.specs.Scripts.{SaysEvent};
@@ -10,7 +12,9 @@ ghost use Rattle.meaning.specs.Transcripts.{Served};
 ghost use Rattle.meaning.specs.Texts.{Spoken};
 ghost use Rattle.meaning.specs.declared.call.Event.{Event};
 ghost use Rattle.meaning.specs.declared.command.Command.{Command};
+ghost use Rattle.meaning.specs.declared.encoding.Encoding.{Encoding};
 ghost use Rattle.commands.specs.Outcomes.{DeliveriesKeepFiles, ErrandsShowFiles};
+ghost use Rattle.commands.specs.Reasons.{IsTooLong};
 ghost use Rattle.commands.specs.Streams.{IsServedTranscript};
 ghost use Rattle.commands.specs.declared.language.Language.TheVariants.{Commands, Events};
 
@@ -38,6 +42,12 @@ pub fn served_texts_are_functions()
 pub fn orders_have_one_reading()
     ensures { (text : List ℕ) (moment : Moment) (said other : Option Event) → SaysEvent text moment said
         → SaysEvent text moment other → said ≡ other }
+{}
+
+/// An input that has words is too long exactly if they are more than a file can hold.
+pub fn long_inputs_fit_no_file()
+    ensures { (encoding : Encoding) (bytes words : List ℕ) → AreWords encoding bytes (Some words)
+        → IsTooLong encoding bytes ↔ (longest < length words) }
 {}
 
 /// What an errand of job 1 comes to, where the service has kept its promises up to its end: a file that was put has the

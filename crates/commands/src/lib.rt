@@ -34,7 +34,9 @@
 //!    last one. Each does a plan by calls of job 1, which logs in for it, and writes what that says; what a crash
 //!    leaves is said as of a session. (`Delivery`, `Errand`, `Survey`) `list` of all directories says that the service
 //!    has stopped only if it has failed. (`AreAsked`) `check` writes what a volume has. (`Checked`) If the input of
-//!    `put` can't be a file, the tally has the first byte or word that doesn't fit. (`IsMisfit`)
+//!    `put` can't be a file, the tally has the first byte or word that doesn't fit, or how much a file holds.
+//!    (`IsMisfit`) Reading stops early only at bytes with which no file begins, or at more than one holds.
+//!    (`BeginsNoFile`, `IsTooLong`, `long_inputs_fit_no_file`)
 #![tactic(auto)]
 
 mod answer;
@@ -76,7 +78,7 @@ pub use answer::Tally;
 pub use dates::date_named;
 pub use error::SessionError;
 pub use laws::{
-    errands_reach_files, lines_have_one_meaning, orders_have_one_reading,
+    errands_reach_files, lines_have_one_meaning, long_inputs_fit_no_file, orders_have_one_reading,
     served_texts_are_functions,
 };
 pub use meaning::{Encoding, Style};

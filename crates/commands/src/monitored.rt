@@ -112,13 +112,13 @@ pub fn get<W: Write, D: Disk>(
 }
 
 /// Makes a file of all that a reader has, by job 1, which logs in for it as the owner of a directory, at a moment; a
-/// file that is there is superseded. All of the input is read and tested before anything is asked. `OK` is written, or
-/// why not.
+/// file that is there is superseded. All of the input is read and tested before anything is asked. Reading stops
+/// early at bytes with which no file begins, and at more than a file can hold. `OK` is written, or why not.
 ///
 /// # Errors
 ///
-/// `Read` where the reader failed, `NoMemory` where its bytes or their words found no room: nothing was asked, and
-/// nothing is written. `Write` where the writer failed, `NoMemory` where the text found no room: the calls were made.
+/// `Read` if the reader failed, `NoMemory` if its bytes or their words found no room: nothing was asked, and nothing is
+/// written. `Write` if the writer failed, `NoMemory` if the text found no room: the calls were made.
 pub fn put<R: Read, W: Write, D: Disk>(
     alloc: Global,
     reader: &mut R,

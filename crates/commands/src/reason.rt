@@ -10,6 +10,8 @@ pub enum Misfit {
     Length(usize),
     /// The first word that has bits above its 36, counted from 1.
     Word(usize),
+    /// There are more bytes than a file can hold, which is at most this many.
+    Excess(usize),
 }
 
 /// Lines of an input that were refused.

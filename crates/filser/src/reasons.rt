@@ -74,5 +74,10 @@ fn tell_misfit<E: Write>(errors: &mut E, misfit: Misfit) {
             INPUT,
             &format_args!("word {place} has bits above its 36"),
         ),
+        Misfit::Excess(most) => report(
+            errors,
+            INPUT,
+            &format_args!("more than {most} bytes, which no file can hold"),
+        ),
     }
 }

@@ -1,9 +1,10 @@
-use Rattle.std.proofs.Common.{ℕ, List, Ok, subst}
+use Rattle.std.proofs.Common.{◌≤◌, ℕ, List, length, Ok, subst, arith}
 use Rattle.std.proofs.lemmas.Result.{err_from_is_err_and}
 use Rattle.meaning.specs.Errands.{keeps}
-use Rattle.commands.specs.Reasons.{HasWords, words_said}
+use Rattle.commands.specs.Reasons.{HasWords, IsTooLong, most_bytes, words_said}
 use Rattle.commands.proofs.ErrandLaws.{carried, errand_done, errand_cut, delivered, undelivered, unread_by}
-use Rattle.commands.proofs.ErrandLaws.{memory_unread, words_are}
+use Rattle.commands.proofs.ErrandLaws.{excessive, memory_unread, tells_excess, tells_fitting, words_are}
+use Rattle.commands.proofs.InputLaws.{not_longer}
 use Rattle.commands.proofs.errands.read_in.Goals as goal
 
 pub returns-in_err-bytes : goal.returns-in_err-bytes
@@ -19,14 +20,34 @@ returns-in_default g c =
     (keeps c.args.moment c.args.owner c.args.encoding c.args.spec) _ c.in_ok-bytes.bytes.items
     c.in_ok-bytes.ensures.ok memory_unread
 
+pub returns-in_err-said : goal.returns-in_err-said
+returns-in_err-said g c =
+    let long : IsTooLong c.args.encoding c.in_ok-bytes.bytes.items =
+    omega (arith, c.in_ok-bytes.bytes.ok, c.len.ensures, c.most_bytes-most.ensures, c.if-len-most.true) in
+    let p = err_from_is_err_and c.from_residual-in_err-said.result c.from_residual-in_err-said.ensures.1 in
+    rw (p.1, p.2) (excessive g.S.FileService.machine _ _ _ _ _ _ c.args.encoding
+    (keeps c.args.moment c.args.owner c.args.encoding c.args.spec) _ c.in_ok-bytes.bytes.items
+    c.in_ok-bytes.ensures.ok long c.in_err-said.ensures _ (λ acts written p. p) tt)
+
+pub returns-then-len-most : goal.returns-then-len-most
+returns-then-len-most g c =
+    let long : IsTooLong c.args.encoding c.in_ok-bytes.bytes.items =
+    omega (arith, c.in_ok-bytes.bytes.ok, c.len.ensures, c.most_bytes-most.ensures, c.if-len-most.true) in
+    excessive g.S.FileService.machine _ _ _ _ _ _ c.args.encoding
+    (keeps c.args.moment c.args.owner c.args.encoding c.args.spec) _ c.in_ok-bytes.bytes.items
+    c.in_ok-bytes.ensures.ok long c.in_ok-said.ensures _ (λ acts written p. p)
+    (tells_excess c.args.encoding c.in_ok-bytes.bytes.items c.most_bytes-most.result c.most_bytes-most.ensures long)
+
 pub returns-in_err-print : goal.returns-in_err-print
 returns-in_err-print g c =
+    let few : length c.in_ok-bytes.bytes.items ≤ most_bytes c.args.encoding =
+    omega (arith, c.in_ok-bytes.bytes.ok, c.len.ensures, c.most_bytes-most.ensures, c.if-len-most.false) in
     let p = err_from_is_err_and c.from_residual-in_err-print.result c.from_residual-in_err-print.ensures.1 in
     let words = words_said (λ v. v.items) c.in-Ok.words in
     let plan = keeps c.args.moment c.args.owner c.args.encoding c.args.spec words in
     rw (p.1, p.2) (delivered g.S.FileService.machine _ _ _ _ _ _ c.args.encoding
     (keeps c.args.moment c.args.owner c.args.encoding c.args.spec) _ c.in_ok-bytes.bytes.items words
-    c.in_ok-bytes.ensures.ok c.in_ok-bytes.ensures.end
+    c.in_ok-bytes.ensures.ok (not_longer _ _ c.in_ok-bytes.ensures.end few) few
     (words_are (λ v. v.items) c.args.encoding c.in_ok-bytes.bytes.items c.in-Ok.words
     (subst (λ (l : List ℕ). HasWords (λ v. v.items) c.args.encoding l c.in-Ok.words) c.deref.ensures.value
     c.in-Ok.ensures))
@@ -37,11 +58,13 @@ returns-in_err-print g c =
 
 pub returns : goal.returns
 returns g c =
+    let few : length c.in_ok-bytes.bytes.items ≤ most_bytes c.args.encoding =
+    omega (arith, c.in_ok-bytes.bytes.ok, c.len.ensures, c.most_bytes-most.ensures, c.if-len-most.false) in
     let words = words_said (λ v. v.items) c.in-Ok.words in
     let plan = keeps c.args.moment c.args.owner c.args.encoding c.args.spec words in
     delivered g.S.FileService.machine _ _ _ _ _ _ c.args.encoding
     (keeps c.args.moment c.args.owner c.args.encoding c.args.spec) _ c.in_ok-bytes.bytes.items words
-    c.in_ok-bytes.ensures.ok c.in_ok-bytes.ensures.end
+    c.in_ok-bytes.ensures.ok (not_longer _ _ c.in_ok-bytes.ensures.end few) few
     (words_are (λ v. v.items) c.args.encoding c.in_ok-bytes.bytes.items c.in-Ok.words
     (subst (λ (l : List ℕ). HasWords (λ v. v.items) c.args.encoding l c.in-Ok.words) c.deref.ensures.value
     c.in-Ok.ensures))
@@ -50,6 +73,8 @@ returns g c =
     (carried g.S.FileService.machine (λ bytes. bytes.items) c.put_words-text.result _ _ plan c.none-tally.result
     c.put_words-text.new.tally c.none-tally.ensures c.put_words-text.ensures) c.in_ok-print.ensures)
     (Ok (record c.put_words-text.new.tally { reason = c.reason_of-tally.result })) (λ acts written p. p)
+    (tells_fitting c.args.encoding c.in_ok-bytes.bytes.items
+    (record c.put_words-text.new.tally { reason = c.reason_of-tally.result }) few
     (c.reason_of-tally.ensures c.args.encoding c.in_ok-bytes.bytes.items
     (subst (λ (l : List ℕ). HasWords (λ v. v.items) c.args.encoding l c.in-Ok.words) c.deref.ensures.value
-    c.in-Ok.ensures))
+    c.in-Ok.ensures)))
