@@ -2,7 +2,7 @@ ghost use Rattle.std.specs.Prelude.{◌≡◌};
 ghost use Rattle.filser.specs.Denials.{of_host};
 ghost use Rattle.filser.specs.HostFaults.{forbids_errors, forbids_output};
 
-use crate::Refusal;
+use crate::{Escaped, Refusal};
 use std::fmt::Display;
 use std::io::{self, Write};
 use thiserror::Error;
@@ -86,5 +86,10 @@ impl From<HostFault> for ImageFault {
 /// Tells people something about a file, or about another part of the host: a line on the standard error, which is left
 /// out where that fails.
 pub(crate) fn report<E: Write, T: Display>(errors: &mut E, name: &str, what: &T) {
-    let _ = writeln!(errors, "filser: {name}: {what}");
+    let _ = writeln!(errors, "filser: {}: {what}", Escaped(name));
+}
+
+/// Tells people that the program found no memory for itself.
+pub(crate) fn tell_no_memory<E: Write>(errors: &mut E) {
+    let _ = writeln!(errors, "filser: out of memory");
 }

@@ -31,6 +31,7 @@ mod asked;
 mod convert;
 mod disks;
 mod error;
+mod escaped;
 mod fault;
 mod host;
 mod identity;
@@ -39,6 +40,7 @@ mod lines;
 mod message;
 mod migrating;
 mod outcome;
+mod output;
 mod program;
 mod progress;
 mod reading;
@@ -53,49 +55,91 @@ mod task;
 pub use asked::Request;
 pub use disks::Disks;
 pub use error::{RequestError, WrongArgument};
+pub use escaped::Escaped;
 pub use fault::{HostFault, ImageFault};
 pub use host::{Access, Host, MakingLeave, NewFile, OpeningLeave, RemovalRight, SystemHost};
 pub use identity::FileId;
 pub use lines::LineReader;
 pub use message::Message;
 pub use outcome::{Leaves, Run};
+pub use output::{OutputFault, OutputWriter};
 pub use program::work;
 pub use progress::Telling;
 pub use reading::request;
 pub use refusal::Refusal;
 pub use seen::{Image, ImageDisks, NewDisks, Seen};
 pub use status::Status;
-use std::env;
+use std::env::{self, FillError};
+use std::fmt::Display;
 use std::io::{self, ErrorKind, IsTerminal};
 use std::process::ExitCode;
+use std::rt::Env;
 pub use streams::MissingStreams;
+use streams::is_at_errors;
 pub use task::{NamedFile, Task};
 
-/// Runs the program on its arguments and the standard streams.
+/// How many bytes the path of a file has at most, with its end.
+const PATH_BYTES: usize = 4096;
+
+/// Runs the program on its arguments and the standard streams, whose numbers are held before anything else is opened.
 fn main(rt: HostRuntime) -> ExitCode {
-    match run(&rt) {
-        Ok(code) => ExitCode::from(code),
-        Err(error) if error.kind() == ErrorKind::OutOfMemory => ExitCode::from(
-            Status::Fault.code(),
-        ),
-        Err(_) => {
-            let _ = eprintln!(rt; "?Bad argument\nfilser: an argument isn't UTF-8");
-            ExitCode::from(Status::BadArguments.code())
+    let code = match MissingStreams::hold(&rt) {
+        Ok(missing) => match run(&rt, &missing) {
+            Ok(code) => code,
+            Err(error) => tell_unread(&rt, &error),
+        },
+        Err(error) => {
+            tell(&rt, &format_args!("filser: /: {error}"));
+            Status::Fault.code()
         }
+    };
+    ExitCode::from(code)
+}
+
+/// Tells people why the arguments couldn't be had, and answers the status of a run without any.
+fn tell_unread(rt: &HostRuntime, error: &io::Error) -> u8 {
+    if error.kind() == ErrorKind::OutOfMemory {
+        tell(rt, &"filser: out of memory");
+        Status::Fault.code()
+    } else {
+        tell(rt, &"?Bad argument\nfilser: an argument isn't UTF-8");
+        Status::BadArguments.code()
     }
 }
 
+/// Tells people why there is no run, unless that would land in a file that an argument names.
+fn tell<T: Display>(rt: &HostRuntime, what: &T) {
+    if !leads_to_argument(rt) {
+        let _ = eprintln!(rt; "{what}");
+    }
+}
+
+/// Whether the standard error leads to a file that an argument names. The arguments are read one by one, into a buffer
+/// that has room for any path, since there may be no memory for them.
+fn leads_to_argument(rt: &HostRuntime) -> bool {
+    let (host, _, _) = SystemHost::new(rt);
+    let mut bytes = [0; PATH_BYTES];
+    for place in 1..usize::MAX {
+        match rt.arg(place, &mut bytes) {
+            Ok(count) => {
+                if let Ok(path) = str::from_utf8(&bytes[..count])
+                    && is_at_errors(&host, path)
+                {
+                    return true;
+                }
+            }
+            Err(FillError::TooLong) => {}
+            Err(FillError::NotPresent) => return false,
+        }
+    }
+    false
+}
+
 /// The status of a run, or why there are no arguments: one isn't text, or memory ran out.
-///
-/// The numbers of the standard streams are held before anything else is opened.
-fn run(rt: &HostRuntime) -> io::Result<u8> {
-    let Ok(missing) = MissingStreams::hold(rt) else {
-        return Ok(Status::Fault.code());
-    };
+fn run(rt: &HostRuntime, missing: &MissingStreams) -> io::Result<u8> {
     let alloc = rt.alloc();
     let words: Vec<String> = env::args(rt)?.collect(alloc)?;
     let texts: Vec<&str> = words.iter().map(|word| word.as_str()).collect(alloc)?;
-    let mut output = rt.stdout();
     let mut errors = rt.stderr();
     let telling = if errors.is_terminal() {
         Telling::Progress
@@ -107,11 +151,11 @@ fn run(rt: &HostRuntime) -> io::Result<u8> {
         &host,
         alloc,
         texts.as_slice(),
-        &missing,
+        missing,
         telling,
         Leaves { image, new },
         &mut LineReader::new(rt.reader()),
-        &mut output,
+        &mut OutputWriter::new(rt.stdout()),
         &mut errors,
     );
     Ok(run.code)

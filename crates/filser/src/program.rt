@@ -21,9 +21,10 @@ ghost use Rattle.filser.specs.declared.status.Status.{Status as Statuses};
 ghost use Rattle.filser.specs.declared.status.Status.TheVariants.{Done, BadArguments, Fault};
 
 use crate::convert::{Conversion, convert_image};
-use crate::fault::report;
+use crate::fault::{report, tell_no_memory};
 use crate::image::{NewVolume, make_image};
 use crate::lines::LineReader;
+use crate::output::OutputWriter;
 use crate::migrating::migrate_image;
 use crate::outcome::Outcome;
 use crate::serving::{say, serve_fresh, serve_image};
@@ -53,7 +54,7 @@ pub fn work<H: Host, R: Read, W: Write, E: Write>(
     telling: Telling,
     leaves: Leaves,
     reader: &mut LineReader<R>,
-    writer: &mut W,
+    writer: &mut OutputWriter<W>,
     errors: &mut E,
 ) -> Run
     ensures few { result.code ≤ 4 }
@@ -66,7 +67,7 @@ pub fn work<H: Host, R: Read, W: Write, E: Write>(
     // What was done with the images, what was printed, and the status of that, unless the end of the text can't be
     // written.
     ensures ran { (status : Statuses) × (full : Option (List ℕ))
-        × ((result.code ≡ status_code status) ⊎ (result.code ≡ 4)) × Keeps full (W.contents writer.new)
+        × ((result.code ≡ status_code status) ⊎ (result.code ≡ 4)) × Keeps full (W.contents writer.new.writer)
         × WasRun (H.facts host.now) (⟦<Run as Seen>⟧.views) missing.now (record {
           opening = leaves.image;
           making = leaves.new;
@@ -77,11 +78,27 @@ pub fn work<H: Host, R: Read, W: Write, E: Write>(
           memory = result.memory;
         }) (fault_of command_line (map (λ w. w.now) words.now))
         (subcommand_of command_line (map (λ w. w.now) words.now)) (R.remaining reader.old.reader)
-        (R.remaining reader.new.reader) (W.contents writer.old) full status }
+        (R.remaining reader.new.reader) (W.contents writer.old.writer) full status }
 {
     let outcome = answer(
         host, alloc, words, missing, telling, leaves, reader, writer, errors,
     );
+    let flushed = writer.flush();
+    tell_streams(reader, writer, errors);
+    Run {
+        code: exit_code(outcome.status, flushed),
+        image: outcome.image,
+        new: outcome.new,
+        memory: outcome.memory,
+    }
+}
+
+/// Tells people why the input broke off, and why the output failed, if they did.
+fn tell_streams<R: Read, W: Write, E: Write>(
+    reader: &LineReader<R>,
+    writer: &OutputWriter<W>,
+    errors: &mut E,
+) {
     if let Some((line, fault)) = reader.fault() {
         report(
             errors,
@@ -89,11 +106,8 @@ pub fn work<H: Host, R: Read, W: Write, E: Write>(
             &format_args!("line {line}: {fault}"),
         );
     }
-    Run {
-        code: exit_code(outcome.status, writer.flush()),
-        image: outcome.image,
-        new: outcome.new,
-        memory: outcome.memory,
+    if let Some(fault) = writer.fault() {
+        report(errors, "standard output", &fault);
     }
 }
 
@@ -376,7 +390,10 @@ fn refuse<W: Write, E: Write>(error: &RequestError<'_>, writer: &mut W, errors: 
             }
             Status::BadArguments
         }
-        RequestError::NoMemory => Status::Fault,
+        RequestError::NoMemory => {
+            tell_no_memory(errors);
+            Status::Fault
+        }
     }
 }
 
