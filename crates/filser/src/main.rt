@@ -48,6 +48,7 @@ mod reasons;
 mod refusal;
 mod seen;
 mod serving;
+mod sparing;
 mod status;
 mod streams;
 mod task;
