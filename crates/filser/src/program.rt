@@ -21,7 +21,7 @@ ghost use Rattle.filser.specs.declared.status.Status.{Status as Statuses};
 ghost use Rattle.filser.specs.declared.status.Status.TheVariants.{Done, BadArguments, Fault};
 
 use crate::convert::{Conversion, convert_image};
-use crate::fault::{report, tell_no_memory};
+use crate::fault::{report, tell_fault, tell_no_memory};
 use crate::image::{NewVolume, make_image};
 use crate::lines::LineReader;
 use crate::output::OutputWriter;
@@ -356,7 +356,7 @@ fn init_image<H: Host, W: Write, E: Write>(
     ensures ran { IsOnNew (H.facts host.now) (⟦<Run as Seen>⟧.views) path.now volume.now.form volume.now.blocks
         volume.now.layout (unseen_in leave.supposed) (W.contents writer.old) (W.contents writer.new) result.1 result.0 }
 {
-    match make_image(host, path, volume, leave, errors) {
+    match make_image(host, path, volume, leave) {
         Ok((disk, right)) => (Status::Done, Disks::Made(disk, right)),
         Err((fault, disks)) => (refuse_image(fault, path, writer, errors), disks),
     }
@@ -379,7 +379,7 @@ pub(crate) fn refuse_image<W: Write, E: Write>(
         return say(writer, fault.refusal);
     };
     if !host.forbids_errors() {
-        report(errors, path, &host);
+        tell_fault(errors, path, &host);
     }
     if host.forbids_output() {
         return fault.refusal.status();

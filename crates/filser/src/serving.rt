@@ -155,7 +155,7 @@ pub(crate) fn serve_image<H: Host, R: Read, W: Write, E: Write>(
         (R.remaining reader.old) (R.remaining reader.new) (W.contents writer.old) (W.contents writer.new) result.1
         result.0 }
 {
-    match open_image(host, alloc, path, form, task.access(), leave, errors) {
+    match open_image(host, alloc, path, form, task.access(), leave) {
         Ok(image) => {
             let (status, image) = serve(alloc, image, task, reader, writer, errors);
             tell_failure(errors, path, &image);
