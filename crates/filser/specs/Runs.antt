@@ -96,7 +96,7 @@ PrintsOnly kinds found (Usage e) sink full =
 PrintsOnly kinds found (BadArgument wrong) sink full = IsMistaken found wrong × (full ≡ sink)
 PrintsOnly kinds found NoMemory sink full = full ≡ sink
 
--- The words ask for nothing that is done. What is printed lands in no file that one of them names, as the host answered.
+-- The words ask for nothing that is done. What is printed lands in no file that they name, as the host answered.
 abbrev pub IsUnasked : {H L N M F D I : Type 0} → HostFacts H → Kinds → Option (Text × List Row) → List (List ℕ)
     → Things L N M F D I → Option (List ℕ) → Option (List ℕ) → Option (List ℕ) → Option (List ℕ) → Status → Type 0
 IsUnasked facts kinds found names things source left sink full status =

@@ -48,9 +48,8 @@ pub trait Host {
             × (unseen_in opened.1 ≡ unseen_in leave.supposed)) }
         ensures refused { IfErr result (λ error. (facts self.now).opened path.now (Err error)) };
 
-    /// Makes a file at a path where there is none, and gives back what is supposed of it and the right to remove it. Who
-    /// may read and write it is who may with the file at `like`, if one is named, as far as the file system can say it;
-    /// and until that is so, nobody else may.
+    /// Makes a file at a path where there is none, and gives back what is supposed of it and the right to remove it. It
+    /// gets the permission bits of the file at `like`, if one is named, and until then its owner alone may open it.
     ///
     /// # Errors
     ///
