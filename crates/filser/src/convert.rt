@@ -77,7 +77,7 @@ pub(crate) fn convert_image<H: Host, W: Write, E: Write>(
     }
 }
 
-/// Why a new image can't have a name, if something has it. If a standard stream leads there, nothing is printed into it.
+/// Why a new image can't have a name, if something has it. If a stream leads there, nothing is printed into it.
 fn name_taken<H: Host>(host: &H, new: &str) -> Option<ImageFault>
     ensures { IfSome result (IsNameTaken (H.facts host.now) new.now) }
 {
@@ -168,8 +168,8 @@ fn convert_disk<H: Host, W: Write, E: Write>(
     }
 }
 
-/// The disk of a new image, as many blocks of zeros, and the right to remove its file. It gets the permission bits of the
-/// image that is there. One that was made and can't be filled is left, and people are told so.
+/// The disk of a new image, as many blocks of zeros, and the right to remove its file. It gets the permission bits of
+/// the image that is there. One that was made and can't be filled is left, and people are told so.
 ///
 /// # Errors
 ///
