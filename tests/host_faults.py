@@ -135,9 +135,10 @@ def failing(call, error, when="1+"):
 def an_output_that_is_full(tries):
     """An answer that can't be written is told, and what was done stays."""
     told = tells("standard output", FULL)
-    for words, data in [(["list", "A.IMG"], b""), (["check", "A.IMG"], b""), (["get", "A.IMG", "10,20", "HELLO.TXT"], b""),
-                        (["run", "A.IMG"], LOGIN), (["calls", "A.IMG"], b"1 RESET\n"), (["list", "A.IMG", "7,7"], b""),
-                        ([], LOGIN), (["--version"], b""), (["help"], b""), (["migrate", "A.IMG"], b"")]:
+    for words, data in [(["list", "A.IMG"], b""), (["list", "A.IMG", "7,7"], b""), (["check", "A.IMG"], b""),
+                        (["get", "A.IMG", "10,20", "HELLO.TXT"], b""), (["run", "A.IMG"], LOGIN),
+                        (["calls", "A.IMG"], b"1 RESET\n"), (["migrate", "A.IMG"], b""), ([], LOGIN),
+                        (["--version"], b""), (["help"], b"")]:
         with open("/dev/full", "wb") as full:
             tries.expect(words, None, told, 4, data=data, stdout=full)
     # a refusal that can't be printed has its reason too
@@ -222,7 +223,8 @@ def words_that_ask_for_help(tries):
     with open(tries.path("filser"), "wb") as output:
         done = subprocess.run(["filser", "--version"], executable=tries.program, stdout=output, cwd=tries.folder,
                               check=False, timeout=LIMIT)
-    tries.judge((done.returncode, tries.read("filser")) == (0, VERSION), "the version isn't shown in a file named filser")
+    shown = tries.read("filser")
+    tries.judge((done.returncode, shown) == (0, VERSION), f"{shown!r} in a file with the name of the program")
 
 
 def a_new_name_that_a_stream_leads_to(tries):
@@ -284,7 +286,8 @@ def a_lock_that_is_not_given(tries):
     if not tries.may_trace:
         tries.skip("there is no strace that may trace")
         return
-    for error, reason in [("ENOLCK", "No locks available (os error 37)"), ("EBADF", "Bad file descriptor (os error 9)")]:
+    for error, reason in [("ENOLCK", "No locks available (os error 37)"),
+                          ("EBADF", "Bad file descriptor (os error 9)")]:
         told = tells("A.IMG", reason)
         for words in (["run", "A.IMG"], ["list", "A.IMG"], ["migrate", "A.IMG"], ["convert", "A.IMG", "N.IMG"]):
             tries.expect_kept("A.IMG", words, FAULT, told, 4, data=LOGIN, faults=failing("flock", error))
@@ -335,8 +338,8 @@ def a_file_that_came_in_its_place(tries):
     tries.judge(not os.path.lexists(tries.path("B.IMG")), "B.IMG is there")
     faults = ["-e", "trace=fsync", "-e", "inject=fsync:error=EIO:delay_enter=2000000"]
     tries.write("OTHER", b"another file\n")
-    with subprocess.Popen(tries.words(["init", "C.IMG", "64"], faults, "LOG"), cwd=tries.folder, stdin=subprocess.DEVNULL,
-                          stdout=subprocess.PIPE, stderr=subprocess.PIPE) as running:
+    with subprocess.Popen(tries.words(["init", "C.IMG", "64"], faults, "LOG"), cwd=tries.folder,
+                          stdin=subprocess.DEVNULL, stdout=subprocess.PIPE, stderr=subprocess.PIPE) as running:
         for _ in range(100):
             if os.path.exists(tries.path("C.IMG")) and os.path.getsize(tries.path("C.IMG")) == 65536:
                 break

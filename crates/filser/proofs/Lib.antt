@@ -5,5 +5,5 @@ mod Raising
 mod Attending
 mod Matching
 mod Unasked
-mod Sparing
+mod Naming
 mod ExitCodes

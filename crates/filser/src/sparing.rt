@@ -1,4 +1,4 @@
-ghost use Rattle.std.specs.Prelude.{◌×◌, IsTrue, All, drop, map};
+ghost use Rattle.std.specs.Prelude.{IsTrue, All, drop, map};
 ghost use Rattle.filser.specs.Sparing.{SparesErrors, SparesOutput};
 
 use crate::Host;
