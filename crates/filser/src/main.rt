@@ -10,12 +10,13 @@
 //!    status of such a run is the definition's. (`specs/Refusals.antt`)
 //! 5. `work` is a whole run: it ends, takes nothing but what it is handed, and answers a status from 0 to 4. `main`
 //!    holds the numbers of the standard streams that are missing, asks whether the standard error is a terminal, hands
-//!    `work` the streams and the host's files, drops what is left of the images, and does nothing else.
+//!    `work` the streams and the host's files, drops what is left of the images, and does nothing else, except that it
+//!    tells why there are no arguments or no numbers.
 //! 6. Files are reached through `Host` alone: generic code can't truncate one, write to one except through its disk, or
 //!    remove one that it didn't make. What was asked of the host can be shown only by asking. (`HostFacts`) A run can
 //!    open one file and make one, and hands back the leave that it didn't use. (`Leaves`)
-//! 7. The file of an image was opened at its path, has the number of no standard stream, and is locked if the system
-//!    has locks for it. (`IsOpened`) The disk that is served is that file's from before its first call. (`IsOnImage`)
+//! 7. The file of an image was opened at its path, has the number of no standard stream, and is locked.
+//!    (`IsOpened`) The disk that is served is that file's from before its first call. (`IsOnImage`)
 //! 8. Every task on an image is done by one function, `serve`: it starts a service on the disk, or says why there is
 //!    none, and hands the disk back. (`IsTaskRun`) A new image has the layout that was asked for. (`IsEmptyVolume`)
 //!    A migration writes the home copies alone, and its line is printed only if the volume has layout 2.
@@ -23,6 +24,7 @@
 //! 9. A refusal has its cause (`IsDenied`, `IsNotMade`), and its line is printed whole, or a beginning of it if the
 //!    writer fails. (`IsExplained`, `IsLine`)
 //! 10. A run hands back the images that it worked on, so that its contract says what became of them. (`WasRun`)
+//! 11. Words that ask for nothing print nothing into a file that one of them names. (`SparesNamed`)
 //!
 //! What an image stands for, and what a line does, is not known here.
 #![tactic(auto)]
@@ -122,18 +124,17 @@ fn leads_to_argument(rt: &HostRuntime) -> bool {
     let mut bytes = [0; PATH_BYTES];
     for place in 1..usize::MAX {
         match rt.arg(place, &mut bytes) {
-            Ok(count) => {
-                if let Ok(path) = str::from_utf8(&bytes[..count])
-                    && is_at_errors(&host, path)
-                {
-                    return true;
-                }
-            }
-            Err(FillError::TooLong) => {}
+            Ok(count) if names_errors(&host, &bytes[..count]) => return true,
+            Ok(_) | Err(FillError::TooLong) => {}
             Err(FillError::NotPresent) => return false,
         }
     }
     false
+}
+
+/// Whether the standard error leads to the file that an argument of these bytes names. One that isn't text names none.
+fn names_errors<H: Host>(host: &H, argument: &[u8]) -> bool {
+    str::from_utf8(argument).is_ok_and(|path| is_at_errors(host, path))
 }
 
 /// The status of a run, or why there are no arguments: one isn't text, or memory ran out.
