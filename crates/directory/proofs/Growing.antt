@@ -56,27 +56,6 @@ grown_twice n c more twice = record {
   doubled = λ j below. omega arith;
 }
 
--- and one with as many as a power of two that isn't below what it comes to
-pub grown_to : (n c p k : ℕ) → n ≤ p → p ≡ 2 ^ k → p ≤ c → HasPlaces n c
-grown_to n c p k below power within = record {
-  within = omega arith;
-  doubled = λ j less. step j less (below_or_not j k);
-}
-  where
-    step : (j : ℕ) → 2 ^ j < n → (j < k) ⊎ (k ≤ j) → 2 * 2 ^ j ≤ c
-    step j less (inl h) = twice (below_or_not (suc j) k)
-      where
-        twice : (suc j < k) ⊎ (k ≤ suc j) → 2 * 2 ^ j ≤ c
-        twice (inl more) = let q = pow_below (suc j) k more in omega (arith, pow-suc 2 j)
-        twice (inr same) = let e : k ≡ suc j = omega arith in
-            let q : 2 ^ k ≡ 2 ^ suc j = ap (λ i. 2 ^ i) e in omega (arith, pow-suc 2 j)
-    step j less (inr h) = absurd (over (below_or_not k j))
-      where
-        over : (k < j) ⊎ (j ≤ k) → ⊥
-        over (inl more) = let q = pow_below k j more in omega arith
-        over (inr same) = let e : j ≡ k = omega arith in
-            let q : 2 ^ j ≡ 2 ^ k = ap (λ i. 2 ^ i) e in omega arith
-
 -- a list with no elements needs none
 pub none_needed : (n c : ℕ) → n ≡ 0 → HasPlaces n c
 none_needed n c none = record {

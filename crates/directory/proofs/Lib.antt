@@ -1,7 +1,7 @@
 mod Growing
 mod Orders
 mod Indexing
-mod Merging
+mod Gathering
 mod Parsing
 mod Images
 mod BlockReading

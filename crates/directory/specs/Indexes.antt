@@ -2,6 +2,7 @@
 use Rattle.std.specs.Prelude.{◌≡◌, ℕ, ◌<◌, ◌≤◌, ◌++◌, ◌∷◌, suc, List, [], length, slice_get, Option, Some, None, take}
 use Rattle.std.specs.Prelude.{drop, ⊤}
 use Rattle.std.specs.List.{AllByRecursion}
+use Rattle.std.specs.Map.{values_of}
 use Rattle.std.specs.declared.cmp.Ordering.{Ordering}
 use Rattle.std.specs.declared.cmp.Ordering.TheVariants.{Less, Greater}
 use Rattle.meaning.specs.Maps.{times}
@@ -47,6 +48,11 @@ module _ {K V : Type 0} (R : K → K → Ordering) (items : List (K × V)) where
     pub inside : (p : ℕ) → p < length items → times p order ≡ 1
     pub outside : (p : ℕ) → length items ≤ p → times p order ≡ 0
     pub counted : length order ≡ length items
+
+  -- The place of each entry beside its key, by rising keys.
+  pub record AreGathered (found : List (K × ℕ)) : Type 0 where
+    pub index : IsIndex (values_of found)
+    pub led : AllByRecursion (λ f. HasKeyAt f.0 f.1) found
 
 -- A place left an order.
 pub record IsLeft (place : ℕ) (old new : List ℕ) : Type 0 where

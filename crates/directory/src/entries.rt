@@ -1,21 +1,18 @@
-ghost use Rattle.std.specs.Prelude.{◌≡◌, ◌<◌, ◌++◌, ◌∷◌, [], IfOk, OnOk, OnErr, IsErrOf, IfSome, IfNone, None, Some};
+ghost use Rattle.std.specs.Prelude.{◌≡◌, ◌<◌, ◌++◌, ◌∷◌, [], IfOk, IfSome, IfNone, None, Some};
 ghost use Rattle.std.specs.Prelude.{suc};
 ghost use Rattle.std.specs.Prelude.{length, map, get_or, swap_remove, slice_get, slice_set, take, drop};
 ghost use Rattle.std.specs.FinMap.Entries.{find};
-ghost use Rattle.meaning.specs.Maps.{EachOnce};
 ghost use Rattle.directory.specs.Edits.{StandsAt};
 ghost use Rattle.directory.specs.Indexes.{IsIndex};
-ghost use Rattle.directory.specs.Spares.{IsSpareFor};
-ghost use Rattle.directory.specs.declared.merge.MergeError.TheVariants.{Again};
+ghost use Rattle.std.specs.Vec.{vec_len, vec_capacity};
+ghost use Rattle.directory.specs.Spares.{HasPlaces, IsSpareFor};
 
 use crate::Entry;
-use crate::merge::{MergeError, merge};
 use crate::order::{enter, find_place, rename_place, take_place};
-use crate::spare::{Spare, find_spare, make_place, make_places, push_into};
+use crate::spare::{Spare, find_spare, make_place, push_into};
 use blockdisk::NoMemory;
 use std::alloc::Global;
 use std::marker::Model;
-use std::mem;
 
 /// The entries of a directory in core, in the order of the disk, and beside them their places by rising keys, so that
 /// no search goes through the list. No key comes twice.
@@ -51,6 +48,16 @@ impl<E: Entry> Entries<E> {
             list: Vec::new(alloc),
             order: Vec::new(alloc),
         }
+    }
+
+    /// These entries, in the order of the disk, with their places by rising keys.
+    pub(crate) fn of(list: Vec<E>, order: Vec<usize>) -> Self
+        requires index { IsIndex E.order (map E.view list.items) order.items }
+        requires list { HasPlaces (vec_len list) (vec_capacity list) }
+        requires order { HasPlaces (vec_len order) (vec_capacity order) }
+        ensures { result ≡ list.items }
+    {
+        Entries { list, order }
     }
 
     /// The entries as a slice.
@@ -114,50 +121,6 @@ impl<E: Entry> Entries<E> {
         make_place(&mut self.order, places);
         enter(&mut self.order, &self.list, &entry.key(), self.list.len());
         push_into(&mut self.list, spare, entry);
-    }
-
-    /// Adds an entry with a new key behind the others.
-    ///
-    /// # Errors
-    ///
-    /// `NoMemory` where there is none; nothing changes then.
-    pub fn push(&mut self, entry: E) -> Result<(), NoMemory>
-        requires { find E.order (E.view entry).0 (map E.view self.old) ≡ None }
-        ensures more { OnOk result (self.new ≡ self.old ++ entry ∷ []) }
-        ensures same { OnErr result (self.new ≡ self.old) }
-    {
-        let alloc = *self.list.allocator();
-        let spare = self.find_spare(alloc)?;
-        let places = self.find_place_spare(alloc)?;
-        self.push_into(spare, places, entry);
-        Ok(())
-    }
-
-    /// Adds other entries behind these. The list of places is of use to the next call; what it has is forgotten.
-    ///
-    /// # Errors
-    ///
-    /// `Again` where one of their keys is there already, `NoMemory` where there is none; nothing changes then.
-    pub fn append(&mut self, others: &Entries<E>, places: &mut Vec<usize>) -> Result<(), MergeError>
-        ensures more { OnOk result (self.new ≡ self.old ++ others.now) }
-        ensures same { OnErr result (self.new ≡ self.old) }
-        ensures again { IsErrOf result Again → EachOnce E.order (map E.view self.old ++ map E.view others.now) → ⊥ }
-        ensures once { OnOk result (EachOnce E.order (map E.view self.old ++ map E.view others.now)) }
-    {
-        let count = others.list.len();
-        places.clear();
-        if make_places(&mut self.list, count).is_err() {
-            return Err(MergeError::NoMemory);
-        }
-        if make_places(places, self.list.len() + count).is_err() {
-            return Err(MergeError::NoMemory);
-        }
-        merge(&self.order, &self.list, &others.order, &others.list, places)?;
-        if self.list.extend_from_slice(&others.list).is_err() {
-            return Err(MergeError::NoMemory);
-        }
-        mem::swap(&mut self.order, places);
-        Ok(())
     }
 
     /// Puts an entry in the place of another. Its key stands in no other place.

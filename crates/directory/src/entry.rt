@@ -21,7 +21,7 @@ pub enum EntryFault {
 /// twice in a directory.
 pub trait Entry: Copy {
     /// What an entry is found by.
-    type Key: Copy;
+    type Key: Copy + Ord;
 
     // What stands at a key.
     ghost Stored: { Type 0 };
@@ -70,6 +70,9 @@ pub trait Entry: Copy {
     /// How the entry's key compares with another.
     fn cmp_key(&self, key: &Self::Key) -> Ordering
         ensures { result ≡ order (view self.now).0 key.now };
+
+    // The keys compare by it.
+    ghost keyed: { (a b : Self.Key) → Self.Key.cmp a b ≡ order a b };
 
     // The order is total.
     ghost total: { IsTotalOrder order };

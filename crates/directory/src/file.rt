@@ -30,7 +30,7 @@ impl FileEntry {
 }
 
 impl Entry for FileEntry {
-    ghost use Rattle.std.specs.Prelude.{ℕ};
+    ghost use Rattle.std.specs.Prelude.{ℕ, refl};
     ghost use Rattle.meaning.specs.Files.{name_cmp};
     ghost use Rattle.meaning.specs.Directories.{file_words, IsFileEntry};
     ghost use Rattle.meaning.proofs.Names.{name_total, name_exact};
@@ -84,6 +84,8 @@ impl Entry for FileEntry {
         let names = self.name.name.bits().cmp(&key.name.bits());
         names.then(self.name.ext.bits().cmp(&key.ext.bits()))
     }
+
+    ghost keyed = { λ a b. refl };
 
     ghost total = { name_total };
 

@@ -14,8 +14,7 @@ ghost use Rattle.directory.specs.Loading.{SpellsBlock, AreGood, IsBadWords, IsBa
 ghost use Rattle.directory.specs.declared.error.DirectoryError.TheVariants.{BadDirectory, BlockTwice, Device, NoMemory};
 ghost use Rattle.directory.specs.declared.load.AddError.TheVariants.{Outside, Again};
 
-use crate::entries::Entries;
-use crate::merge::MergeError;
+use crate::gathered::{GatherError, Gathered};
 use crate::parse::{entry_words, is_directory_block};
 use crate::spare::push;
 use crate::{Chain, DirectoryError, Entry};
@@ -40,7 +39,7 @@ enum AddError {
 fn push_entry<E: Entry>(
     words: [Word; 3],
     size: u32,
-    entries: &mut Entries<E>,
+    entries: &mut Gathered<E>,
 ) -> Result<(), AddError>
     requires volume { IsVolumeSize size }
     requires good { AreGood E.order E.IsEntry E.target size (map E.view entries.old) }
@@ -58,12 +57,10 @@ fn push_entry<E: Entry>(
     if !is_in_space(size, u64::from(entry.target())) {
         return Err(AddError::Outside);
     }
-    if entries.find(&entry.key()).is_some() {
-        return Err(AddError::Again);
-    }
     match entries.push(entry) {
         Ok(()) => Ok(()),
-        Err(_) => Err(AddError::NoMemory),
+        Err(GatherError::Again) => Err(AddError::Again),
+        Err(GatherError::NoMemory) => Err(AddError::NoMemory),
     }
 }
 
@@ -72,7 +69,7 @@ fn push_entries<E: Entry>(
     block: &Block,
     count: usize,
     size: u32,
-    entries: &mut Entries<E>,
+    entries: &mut Gathered<E>,
 ) -> Result<(), AddError>
     requires volume { IsVolumeSize size }
     requires few { count ≤ 42 }
@@ -94,67 +91,12 @@ fn push_entries<E: Entry>(
     Ok(())
 }
 
-/// The entries of a block, so many.
-fn block_entries<E: Entry>(
-    alloc: Global,
-    block: &Block,
-    count: usize,
-    size: u32,
-) -> Result<Entries<E>, AddError>
-    requires volume { IsVolumeSize size }
-    requires few { count ≤ 42 }
-    ensures ok { IfOk result (λ read. (next : ℕ) (es : List (E.Key × E.Stored))
-        → SpellsBlock E.words_of E.IsEntry block.now next es → length es ≡ count → map E.view read ≡ es) }
-    ensures good { IfOk result (λ read. AreGood E.order E.IsEntry E.target size (map E.view read)) }
-    ensures outside { IsErrOf result Outside → (next : ℕ) (es : List (E.Key × E.Stored))
-        → SpellsBlock E.words_of E.IsEntry block.now next es → length es ≡ count
-        → AllByRecursion (λ e. InSpace size (E.target e)) es → ⊥ }
-    ensures again { IsErrOf result Again → (next : ℕ) (es : List (E.Key × E.Stored))
-        → SpellsBlock E.words_of E.IsEntry block.now next es → length es ≡ count → EachOnce E.order es → ⊥ }
-{
-    let mut entries = Entries::new(alloc);
-    push_entries(block, count, size, &mut entries)?;
-    Ok(entries)
-}
-
-/// Adds the entries of a block, so many, behind those before. They come into the order of these all at once: each by
-/// itself would move the places of half of those before it.
-fn add_entries<E: Entry>(
-    block: &Block,
-    count: usize,
-    size: u32,
-    entries: &mut Entries<E>,
-    places: &mut Vec<usize>,
-) -> Result<(), AddError>
-    requires volume { IsVolumeSize size }
-    requires few { count ≤ 42 }
-    requires good { AreGood E.order E.IsEntry E.target size (map E.view entries.old) }
-    ensures ok { OnOk result ((next : ℕ) (es : List (E.Key × E.Stored))
-        → SpellsBlock E.words_of E.IsEntry block.now next es → length es ≡ count
-        → map E.view entries.new ≡ map E.view entries.old ++ es) }
-    ensures good { OnOk result (AreGood E.order E.IsEntry E.target size (map E.view entries.new)) }
-    ensures outside { IsErrOf result Outside → (next : ℕ) (es : List (E.Key × E.Stored))
-        → SpellsBlock E.words_of E.IsEntry block.now next es → length es ≡ count
-        → AllByRecursion (λ e. InSpace size (E.target e)) es → ⊥ }
-    ensures again { IsErrOf result Again → (next : ℕ) (es : List (E.Key × E.Stored))
-        → SpellsBlock E.words_of E.IsEntry block.now next es → length es ≡ count
-        → EachOnce E.order (map E.view entries.old ++ es) → ⊥ }
-{
-    let read = block_entries(*places.allocator(), block, count, size)?;
-    match entries.append(&read, places) {
-        Ok(()) => Ok(()),
-        Err(MergeError::Again) => Err(AddError::Again),
-        Err(MergeError::NoMemory) => Err(AddError::NoMemory),
-    }
-}
-
 /// Adds the entries of block `n`; gives the next block of the chain, or 0.
 fn add_block<E: Entry>(
     block: &Block,
     n: u32,
     size: u32,
-    entries: &mut Entries<E>,
-    places: &mut Vec<usize>,
+    entries: &mut Gathered<E>,
 ) -> Result<u32, DirectoryError>
     requires volume { IsVolumeSize size }
     requires good { AreGood E.order E.IsEntry E.target size (map E.view entries.old) }
@@ -177,7 +119,7 @@ fn add_block<E: Entry>(
     if count == 0 && !is_first {
         return Err(DirectoryError::BadDirectory(n));
     }
-    match add_entries(block, count, size, entries, places) {
+    match push_entries(block, count, size, entries) {
         Ok(()) => Ok(next),
         Err(AddError::Outside) => Err(DirectoryError::BadDirectory(n)),
         Err(AddError::Again) => Err(DirectoryError::BadDirectory(n)),
@@ -214,8 +156,7 @@ fn read_on<E: Entry, D: Disk>(
     size: u32,
     reached: &mut Reached,
     blocks: &mut Vec<u32>,
-    entries: &mut Entries<E>,
-    places: &mut Vec<usize>,
+    entries: &mut Gathered<E>,
 ) -> Result<u32, DirectoryError>
     // What the caller sees to.
     requires size { size ≡ (D.state disk.old).size }
@@ -248,7 +189,7 @@ fn read_on<E: Entry, D: Disk>(
     }
     let block = read_block(disk, n)?;
     match push(blocks, n) {
-        Ok(()) => add_block(&block, n, size, entries, places),
+        Ok(()) => add_block(&block, n, size, entries),
         Err(_) => Err(DirectoryError::NoMemory),
     }
 }
@@ -324,20 +265,12 @@ impl<E: Entry> Chain<E> {
     {
         let size = disk.blocks();
         let mut blocks = Vec::new(alloc);
-        let mut entries = Entries::new(alloc);
-        let mut places = Vec::new(alloc);
+        let mut entries = Gathered::new(alloc);
         let mut next = first;
         while next != 0 {
-            next = read_on(
-                disk,
-                next,
-                size,
-                reached,
-                &mut blocks,
-                &mut entries,
-                &mut places,
-            )?;
+            next = read_on(disk, next, size, reached, &mut blocks, &mut entries)?;
         }
+        let entries = entries.finish()?;
         Ok(Chain { blocks, entries })
     }
 }

@@ -48,7 +48,7 @@ impl MasterEntry {
 }
 
 impl Entry for MasterEntry {
-    ghost use Rattle.std.specs.Prelude.{ℕ};
+    ghost use Rattle.std.specs.Prelude.{ℕ, refl};
     ghost use Rattle.std.specs.Ordering.{nat_cmp};
     ghost use Rattle.std.specs.Cmp.{nat_cmp_total};
     ghost use Rattle.std.specs.FinMap.{nat_cmp-IsAntisymmetric};
@@ -109,6 +109,8 @@ impl Entry for MasterEntry {
         let (own, other) = (self.ppn.word(), key.word());
         own.bits().cmp(&other.bits())
     }
+
+    ghost keyed = { λ a b. refl };
 
     ghost total = { nat_cmp_total };
 

@@ -78,25 +78,6 @@ pub(crate) fn make_place<T: Copy>(list: &mut Vec<T>, spare: Spare<T>)
     *list = places;
 }
 
-/// Sees to it that a list has places for so many elements more.
-///
-/// # Errors
-///
-/// `NoMemory` where there are none.
-pub(crate) fn make_places<T: Copy>(list: &mut Vec<T>, more: usize) -> Result<(), NoMemory>
-    requires { vec_len list.old + more < 2 ^ 64 }
-    ensures items { list.new.items ≡ list.old.items }
-    ensures len { vec_len list.new ≡ vec_len list.old }
-    ensures capacity { vec_capacity list.old ≤ vec_capacity list.new }
-    ensures places { OnOk result (HasPlaces (vec_len list.old + more) (vec_capacity list.new)) }
-{
-    let Some(wanted) = (list.len() + more).checked_next_power_of_two() else {
-        return Err(NoMemory);
-    };
-    list.reserve(wanted - list.len())?;
-    Ok(())
-}
-
 /// Adds an element in memory found before.
 pub(crate) fn push_into<T: Copy>(list: &mut Vec<T>, spare: Spare<T>, value: T)
     requires places { HasPlaces (vec_len list.old) (vec_capacity list.old) }

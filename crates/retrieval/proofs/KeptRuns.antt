@@ -10,7 +10,7 @@ use Rattle.std.proofs.lemmas.List.{drop-drop, take_all, get_or_default}
 use Rattle.std.proofs.lemmas.Option.{slice_get_read, get_or_from_slice_get}
 use Rattle.std.proofs.lemmas.Grind.{flat_map-append}
 use Rattle.meaning.specs.Retrieval.{Run, run_blocks, count_up}
-use Rattle.retrieval.specs.Runs.{pair_of, pairs_of, blocks_of_runs, IsAtOffset, behind, longest_runs, AreKept}
+use Rattle.retrieval.specs.Runs.{pair_of, pairs_of, blocks_of_runs, IsAtOffset, behind, longest_runs}
 use Rattle.retrieval.specs.declared.run.Run.{Run as RunValue}
 use Rattle.retrieval.proofs.RunLists.{length-count_up}
 use Rattle.retrieval.proofs.LongestRuns.{longest_behind, behind_last, blocks_of_longest, NoneAdjoins, longest_apart}
@@ -232,16 +232,6 @@ pushed old new n is more =
     let whole : pairs_of new ≡ longest_runs (blocks_of_runs old ++ n ∷ []) = more
     ∙ ap (λ (l : List Run). behind l (1, n)) is ∙ sym (longest_behind (blocks_of_runs old) 0 n) in
     (whole, ap (flat_map run_blocks) whole ∙ blocks_of_longest (blocks_of_runs old ++ n ∷ []))
-
-pub kept_more : (old new : List RunValue) (count now n : ℕ) → AreKept old count
-    → pairs_of new ≡ behind (pairs_of old) (1, n) → now ≡ count + 1 → AreKept new now
-kept_more old new count now n kept more is =
-    let both = pushed old new n kept.are_longest more in
-    record {
-      are_longest = both.0 ∙ ap longest_runs (sym both.1);
-      counted = let a = ap length both.1 in let b = length-append (blocks_of_runs old) (n ∷ []) in
-          let e = kept.counted in omega arith;
-    }
 
 -- Runs that are joined from the first on.
 

@@ -3,6 +3,7 @@ pub mod Spellings
 pub mod RunLists
 pub mod LongestRuns
 pub mod KeptRuns
+pub mod RunEnds
 pub mod Stops
 pub mod Readings
 pub mod Writing

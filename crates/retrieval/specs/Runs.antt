@@ -51,7 +51,12 @@ behind (first ∷ second ∷ runs) run = first ∷ behind (second ∷ runs) run
 abbrev pub ribs_of : List ℕ → ℕ
 ribs_of blocks = rib_count (length (longest_runs blocks))
 
--- What is kept of a list: its longest runs, and how many blocks there are.
-pub record AreKept (runs : List RunValue) (count : ℕ) : Type 0 where
+-- how many blocks there are up to the end of each of these runs, where so many are before the first
+abbrev pub ends_of : ℕ → List Run → List ℕ
+ends_of before [] = []
+ends_of before (run ∷ runs) = (before + run.0) ∷ ends_of (before + run.0) runs
+
+-- What is kept of a list: its longest runs, and how many blocks there are up to the end of each.
+pub record AreKept (runs : List RunValue) (ends : List ℕ) : Type 0 where
   pub are_longest : pairs_of runs ≡ longest_runs (blocks_of_runs runs)
-  pub counted : count ≡ length (blocks_of_runs runs)
+  pub are_ends : ends ≡ ends_of 0 (pairs_of runs)

@@ -1,30 +1,35 @@
 ghost use Rattle.std.specs.Prelude.{◌≡◌, ◌+◌, ◌-◌, ◌<◌, ◌≤◌, ◌^◌, ◌++◌, ◌∷◌, [], ℕ, IfSome, IfNone, OnOk, OnErr, IfOk};
-ghost use Rattle.std.specs.Prelude.{IsOk};
+ghost use Rattle.std.specs.Prelude.{IsOk, nat_le};
 ghost use Rattle.std.specs.Prelude.{length, take, drop, slice_get, slice_index, slice_set, vec_len, vec_capacity};
+ghost use Rattle.std.specs.List.Sorted.{IsNonDecreasing};
 ghost use Rattle.retrieval.specs.Runs.{BlocksState, IsAtOffset, blocks_of_runs, pairs_of, pair_of, part_blocks};
-ghost use Rattle.retrieval.specs.Runs.{behind, longest_runs};
+ghost use Rattle.retrieval.specs.Runs.{behind, longest_runs, ends_of};
 
 use crate::run::Run;
 use blockdisk::NoMemory;
 use std::alloc::Global;
 use std::marker::Model;
 
-/// Block numbers in order, kept as their longest runs of neighbours.
+/// Block numbers in order, kept as their longest runs of neighbours. Beside each run stands how many blocks there are
+/// up to its end, so that the run of a block is found by halves.
 #[derive(Drop)]
 pub(crate) struct BlockList {
     runs: Vec<Run>,
-    count: usize,
+    ends: Vec<usize>,
 }
 
 impl Model for BlockList {
-    ghost use Rattle.std.specs.Prelude.{◌-◌, vec_len, vec_capacity};
+    ghost use Rattle.std.specs.Prelude.{◌-◌, min, vec_len, vec_capacity};
     ghost use Rattle.retrieval.specs.Runs.{BlocksState, blocks_of_runs, AreKept};
 
     ghost Value = { BlocksState };
 
-    ghost view = { λ l. record { blocks = blocks_of_runs l.runs.items; spare = vec_capacity l.runs - vec_len l.runs } };
+    ghost view = { λ l. record {
+      blocks = blocks_of_runs l.runs.items;
+      spare = min (vec_capacity l.runs - vec_len l.runs) (vec_capacity l.ends - vec_len l.ends);
+    } };
 
-    ghost invariant = { λ l. AreKept l.runs.items l.count };
+    ghost invariant = { λ l. AreKept l.runs.items l.ends.items };
 }
 
 /// Where a block stands: the place of its run, and its offset in it.
@@ -34,22 +39,45 @@ struct Place {
     offset: u32,
 }
 
-/// Where the block at a place of the list stands.
-fn find(runs: &[Run], i: usize) -> Option<Place>
+/// How many blocks the first so many runs have, by their ends.
+fn blocks_before(ends: &[usize], count: usize) -> usize
+    requires { count ≤ length ends.now }
+    ensures { result ≡ slice_index (0 ∷ ends.now) count }
+{
+    match count.checked_sub(1) {
+        Some(last) => ends[last],
+        None => 0,
+    }
+}
+
+/// How many of the runs end before the block at a place of the list.
+fn runs_before(ends: &[usize], i: usize) -> usize
+    requires { IsNonDecreasing ends.now }
+    ensures bound { result ≤ length ends.now }
+    ensures before { slice_index (0 ∷ ends.now) result ≤ i }
+    ensures behind { result < length ends.now → i < slice_index ends.now result }
+{
+    ends.partition_point(
+        |end|
+            ensures { result ≡ nat_le end.now i }
+        { *end <= i },
+    )
+}
+
+/// Where the block at a place of the list stands, by halves.
+fn find(runs: &[Run], ends: &[usize], i: usize) -> Option<Place>
+    requires { ends.now ≡ ends_of 0 (pairs_of runs.now) }
     ensures some { IfSome result (λ place. IsAtOffset runs.now i place.run place.offset) }
     ensures none { IfNone result (length (blocks_of_runs runs.now) ≤ i) }
 {
-    let mut left = i;
-    for (place, run) in runs.iter().enumerate() {
-        if left < run.count() {
-            return Some(Place {
-                run: place,
-                offset: left as u32,
-            });
-        }
-        left -= run.count();
+    let at = runs_before(ends, i);
+    if at == runs.len() {
+        return None;
     }
-    None
+    Some(Place {
+        run: at,
+        offset: runs[at].offset(i - blocks_before(ends, at)),
+    })
 }
 
 /// The last of the first so many runs with another behind it, where that begins just behind the last.
@@ -71,22 +99,65 @@ fn joined_last(runs: &[Run], count: usize, run: Run) -> Option<Run>
     Some(last.joined(run))
 }
 
-/// Adds a run behind the last, as a part of it where that ends just before.
-fn push_run(runs: &mut Vec<Run>, run: Run) -> Result<(), NoMemory>
+/// Adds an end behind the last, in memory that was found before.
+fn push_end(ends: &mut Vec<usize>, end: usize)
+    requires { vec_len ends.old < vec_capacity ends.old }
+    ensures items { ends.new.items ≡ ends.old.items ++ end ∷ [] }
+    ensures len { vec_len ends.new ≡ vec_len ends.old + 1 }
+    ensures capacity { vec_capacity ends.old ≤ vec_capacity ends.new }
+{
+    match ends.push(end) {
+        Ok(()) => (),
+        Err(_) => unreachable!(), // there is memory for it
+    }
+}
+
+/// Adds a run of its own behind the last, and its end. Memory for both is found first.
+fn add_run(runs: &mut Vec<Run>, ends: &mut Vec<usize>, run: Run, end: usize) -> Result<(), NoMemory>
+    ensures runs { OnOk result (runs.new.items ≡ runs.old.items ++ run ∷ []) }
+    ensures ends { OnOk result (ends.new.items ≡ ends.old.items ++ end ∷ []) }
+    ensures same_runs { OnErr result (runs.new.items ≡ runs.old.items) }
+    ensures same_ends { OnErr result (ends.new.items ≡ ends.old.items) }
+    ensures spare_runs { vec_capacity runs.old - vec_len runs.old ≤ vec_capacity runs.new - vec_len runs.new + 1 }
+    ensures spare_ends { vec_capacity ends.old - vec_len ends.old ≤ vec_capacity ends.new - vec_len ends.new + 1 }
+    ensures room { 0 < vec_capacity runs.old - vec_len runs.old → 0 < vec_capacity ends.old - vec_len ends.old
+        → IsOk result }
+{
+    let Ok(()) = ends.reserve(1) else {
+        return Err(NoMemory);
+    };
+    let Ok(()) = runs.push(run) else {
+        return Err(NoMemory);
+    };
+    push_end(ends, end);
+    Ok(())
+}
+
+/// Adds a run behind the last, as a part of it where that ends just before. `end` is how many blocks there are then.
+fn push_run(
+    runs: &mut Vec<Run>,
+    ends: &mut Vec<usize>,
+    run: Run,
+    end: usize,
+) -> Result<(), NoMemory>
+    requires ends { ends.old.items ≡ ends_of 0 (pairs_of runs.old.items) }
+    requires end { end ≡ length (blocks_of_runs runs.old.items) + (pair_of run).0 }
     ensures ok { OnOk result (pairs_of runs.new.items ≡ behind (pairs_of runs.old.items) (pair_of run)) }
-    ensures err { OnErr result (runs.new.items ≡ runs.old.items) }
-    ensures spare { vec_capacity runs.old - vec_len runs.old ≤ vec_capacity runs.new - vec_len runs.new + 1 }
-    ensures room { 0 < vec_capacity runs.old - vec_len runs.old → IsOk result }
+    ensures ends { OnOk result (ends.new.items ≡ ends_of 0 (pairs_of runs.new.items)) }
+    ensures same_runs { OnErr result (runs.new.items ≡ runs.old.items) }
+    ensures same_ends { OnErr result (ends.new.items ≡ ends.old.items) }
+    ensures spare_runs { vec_capacity runs.old - vec_len runs.old ≤ vec_capacity runs.new - vec_len runs.new + 1 }
+    ensures spare_ends { vec_capacity ends.old - vec_len ends.old ≤ vec_capacity ends.new - vec_len ends.new + 1 }
+    ensures room { 0 < vec_capacity runs.old - vec_len runs.old → 0 < vec_capacity ends.old - vec_len ends.old
+        → IsOk result }
 {
     let count = runs.len();
     if let Some(joined) = joined_last(runs, count, run) {
         runs[count - 1] = joined;
+        ends[count - 1] = end;
         return Ok(());
     }
-    match runs.push(run) {
-        Ok(()) => Ok(()),
-        Err(_) => Err(NoMemory),
-    }
+    add_run(runs, ends, run, end)
 }
 
 /// Puts runs in at a place, those of a part, if any.
@@ -98,6 +169,7 @@ fn insert_part(runs: &mut Vec<Run>, at: usize, part: Option<Run>)
         ≡ part_blocks part ++ blocks_of_runs (drop at runs.old.items) }
     ensures spare { vec_capacity runs.old - vec_len runs.old ≤ vec_capacity runs.new - vec_len runs.new + 1 }
     ensures long { vec_len runs.old ≤ vec_len runs.new }
+    ensures few { vec_len runs.new ≤ vec_len runs.old + 1 }
 {
     let Some(run) = part else {
         return;
@@ -131,6 +203,7 @@ fn join_next(runs: &mut Vec<Run>, kept: usize, run: Run) -> usize
 fn join_all(runs: &mut Vec<Run>)
     ensures are_longest { pairs_of runs.new.items ≡ longest_runs (blocks_of_runs runs.old.items) }
     ensures spare { vec_capacity runs.old - vec_len runs.old ≤ vec_capacity runs.new - vec_len runs.new }
+    ensures few { vec_len runs.new ≤ vec_len runs.old }
 {
     let mut kept = 0;
     for i in 0..runs.len() {
@@ -150,12 +223,47 @@ fn put_at(runs: &mut Vec<Run>, place: Place, n: u32)
         (length (blocks_of_runs (take place.run runs.old.items)) + place.offset) n }
     ensures are_longest { pairs_of runs.new.items ≡ longest_runs (blocks_of_runs runs.new.items) }
     ensures spare { vec_capacity runs.old - vec_len runs.old ≤ vec_capacity runs.new - vec_len runs.new + 2 }
+    ensures few { vec_len runs.new ≤ vec_len runs.old + 2 }
 {
     let run = runs[place.run];
     runs[place.run] = Run::of(n);
     insert_part(runs, place.run + 1, run.behind(place.offset));
     insert_part(runs, place.run, run.before(place.offset));
     join_all(runs);
+}
+
+/// Makes the ends of runs anew, in memory that was found before.
+fn make_ends(ends: &mut Vec<usize>, runs: &[Run])
+    requires room { length runs.now ≤ vec_capacity ends.old }
+    requires few { length (blocks_of_runs runs.now) < 2 ^ 64 }
+    ensures ends { ends.new.items ≡ ends_of 0 (pairs_of runs.now) }
+    ensures capacity { vec_capacity ends.old ≤ vec_capacity ends.new }
+{
+    ends.clear();
+    let mut end = 0;
+    for run in runs {
+        end += run.count();
+        push_end(ends, end);
+    }
+}
+
+/// Puts another block at an offset in a run, and makes the ends anew. There is memory for two runs more in both lists.
+fn put_block(runs: &mut Vec<Run>, ends: &mut Vec<usize>, place: Place, n: u32)
+    requires below { place.run < vec_len runs.old }
+    requires inside { IfSome (slice_get runs.old.items place.run) (λ run. place.offset ≤ run.last - run.first) }
+    requires ends { ends.old.items ≡ ends_of 0 (pairs_of runs.old.items) }
+    requires few { length (blocks_of_runs runs.old.items) < 2 ^ 64 }
+    requires spare_runs { 2 ≤ vec_capacity runs.old - vec_len runs.old }
+    requires spare_ends { 2 ≤ vec_capacity ends.old - vec_len ends.old }
+    ensures blocks { blocks_of_runs runs.new.items ≡ slice_set (blocks_of_runs runs.old.items)
+        (length (blocks_of_runs (take place.run runs.old.items)) + place.offset) n }
+    ensures are_longest { pairs_of runs.new.items ≡ longest_runs (blocks_of_runs runs.new.items) }
+    ensures ends { ends.new.items ≡ ends_of 0 (pairs_of runs.new.items) }
+    ensures spare_runs { vec_capacity runs.old - vec_len runs.old ≤ vec_capacity runs.new - vec_len runs.new + 2 }
+    ensures spare_ends { vec_capacity ends.old - vec_len ends.old ≤ vec_capacity ends.new - vec_len ends.new + 2 }
+{
+    put_at(runs, place, n);
+    make_ends(ends, runs);
 }
 
 impl BlockList {
@@ -165,7 +273,7 @@ impl BlockList {
     {
         BlockList {
             runs: Vec::new(alloc),
-            count: 0,
+            ends: Vec::new(alloc),
         }
     }
 
@@ -173,7 +281,7 @@ impl BlockList {
     pub(crate) fn len(&self) -> usize
         ensures { result ≡ length self.now.blocks }
     {
-        self.count
+        blocks_before(&self.ends, self.ends.len())
     }
 
     /// The longest runs of the blocks.
@@ -188,7 +296,7 @@ impl BlockList {
     pub(crate) fn get(&self, i: usize) -> Option<u32>
         ensures { result ≡ slice_get self.now.blocks i }
     {
-        let place = find(&self.runs, i)?;
+        let place = find(&self.runs, &self.ends, i)?;
         Some(self.runs[place.run].at(place.offset))
     }
 
@@ -212,7 +320,7 @@ impl BlockList {
         ensures longest { i + (result.last - result.first) + 1 < length self.now.blocks
             → slice_index self.now.blocks (i + (result.last - result.first) + 1) ≡ result.last + 1 → ⊥ }
     {
-        match find(&self.runs, i) {
+        match find(&self.runs, &self.ends, i) {
             Some(place) => self.runs[place.run].rest(place.offset),
             None => unreachable!(), // it is one of the list
         }
@@ -227,7 +335,10 @@ impl BlockList {
         ensures blocks { self.new.blocks ≡ self.old.blocks }
         ensures ok { OnOk result (more ≤ self.new.spare) }
     {
-        match self.runs.reserve(more) {
+        let Ok(()) = self.runs.reserve(more) else {
+            return Err(NoMemory);
+        };
+        match self.ends.reserve(more) {
             Ok(()) => Ok(()),
             Err(_) => Err(NoMemory),
         }
@@ -244,12 +355,10 @@ impl BlockList {
         ensures spare { self.old.spare ≤ self.new.spare + 1 }
         ensures room { 0 < self.old.spare → length self.old.blocks + 1 < 2 ^ 64 → IsOk result }
     {
-        let Some(count) = self.count.checked_add(1) else {
+        let Some(end) = self.len().checked_add(1) else {
             return Err(NoMemory);
         };
-        push_run(&mut self.runs, Run::of(n))?;
-        self.count = count;
-        Ok(())
+        push_run(&mut self.runs, &mut self.ends, Run::of(n), end)
     }
 
     /// Puts another block at a place, in memory that was found before.
@@ -259,8 +368,9 @@ impl BlockList {
         ensures blocks { self.new.blocks ≡ slice_set self.old.blocks i n }
         ensures spare { self.old.spare ≤ self.new.spare + 2 }
     {
-        match find(&self.runs, i) {
-            Some(place) => put_at(&mut self.runs, place, n),
+        let _count = self.len(); // it is a usize, and no end is above it
+        match find(&self.runs, &self.ends, i) {
+            Some(place) => put_block(&mut self.runs, &mut self.ends, place, n),
             None => unreachable!(), // it is one of the list
         }
     }
@@ -275,7 +385,7 @@ impl BlockList {
     {
         Ok(BlockList {
             runs: self.runs.clone()?,
-            count: self.count,
+            ends: self.ends.clone()?,
         })
     }
 }

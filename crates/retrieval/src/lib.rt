@@ -31,7 +31,8 @@
 //!    growth is refused stays as it was. `take_retrieval_blocks` and `write_retrieval_blocks` do what
 //!    `write_version` does in a list that was found before, of as many places as `rib_count` says or more.
 //! 10. A `Version` shows a list of blocks and keeps the longest runs of it (`AreKept`), so that a body in one run
-//!    takes as little memory as one of a block.
+//!    takes as little memory as one of a block. The end of each run in the list stands beside it, so that a block is
+//!    found by halves.
 //!    `run_at` answers a run that the next block of the list does not continue. (`longest`)
 #![tactic(auto)]
 

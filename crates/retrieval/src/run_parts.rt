@@ -20,6 +20,14 @@ impl Run {
         (self.last - self.first) as usize + 1
     }
 
+    /// The offset in it that has so many of its blocks before it.
+    pub(crate) fn offset(self, before: usize) -> u32
+        requires { before ≤ self.last - self.first }
+        ensures { result ≡ before }
+    {
+        before as u32
+    }
+
     /// The block at a place in it, counted from 0.
     pub(crate) fn at(self, offset: u32) -> u32
         requires { offset ≤ self.last - self.first }

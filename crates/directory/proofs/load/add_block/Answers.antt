@@ -42,7 +42,7 @@ returns-in-Ok-clause-ok g c =
     let count : c.bits-count.result ≡ length es = c.bits-count.ensures.value
     ∙ count_of g.E.Entry.words_of g.met.E.Entry.apart g.E.Entry.IsEntry block next es c.index-block-1.result s in
     adds g.E.Entry.order g.E.Entry.words_of g.E.Entry.IsEntry g.E.Entry.target c.args.size block old next
-    es s c.in-Some.next (map g.E.Entry.view c.add_entries.new.entries)
+    es s c.in-Some.next (map g.E.Entry.view c.push_entries.new.entries)
     (c.in-Some.ensures.some ∙ c.bits.ensures.value
     ∙ head_of g.E.Entry.words_of g.met.E.Entry.apart g.E.Entry.IsEntry block next es c.index-block-0.result s)
     (λ some. sym count ∙ same_number c.bits-count.result 42 (c.in-Some.ensures.full some)) c.in-Some.ensures.inside

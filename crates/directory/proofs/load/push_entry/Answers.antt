@@ -1,7 +1,6 @@
 use Rattle.std.proofs.Common.{◌≡◌, map, None, subst, ◌∙◌}
 use Rattle.std.specs.FinMap.Entries.{find}
 use Rattle.meaning.specs.Faults.{InSpace}
-use Rattle.directory.proofs.Finding.{if_none}
 use Rattle.directory.proofs.EntryReading.{good_push}
 use Rattle.directory.proofs.load.push_entry.Goals as goal
 
@@ -10,6 +9,4 @@ returns-in-Ok-push-clause-good g c =
     good_push g.met.E.Entry.total g.E.Entry.view g.E.Entry.IsEntry g.E.Entry.target c.args.size c.args.entries.now
     c.push.new.self c.in-Ok.entry c.in-Ok-push.ensures.more c.requires.good c.in-Ok.ensures.good
     (subst (InSpace c.args.size) (c.from.ensures
-    ∙ c.target.ensures) (c.is_in_space.ensures.0 c.if-not-is_in_space.false))
-    (subst (λ q. find g.E.Entry.order q (map g.E.Entry.view c.args.entries.now) ≡ None) c.key.ensures
-    (if_none c.find.result (c.if-is_some.ensures) c.find.ensures.none))
+    ∙ c.target.ensures) (c.is_in_space.ensures.0 c.if-not-is_in_space.false)) c.in-Ok-push.ensures.absent

@@ -4,6 +4,8 @@ use Rattle.std.specs.List.{AllByRecursion}
 use Rattle.blockdisk.specs.Laws.{same_disk_start, same_disk_on}
 use Rattle.meaning.specs.Faults.{InSpace}
 use Rattle.directory.specs.declared.error.DirectoryError.TheVariants.{BadDirectory, BlockTwice}
+use Rattle.meaning.specs.Walks.{LeadsAlong}
+use Rattle.directory.specs.Chains.{IsOn, nodes_of}
 use Rattle.directory.specs.Loading.{IsTwiceInChain}
 use Rattle.directory.proofs.ChainReading.{reads_start, loading_starts, loading_less, loading_on, fewer, bad_chain}
 use Rattle.directory.proofs.ChainReading.{twice_in_chain, reads_moved, bad_moved, bad_of, loaded_walk, loaded_on}
@@ -138,22 +140,29 @@ loop-next-preserved g c =
 pub returns-clause-on : goal.returns-clause-on
 returns-clause-on g c h =
     let s = g.D.Disk.state c.args.disk.now in
-    loaded_on g.E.Entry.order g.E.Entry.words_of g.E.Entry.IsEntry g.E.Entry.target c.blocks-size.result
-    (g.D.Disk.state c.loop-next.disk).honest s.contents c.args.reached.now c.args.first c.loop-next.reached
-    c.loop-next.blocks.items
+    let blocks = c.loop-next.blocks.items in
+    subst (λ es. IsOn g.E.Entry.words_of s.contents (record { blocks = blocks; entries = map g.E.Entry.view es }))
+    (sym c.in_ok-entries.ensures)
+    (loaded_on g.E.Entry.order g.E.Entry.words_of g.E.Entry.IsEntry g.E.Entry.target c.blocks-size.result
+    (g.D.Disk.state c.loop-next.disk).honest s.contents c.args.reached.now c.args.first c.loop-next.reached blocks
     (map g.E.Entry.view c.loop-next.entries) c.loop-next.next c.loop-next.invariant.loading c.loop-next-test.false
-    h
+    h)
 
 pub returns-clause-walk : goal.returns-clause-walk
 returns-clause-walk g c h =
     let s = g.D.Disk.state c.args.disk.now in
-    loaded_walk g.E.Entry.order g.E.Entry.words_of g.E.Entry.IsEntry g.E.Entry.target c.blocks-size.result
-    (g.D.Disk.state c.loop-next.disk).honest s.contents c.args.reached.now c.args.first c.loop-next.reached
-    c.loop-next.blocks.items
+    let blocks = c.loop-next.blocks.items in
+    subst (λ es. LeadsAlong g.E.Entry.words_of s.contents c.args.first (nodes_of blocks (map g.E.Entry.view es)) 0)
+    (sym c.in_ok-entries.ensures)
+    (loaded_walk g.E.Entry.order g.E.Entry.words_of g.E.Entry.IsEntry g.E.Entry.target c.blocks-size.result
+    (g.D.Disk.state c.loop-next.disk).honest s.contents c.args.reached.now c.args.first c.loop-next.reached blocks
     (map g.E.Entry.view c.loop-next.entries) c.loop-next.next c.loop-next.invariant.loading c.loop-next-test.false
-    h
+    h)
 
 pub returns-clause-targets : goal.returns-clause-targets
 returns-clause-targets g c =
-    subst (λ n. AllByRecursion (λ e. InSpace n (g.E.Entry.target e)) (map g.E.Entry.view c.loop-next.entries))
-    c.blocks-size.ensures c.loop-next.invariant.loading.good.inside
+    let size = (g.D.Disk.state c.args.disk.now).size in
+    subst (λ es. AllByRecursion (λ e. InSpace size (g.E.Entry.target e)) (map g.E.Entry.view es))
+    (sym c.in_ok-entries.ensures)
+    (subst (λ n. AllByRecursion (λ e. InSpace n (g.E.Entry.target e)) (map g.E.Entry.view c.loop-next.entries))
+    c.blocks-size.ensures c.loop-next.invariant.loading.good.inside)

@@ -1,17 +1,21 @@
-use Rattle.std.proofs.Common.{rules, ◌∙◌, ap}
+use Rattle.std.proofs.Common.{◌∙◌, ap}
+use Rattle.std.proofs.lemmas.Result.{on_ok_weaker}
 use Rattle.retrieval.specs.Runs.{pairs_of, behind}
-use Rattle.retrieval.proofs.KeptRuns.{kept_more, pushed}
+use Rattle.retrieval.proofs.KeptRuns.{pushed}
+use Rattle.retrieval.proofs.RunEnds.{kept_more}
 use Rattle.retrieval.proofs.block_list.BlockList.push.Goals as goal
 
-pub invariant_of-self-2 : goal.invariant_of-self-2
-invariant_of-self-2 c =
-    kept_more c.self.inside.runs.items c.push_run.new.runs.items c.self.inside.count c.in-Some.count c.args.n
+pub invariant_of-self : goal.invariant_of-self
+invariant_of-self c =
+    let runs = c.self.inside.runs.items in
+    let now = c.push_run.new.runs.items in
+    kept_more c.push_run.result runs now c.self.inside.ends.items c.push_run.new.ends.items c.args.n
     c.self.invariant
-    (c.in_ok-push_run.ensures.ok ∙ ap (behind (pairs_of c.self.inside.runs.items)) c.of.ensures)
-    (search rules)
+    (on_ok_weaker c.push_run.result (λ more. more ∙ ap (behind (pairs_of runs)) c.of.ensures) c.push_run.ensures.ok)
+    c.push_run.ensures.ends c.push_run.ensures.same_runs c.push_run.ensures.same_ends
 
 pub returns-clause-ok : goal.returns-clause-ok
 returns-clause-ok c =
-    rw (← c.self.view_is) (pushed c.self.inside.runs.items c.push_run.new.runs.items c.args.n
-    c.self.invariant.are_longest
-    (c.in_ok-push_run.ensures.ok ∙ ap (behind (pairs_of c.self.inside.runs.items)) c.of.ensures)).1
+    let runs = c.self.inside.runs.items in
+    rw (← c.self.view_is) (on_ok_weaker c.push_run.result (λ more. (pushed runs c.push_run.new.runs.items c.args.n
+    c.self.invariant.are_longest (more ∙ ap (behind (pairs_of runs)) c.of.ensures)).1) c.push_run.ensures.ok)
