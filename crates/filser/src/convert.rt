@@ -160,9 +160,7 @@ fn convert_disk<H: Host, W: Write, E: Write>(
             let path = conversion.path;
             let image = Disks::Unserved(disk);
             let outcome = unconverted(fault, path, image, leave, writer, errors);
-            if fault.host.is_some() {
-                tell_stale_cache(errors, path);
-            }
+            tell_stale_cache(errors, path, &fault.host);
             outcome
         }
     }
@@ -308,9 +306,7 @@ fn uncopied<W: Write, E: Write>(
         ),
     };
     let status = refuse_image(fault, path, writer, errors);
-    if source.file().failure().is_some() {
-        tell_stale_cache(errors, conversion.path);
-    }
+    tell_stale_cache(errors, conversion.path, &failure_of(source.file()));
     Outcome {
         status,
         image: Disks::Unserved(source),

@@ -57,10 +57,11 @@ pub(crate) fn failure_of(file: &HostFile) -> Option<HostFault>
 
 /// Tells people why the file of an image failed, if it did, and what to do then.
 pub(crate) fn tell_failure<E: Write>(errors: &mut E, path: &str, image: &Image) {
-    if let Some(fault) = failure_of(image.inner().file()) {
-        tell_fault(errors, path, &fault);
-        tell_stale_cache(errors, path);
+    let fault = failure_of(image.inner().file());
+    if let Some(fault) = &fault {
+        tell_fault(errors, path, fault);
     }
+    tell_stale_cache(errors, path, &fault);
 }
 
 /// Takes the file of an image for this process alone, until the process ends. It never waits.
