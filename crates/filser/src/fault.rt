@@ -102,8 +102,8 @@ pub(crate) fn tell_fault<E: Write>(errors: &mut E, path: &str, fault: &HostFault
     }
 }
 
-/// Tells people what to do after a fault of a device, if there was one: a host may go on with what it couldn't write, and
-/// forget that it failed, so that a start reads what isn't on the disk.
+/// Tells people what to do after a fault of a device, if there was one: a host may go on with what it couldn't write,
+/// and forget that it failed, so that a start reads what isn't on the disk.
 pub(crate) fn tell_stale_cache<E: Write>(errors: &mut E, path: &str, fault: &Option<HostFault>) {
     if fault.is_some() {
         report(
