@@ -11,13 +11,16 @@ pub(crate) struct EscapedLines<'a, T: Display>(pub(crate) &'a T);
 
 impl Display for Escaped<'_> {
     fn fmt<W: fmt::Write>(&self, f: &mut Formatter<W>) -> fmt::Result {
-        write!(Escaper { f, keeps: None }, "{}", self.0)
+        let mut writer = Escaper { f, keeps: None };
+        write!(writer, "{}", self.0)
     }
 }
 
 impl<T: Display> Display for EscapedLines<'_, T> {
     fn fmt<W: fmt::Write>(&self, f: &mut Formatter<W>) -> fmt::Result {
-        write!(Escaper { f, keeps: Some('\n') }, "{}", self.0)
+        let keeps = Some('\n');
+        let mut writer = Escaper { f, keeps };
+        write!(writer, "{}", self.0)
     }
 }
 

@@ -21,13 +21,13 @@ ghost use Rattle.filser.specs.declared.status.Status.{Status as Statuses};
 ghost use Rattle.filser.specs.declared.status.Status.TheVariants.{Done, BadArguments, Fault};
 
 use crate::convert::{Conversion, convert_image};
+use crate::escaped::EscapedLines;
 use crate::fault::{report, tell_fault, tell_no_memory};
 use crate::image::{NewVolume, make_image};
 use crate::lines::LineReader;
-use crate::output::OutputWriter;
 use crate::migrating::migrate_image;
 use crate::outcome::Outcome;
-use crate::escaped::EscapedLines;
+use crate::output::OutputWriter;
 use crate::serving::{say, serve_fresh, serve_image};
 use crate::sparing::FreeStreams;
 use crate::streams::stream_at;
