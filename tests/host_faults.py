@@ -238,6 +238,9 @@ def a_new_name_that_a_stream_leads_to(tries):
         tries.expect_kept("NEW.IMG", words, None, None, 3, stdout=new, stderr=new)
     with open("/dev/full", "wb") as full, tries.appending("NEW.IMG") as new:
         tries.expect_kept("NEW.IMG", words, None, None, 3, stdout=full, stderr=new)
+    with tries.appending("NEW.IMG") as new:
+        tries.expect_kept("NEW.IMG", words, b"", None, 4, stderr=new, preexec_fn=lambda: os.close(0))
+    tries.expect(words, b"", tells("standard input or output", "it is closed"), 4, preexec_fn=lambda: os.close(0))
 
 
 def a_sync_that_fails(tries):

@@ -30,7 +30,7 @@ use crate::outcome::Outcome;
 use crate::output::OutputWriter;
 use crate::serving::{say, serve_fresh, serve_image};
 use crate::sparing::FreeStreams;
-use crate::streams::stream_at;
+use crate::streams::{is_at_errors, stream_at};
 use crate::{
     Disks, Host, HostFault, ImageDisks, ImageFault, Leaves, MakingLeave, MissingStreams, NewDisks,
     OpeningLeave, Request, RequestError, Run, Seen, Status, Telling, WrongArgument, request,
@@ -220,10 +220,21 @@ fn start<H: Host, R: Read, W: Write, E: Write>(
         return without_disks(refuse_image(fault, path, writer, errors), leaves);
     }
     if missing.are_needed() {
-        report(errors, "standard input or output", &"it is closed");
+        tell_closed(host, asked, errors);
         return without_disks(Status::Fault, leaves);
     }
     perform(host, alloc, asked, telling, leaves, reader, writer, errors)
+}
+
+/// Tells people that there is nothing to read or to print to, unless that would land in the file that has the name of a
+/// new image.
+fn tell_closed<H: Host, E: Write>(host: &H, asked: &Request<'_>, errors: &mut E) {
+    if let Request::Convert(_, new, _) = asked
+        && is_at_errors(host, new)
+    {
+        return;
+    }
+    report(errors, "standard input or output", &"it is closed");
 }
 
 /// The path of the image that is named, and the standard stream that leads to it, where one does.
