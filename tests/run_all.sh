@@ -17,6 +17,7 @@ cd "$(dirname "$0")"
 ./streams_and_locks.sh "$program"
 ./put_get_list_convert.py "$program"
 ./hostile_inputs.py "$program" 2000
+./hostile_starts.py "$program"
 ./model_rows.py
 ./against_model.py "$program"
 ./both_forms.py "$program"

@@ -49,13 +49,7 @@ module _ (runs : List RunValue) (count : ℕ) (last run : RunValue) (some : 0 < 
       ∙ append_assoc (pairs_of (take (count - 1) runs)) (pair_of last ∷ []) (pair_of run ∷ [])
       ∙ sym (chosen ∙ ap choice (ne_eqb (suc (last.last - last.first) + last.first) run.first apart))
 
-pub none_before : (runs : List RunValue) (count : ℕ) (run : RunValue) → count ≡ 0
-    → pairs_of (take count runs) ++ pair_of run ∷ [] ≡ behind (pairs_of (take count runs)) (pair_of run)
-none_before runs count run is = subst
-    (λ (k : ℕ). pairs_of (take k runs) ++ pair_of run ∷ [] ≡ behind (pairs_of (take k runs)) (pair_of run))
-    (sym is) refl
-
--- Another run at the place before the first so many end, and behind them.
+-- Another run at the place before the first so many end.
 
 pub set_before : (runs : List RunValue) (count : ℕ) (run : RunValue) → 0 < count → count ≤ length runs
     → pairs_of (take count (slice_set runs (count - 1) run)) ≡ pairs_of (take (count - 1) runs) ++ pair_of run ∷ []
@@ -64,11 +58,6 @@ set_before runs count run some few =
     (let e : count ≡ count - 1 + 1 = omega arith in e)
     ∙ ap pairs_of (take_more_set runs (count - 1) run (omega arith))
     ∙ map_push pair_of (take (count - 1) runs) run
-
-pub set_behind : (runs : List RunValue) (count : ℕ) (run : RunValue) → count < length runs
-    → pairs_of (take (count + 1) (slice_set runs count run)) ≡ pairs_of (take count runs) ++ pair_of run ∷ []
-set_behind runs count run below = ap pairs_of (take_more_set runs count run below)
-    ∙ map_push pair_of (take count runs) run
 
 -- One run more, by the first so many.
 

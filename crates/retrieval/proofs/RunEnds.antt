@@ -1,9 +1,9 @@
 -- How many blocks there are up to the end of each run.
-use Rattle.std.proofs.Common.{◌≡◌, ℕ, zero, suc, ◌+◌, ◌-◌, ◌<◌, ◌≤◌, ◌==◌, true, false, Bool, Result, Ok, Err, OnOk, OnErr, if◌then◌else◌, List, [], ◌∷◌, ◌++◌, length}
+use Rattle.std.proofs.Common.{◌≡◌, ℕ, zero, suc, ◌+◌, ◌-◌, ◌<◌, ◌≤◌, ◌==◌, true, false, Bool, if◌then◌else◌, List, []}
+use Rattle.std.proofs.Common.{Result, Ok, Err, OnOk, OnErr, ◌∷◌, ◌++◌, length}
 use Rattle.std.proofs.Common.{get_or, take, flat_map, slice_set, refl, sym, ◌∙◌, ap, subst, arith, length-append}
 use Rattle.std.proofs.lemmas.Bool.{leb-true, leb-false}
-use Rattle.std.proofs.lemmas.List.{take_all, take_more_set, length-set, length-map, map_push, map_more}
-use Rattle.std.proofs.lemmas.List.{get_or-map}
+use Rattle.std.proofs.lemmas.List.{take_all, take_more_set, length-set, length-map, map_push, map_more, get_or-map}
 use Rattle.std.proofs.lemmas.List.Folds.{length-flat_map-take}
 use Rattle.std.specs.Prelude.{leb, slice_index}
 use Rattle.std.specs.List.{take-map}
@@ -122,7 +122,8 @@ total_behind : (runs : List Run) (run : Run) → total (behind runs run) ≡ tot
 total_behind [] run = let e = total_cons run [] in omega arith
 total_behind (last ∷ []) run = joined (last.0 + last.1 == run.1)
   where
-    joined : (b : Bool) → total (if b then (last.0 + run.0, last.1) ∷ [] else last ∷ run ∷ []) ≡ total (last ∷ []) + run.0
+    joined : (b : Bool) → total (if b then (last.0 + run.0, last.1) ∷ [] else last ∷ run ∷ [])
+        ≡ total (last ∷ []) + run.0
     joined true = let a = total_cons (last.0 + run.0, last.1) [] in let b = total_cons last [] in omega arith
     joined false = let a = total_cons last (run ∷ []) in let b = total_cons run [] in let c = total_cons last [] in
         omega arith
@@ -151,7 +152,8 @@ few_more runs i run below is =
     let many = length-map runs pair_of in
     let a = length-flat_map-take run_blocks (pairs_of runs) i (pair_of run) (omega arith) in
     let b = ap total (take-map pair_of i runs) in
-    let c : get_or (pairs_of runs) i (pair_of run) ≡ pair_of run = get_or-map pair_of runs i run (pair_of run) below ∙ ap pair_of (sym is) in
+    let c : get_or (pairs_of runs) i (pair_of run) ≡ pair_of run =
+    get_or-map pair_of runs i run (pair_of run) below ∙ ap pair_of (sym is) in
     let d = ap (λ (r : Run). length (run_blocks r)) c in
     let e = length-count_up (suc (run.last - run.first)) run.first in
     omega arith

@@ -8,6 +8,7 @@ pub mod FreshVolume
 pub mod Marking
 pub mod Finding
 pub mod Handing
+pub mod OtherPlaces
 pub mod Lookups
 pub mod Reaching
 pub mod FoundFiles

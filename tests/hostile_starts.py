@@ -1,0 +1,201 @@
+#!/usr/bin/env python3
+"""Starts on images that were made to stall one, and on a file whose every block is a run of its own.
+
+usage: tests/hostile_starts.py PROGRAM [LARGEST]
+
+Each shape is made at four sizes, each twice the one before, up to images of LARGEST blocks (4096 if not given):
+
+- one prime block: a directory with a block for each block of the disk, all of whose names lead to one prime block;
+- a loop: the same chain, whose last block leads back to its first;
+- twin names: the same chain, whose last name is that of the first block;
+- one directory: a master directory as long, all of whose entries lead to one directory;
+- short runs: a file of a quarter of the disk's blocks, no two of them neighbours; a start, and a get.
+
+A refusal has to be the one that the image deserves. A start reads each block at most once, and takes at most as many
+steps as there are entries, times the logarithm: so twice the size has to take at most 2.4 times the instructions. They
+are counted by valgrind, which gives the same number in each run; without valgrind the sizes are tried alone. The last
+line says how many were as they should be.
+"""
+
+import os
+import re
+import shutil
+import subprocess
+import sys
+import tempfile
+
+BLOCK = 1024
+ENTRIES = 42
+STEPS = 2.4
+COUNTER = ["valgrind", "--tool=cachegrind", "--cache-sim=no", "--cachegrind-out-file=/dev/null"]
+COUNTED = re.compile(rb"I\s+refs:\s+([0-9,]+)")
+PROTECTION = 0o775 << 27
+OWNER = (0o10 << 18) + 0o20
+
+
+class Image:
+    """An image with the directory [10,20], as words."""
+
+    def __init__(self, program, path, blocks):
+        self.program = program
+        self.path = path
+        self.blocks = blocks
+        self.run("init", path, str(blocks))
+        self.run("run", path, lines=b"LOGIN [10,20]\nMAKDIR [10,20]\n")
+        with open(path, "rb") as file:
+            self.data = bytearray(file.read())
+        self.master = self.word(1, 5)
+        self.directory = self.word(self.master, 4)
+
+    def run(self, *words, lines=b"", counter=()):
+        """A run of the program."""
+        return subprocess.run(
+            [*counter, *self.program, *words], input=lines, capture_output=True, check=False, timeout=600
+        )
+
+    def word(self, block, place):
+        at = block * BLOCK + 8 * place
+        return int.from_bytes(self.data[at : at + 8], "big")
+
+    def put(self, block, words):
+        """Gives a block these words, and zeros behind them."""
+        data = b"".join(word.to_bytes(8, "big") for word in words)
+        self.data[block * BLOCK : (block + 1) * BLOCK] = data.ljust(BLOCK, b"\0")
+
+    def chain(self, first, entry, last_leads_to=0):
+        """Makes a chain of every block from the first on, but the last block of the disk. Gives its blocks."""
+        chain = [first, *range(self.directory + 1, self.blocks - 1)]
+        for place, block in enumerate(chain):
+            following = chain[place + 1] if place + 1 < len(chain) else last_leads_to
+            words = [following, ENTRIES]
+            for number in range(place * ENTRIES, (place + 1) * ENTRIES):
+                words += entry(number)
+            self.put(block, words)
+        return chain
+
+    def save(self):
+        with open(self.path, "wb") as file:
+            file.write(self.data)
+
+
+def scattered(number):
+    """A number of 18 bits for each, not in order, and none twice."""
+    return (number * 7919 + 1) % (1 << 18)
+
+
+def name(number):
+    """A name for each number, not in order."""
+    return 0o414141 << 18 | scattered(number) if number < 1 << 18 else 0o424242 << 18 | scattered(number)
+
+
+def leads_to(prime):
+    return lambda number: [name(number), 0, prime]
+
+
+def one_prime_block(image):
+    prime = image.blocks - 1
+    image.chain(image.directory, leads_to(prime))
+    return f"?Bad retrieval block {prime}\n"
+
+
+def a_loop(image):
+    image.chain(image.directory, leads_to(image.blocks - 1), last_leads_to=image.directory)
+    return f"?Block {image.directory} reached twice\n"
+
+
+def twin_names(image):
+    entry = leads_to(image.blocks - 1)
+    chain = image.chain(image.directory, entry)
+    last = chain[-1]
+    words = [image.word(last, place) for place in range(2 + 3 * ENTRIES)]
+    words[-3:] = entry(0)
+    image.put(last, words)
+    return f"?Bad directory block {last}\n"
+
+
+def one_directory(image):
+    def entry(number):
+        return [((number >> 17) + 2 << 18) + scattered(number % (1 << 17)) + 1, PROTECTION, image.directory]
+
+    image.chain(image.master, entry)
+    return f"?Block {image.directory} reached twice\n"
+
+
+def short_runs(image):
+    """Makes a file of a quarter of the blocks beside files of one block each. Gives what it holds."""
+    count = image.blocks // 4
+    names = [f"F{number:04o}" for number in range(2 * count)]
+    lines = ["LOGIN [10,20]"] + [f"COPY {name}=A" for name in names]
+    image.run("put", image.path, "10,20", "A", lines=b"A")
+    image.run("run", image.path, lines="\n".join(lines + [""]).encode())
+    lines = ["LOGIN [10,20]"] + [f"DELETE {name}" for name in names[::2]]
+    image.run("run", image.path, lines="\n".join(lines + [""]).encode())
+    text = b"B" * (640 * count // 2)
+    image.run("put", image.path, "10,20", "BIG", lines=text)
+    return text
+
+
+class Counts:
+    """What was as it should be."""
+
+    def __init__(self):
+        self.count = 0
+        self.failed = 0
+        self.counter = COUNTER if shutil.which(COUNTER[0]) else ()
+        if not self.counter:
+            print("SKIPPED: no valgrind, so that nothing is counted")
+
+    def expect(self, good, what):
+        self.count += 1
+        if not good:
+            self.failed += 1
+            print(what)
+
+    def cost(self, image, words, wanted, what):
+        """The instructions of a run, which has to print what is wanted; 0 if nothing counts them."""
+        done = image.run(*words, counter=self.counter)
+        self.expect(done.stdout == wanted, f"{what}: printed {done.stdout[:80]!r}, not {wanted[:80]!r}")
+        counted = COUNTED.search(done.stderr)
+        return int(counted[1].replace(b",", b"")) if counted else 0
+
+    def growth(self, what, costs):
+        """Each cost is at most so many times the one before."""
+        ratios = [after / before for before, after in zip(costs, costs[1:]) if before]
+        print(f"{what}: " + ", ".join(f"{cost / 1e6:.1f}" for cost in costs) + " million instructions")
+        for ratio in ratios:
+            self.expect(ratio <= STEPS, f"{what}: twice the size takes {ratio:.2f} times the instructions")
+
+
+def main():
+    if len(sys.argv) not in (2, 3):
+        sys.exit("usage: tests/hostile_starts.py PROGRAM [LARGEST]")
+    program = [os.path.abspath(sys.argv[1])]
+    largest = int(sys.argv[2]) if len(sys.argv) == 3 else 4096
+    sizes = [largest // 8, largest // 4, largest // 2, largest]
+    counts = Counts()
+    with tempfile.TemporaryDirectory(dir="/dev/shm" if os.path.isdir("/dev/shm") else None) as folder:
+        path = os.path.join(folder, "A.IMG")
+        for shape in (one_prime_block, a_loop, twin_names, one_directory):
+            what, costs = shape.__name__.replace("_", " "), []
+            for size in sizes:
+                image = Image(program, path, size)
+                wanted = shape(image).encode()
+                image.save()
+                costs.append(counts.cost(image, ["list", path], wanted, f"{what}, {size} blocks"))
+                os.remove(path)
+            counts.growth(what, costs)
+        starts, gets = [], []
+        for size in sizes:
+            image = Image(program, path, size)
+            text = short_runs(image)
+            starts.append(counts.cost(image, ["run", path], b"", f"short runs, {size} blocks"))
+            gets.append(counts.cost(image, ["get", path, "10,20", "BIG"], text, f"get of short runs, {size} blocks"))
+            os.remove(path)
+        counts.growth("short runs, a start", starts)
+        counts.growth("short runs, a get", gets)
+    print(f"{counts.count - counts.failed} of {counts.count} as they should be")
+    return 1 if counts.failed else 0
+
+
+if __name__ == "__main__":
+    sys.exit(main())
