@@ -90,6 +90,12 @@ def tells(name, what):
     return f"filser: {name}: {what}\n".encode()
 
 
+def tells_fault(name, what):
+    """What is told of a device that failed in a task on an image: the reason, and what to do then."""
+    hint = "after a device fault let the host drop its cache (restart it) before the next start"
+    return tells(name, what) + tells(name, hint)
+
+
 def tells_lines(count, first):
     """What is told of lines that were refused."""
     if count == 1:
@@ -185,8 +191,12 @@ class Tries:
                    f"tells {said!r} and not {told!r}")
 
     def expect_failed(self, told, host=None):
-        """A run on the image ends with a fault of the device, and this is told of it."""
+        """A run on the image ends before its start, since the host fails, and this is told of it."""
         self.expect(["run", "V.IMG"], LOGIN, FAULT, 4, tells("V.IMG", told), host=host)
+
+    def expect_faulty(self, told, host):
+        """A start ends with a fault of the device, and this is told of it."""
+        self.expect(["run", "V.IMG"], LOGIN, FAULT, 4, tells_fault("V.IMG", told), host=host)
 
     def expect_unmade(self, name, told, host):
         """Making an image fails with the device, and nothing is left at its place."""
@@ -258,7 +268,7 @@ def an_image_that_is_not_read(tries):
     os.chmod(tries.path("V.IMG"), 0o644)
     tries.same("V.IMG", image)
     if tries.may_filter():
-        tries.expect_failed("Bad file descriptor (os error 9)", without_reads)
+        tries.expect_faulty("Bad file descriptor (os error 9)", without_reads)
         tries.same("V.IMG", image)
     else:
         print("an_image_that_is_not_read: not tried where reads fail, since this system takes no filter")
@@ -272,7 +282,7 @@ def an_image_that_is_only_read(tries):
     tries.expect(["run", "V.IMG"], LOGIN, JOB, 0, host=without_writes)
     tries.same("V.IMG", whole)
     tries.write("V.IMG", image)
-    tries.expect_failed("File too large (os error 27)", without_writes)
+    tries.expect_faulty("File too large (os error 27)", without_writes)
     tries.same("V.IMG", image)
     tries.expect(["run", "V.IMG"], LOGIN, JOB, 0)
     tries.same("V.IMG", whole)

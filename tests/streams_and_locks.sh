@@ -176,7 +176,8 @@ status=0
 wait $! || status=$?
 cp before A.IMG
 want out 'Job 1 [1,2]' "$fault"
-want err 'filser: A.IMG: unexpected end of file'
+want err 'filser: A.IMG: the image has another length than at the start' \
+    'filser: A.IMG: after a device fault let the host drop its cache (restart it) before the next start'
 judge 'an image that is cut short' 4
 
 # A new image.

@@ -1,6 +1,6 @@
 -- What becomes of images and their disks.
 use Rattle.std.proofs.Common.{◌≡◌, ◌⊎◌, inl, inr, ⊎_elim, ℕ, List, Option, Some, Result, Ok, Err, OnOk, refl}
-use Rattle.std.proofs.Common.{sym, subst, ◌∙◌, ◌+◌, ◌-◌, ◌*◌, ◌^◌, min, true, is_some, IfOk, ap, length, replicate}
+use Rattle.std.proofs.Common.{sym, subst, ◌∙◌, ◌+◌, ◌-◌, ◌*◌, ◌^◌, min, true, IfOk, ap, length, replicate}
 use Rattle.std.proofs.Common.{arith}
 use Rattle.std.proofs.lemmas.List.{length-replicate}
 use Rattle.std.specs.Prelude.{IsErrOf, option_map, None as Nothing}
@@ -44,7 +44,6 @@ use Rattle.filser.specs.declared.disks.Disks.TheVariants.{Unserved}
 use Rattle.filser.specs.declared.fault.HostFault.{HostFault}
 use Rattle.filser.specs.declared.fault.HostFault.TheVariants.{System}
 use Rattle.filser.specs.declared.fault.ImageFault.{ImageFault}
-use Rattle.filser.specs.declared.identity.FileId.{FileId}
 use Rattle.filser.specs.declared.refusal.Refusal.TheVariants.{Start}
 use Rattle.filser.specs.declared.status.Status.{Status}
 use Rattle.filser.specs.declared.task.Task.{Task}
@@ -52,11 +51,6 @@ use Rattle.filser.proofs.Since.{alone_since, fault_since, leaves_since, served_s
 
 pub on_ok : {T E : Type 0} (result : Result T E) (value : T) (X : Type 0) → result ≡ Ok value → OnOk result X → X
 on_ok {T = T} {E = E} result value X is p = subst (λ (r : Result T E). OnOk r X) is p
-
-pub seen : (found : Option FileId → Type 0) (file : Option FileId) → is_some file ≡ true → found file
-    → (here : FileId) × found (Some here)
-seen found (Some here) is p = (here, p)
-seen found Nothing is p = cc
 
 -- A new volume.
 

@@ -5,4 +5,5 @@ mod Raising
 mod Attending
 mod Matching
 mod Unasked
+mod Naming
 mod ExitCodes

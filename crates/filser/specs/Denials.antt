@@ -2,7 +2,7 @@
 use Rattle.std.specs.Prelude.{◌≡◌, ◌≢◌, ◌⊎◌, ℕ, List, Bool, true, false, Option, Some, None, Ok, Err}
 use Rattle.std.specs.Prelude.{option_map, pos, ◌≤ℤ◌}
 use Rattle.std.specs.IoError.{error_kind}
-use Rattle.std.specs.declared.fs.TryLockError.TheVariants.{WouldBlock}
+use Rattle.std.specs.declared.fs.TryLockError.TheVariants.{WouldBlock, Error as LockFailed}
 use Rattle.std.specs.declared.io.Error.{Error}
 use Rattle.std.specs.declared.io.ErrorKind.TheVariants.{AlreadyExists}
 use Rattle.imagefile.specs.File.{FileState}
@@ -27,12 +27,17 @@ use Rattle.filser.specs.declared.status.Status.{Status}
 abbrev pub of_host : HostFault → ImageFault
 of_host host = record { refusal = Start Device; host = Some host }
 
--- An open file can't be used: it has the number of a standard stream, or another process has it.
+-- No lock was given for an open file: another process has it, or the system has another reason.
+abbrev pub IsUnlocked : {F : Type 0} → HostFacts F → F → ImageFault → Type 0
+IsUnlocked facts file fault = (facts.locked file (Err WouldBlock) × (fault ≡ of_host InUse))
+    ⊎ ((error : Error) × facts.locked file (Err (LockFailed error)) × (fault ≡ of_host (System error)))
+
+-- An open file can't be used: it has the number of a standard stream, or no lock was given for it.
 abbrev pub IsUnfit : {F : Type 0} → HostFacts F → F → ImageFault → Type 0
 IsUnfit facts file fault =
     ((stream : HostFault) × (facts.number file ≤ℤ pos 2) × IsStreamOf (facts.number file) stream
     × (fault ≡ of_host stream))
-    ⊎ (facts.locked file (Err WouldBlock) × (fault ≡ of_host InUse))
+    ⊎ IsUnlocked facts file fault
 
 -- The file at a path wasn't opened, or can't be used.
 abbrev pub IsUnopened : {F : Type 0} → HostFacts F → List ℕ → ImageFault → Type 0

@@ -1,9 +1,8 @@
 -- What the host answered to what it was asked about files. A body that is proved for every host can show one of these
 -- facts only by the call that gives it.
-use Rattle.std.specs.Prelude.{◌⊎◌, ℕ, ℤ, List, Option, Result, Ok, Err, pos, ◌<ℤ◌}
+use Rattle.std.specs.Prelude.{ℕ, ℤ, List, Option, Result, Ok, pos, ◌<ℤ◌}
 use Rattle.std.specs.declared.io.Error.{Error}
 use Rattle.std.specs.declared.fs.TryLockError.{TryLockError}
-use Rattle.std.specs.declared.fs.TryLockError.TheVariants.{Error as LockFailed}
 use Rattle.imagefile.specs.Unseen.{Unseen}
 use Rattle.filser.specs.declared.identity.FileId.{FileId}
 
@@ -24,11 +23,11 @@ pub record HostFacts (F : Type 0) : Type 1 where
   -- this is supposed of an open file that the calls on it don't show
   pub supposed : F → Unseen → Type 0
 
--- A lock was asked for: it was given, or the file system has none. No other process had it.
+-- A lock was asked for, and the system gave it.
 abbrev pub IsKept : {F : Type 0} → HostFacts F → F → Type 0
-IsKept facts file = facts.locked file (Ok tt) ⊎ ((error : Error) × facts.locked file (Err (LockFailed error)))
+IsKept facts file = facts.locked file (Ok tt)
 
--- An open file that has the number of no standard stream, and that no other process had.
+-- An open file that has the number of no standard stream, and is locked for this process.
 pub record IsOwn {F : Type 0} (facts : HostFacts F) (file : F) : Type 0 where
   pub apart : pos 2 <ℤ facts.number file
   pub kept : IsKept facts file

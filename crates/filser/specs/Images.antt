@@ -24,10 +24,12 @@ use Rattle.filser.specs.Hosts.{HostFacts, IsMade, IsOpened}
 use Rattle.filser.specs.Lines.{IsLine}
 use Rattle.filser.specs.Refusals.{converted_text}
 use Rattle.filser.specs.ServedDisks.{IsRefusedBy, IsServed, IsUnserved}
+use Rattle.filser.specs.Streams.{IsStreamAt}
 use Rattle.filser.specs.Tasks.{Attends, IsFirstMoment}
 use Rattle.filser.specs.Views.{Views}
 use Rattle.filser.specs.declared.disks.Disks.{Disks}
 use Rattle.filser.specs.declared.disks.Disks.TheVariants.{Unasked, None, NoImage, Unserved, Served, Made}
+use Rattle.filser.specs.declared.fault.HostFault.{HostFault}
 use Rattle.filser.specs.declared.fault.HostFault.TheVariants.{System, Memory as NoMemory, WrongLength}
 use Rattle.filser.specs.declared.fault.ImageFault.{ImageFault}
 use Rattle.filser.specs.declared.host.RemovalRight.{RemovalRight}
@@ -226,6 +228,12 @@ IsOnSource facts views new form v making begun from sink full copy status =
     ((copy ≡ Unasked making) × ((fault : ImageFault) × IsFaultOf begun from fault × IsExplained sink full status fault))
     ⊎ IsConverted facts views new form v begun from sink full copy status
 
+-- something has the name of a new image, and perhaps a standard stream leads there
+abbrev pub IsNameTaken : {H : Type 0} → HostFacts H → List ℕ → ImageFault → Type 0
+IsNameTaken facts new fault = ((file : FileId) × facts.found new (Some file))
+    × ((stream : Option HostFault) × IsStreamAt facts new stream
+    × (fault ≡ record { refusal = Exists; host = stream }))
+
 -- What became of both: the one that is there was opened; or it wasn't, or the name of the new one is taken. A leave
 -- that wasn't used is handed back.
 abbrev pub IsOnBoth : {H L N M F D I : Type 0} → HostFacts H → Views M F D I → List ℕ → List ℕ → Form → Unseen → Unseen
@@ -236,6 +244,5 @@ IsOnBoth {D = D} facts views path new form u v opening making sink full image co
     × IsOnSource facts views new (other_form form) v making (begun_image form (views.disk from).size u)
     (views.disk from) sink full copy status)
     ⊎ ((copy ≡ Unasked making) × ((fault : ImageFault)
-    × (((image ≡ Unasked opening) × ((file : FileId) × facts.found new (Some file))
-    × (fault ≡ record { refusal = Exists; host = Nothing }))
+    × (((image ≡ Unasked opening) × IsNameTaken facts new fault)
     ⊎ (HasNoDisk image × IsDenied facts views path form u fault image)) × IsExplained sink full status fault))

@@ -10,6 +10,7 @@ pub mod ServedDisks
 pub mod Tasks
 pub mod Views
 pub mod Denials
+pub mod Sparing
 pub mod Images
 pub mod Migrations
 pub mod Runs

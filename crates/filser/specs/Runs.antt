@@ -8,6 +8,7 @@ use Rattle.filser.specs.Hosts.{HostFacts}
 use Rattle.filser.specs.Images.{IsOnBoth, IsOnFresh, IsOnImage, IsOnNew}
 use Rattle.filser.specs.Migrations.{IsOnMigrated}
 use Rattle.filser.specs.Requests.{Asks, IsMistaken, IsUsage, image_named}
+use Rattle.filser.specs.Sparing.{SparesNamed}
 use Rattle.filser.specs.Streams.{AreNeeded, IsStreamAt}
 use Rattle.filser.specs.Views.{Views}
 use Rattle.filser.specs.declared.asked.Request.{Request}
@@ -95,18 +96,18 @@ PrintsOnly kinds found (Usage e) sink full =
 PrintsOnly kinds found (BadArgument wrong) sink full = IsMistaken found wrong × (full ≡ sink)
 PrintsOnly kinds found NoMemory sink full = full ≡ sink
 
--- The words ask for nothing that is done.
-abbrev pub IsUnasked : {L N M F D I : Type 0} → Kinds → Option (Text × List Row) → Things L N M F D I
-    → Option (List ℕ) → Option (List ℕ) → Option (List ℕ) → Option (List ℕ) → Status → Type 0
-IsUnasked kinds found things source left sink full status =
+-- The words ask for nothing that is done. What is printed lands in no file that they name, as the host answered.
+abbrev pub IsUnasked : {H L N M F D I : Type 0} → HostFacts H → Kinds → Option (Text × List Row) → List (List ℕ)
+    → Things L N M F D I → Option (List ℕ) → Option (List ℕ) → Option (List ℕ) → Option (List ℕ) → Status → Type 0
+IsUnasked facts kinds found names things source left sink full status =
     (error : RequestError) × (left ≡ source) × AreUntouched things × EndsUnasked error status
-    × PrintsOnly kinds found error sink full
+    × PrintsOnly kinds found error sink full × SparesNamed facts names sink full
     × ((wrong : Option WrongArgument) → error ≡ BadArgument wrong → (request : Request) → Asks found request → ⊥)
 
--- A whole run, by the words of its command line.
+-- A whole run, by the words of its command line, which are `names` without the program's.
 pub record WasRun {H L N M F D I : Type 0} (facts : HostFacts H) (views : Views M F D I) (missing : MissingStreams)
-    (things : Things L N M F D I) (kinds : Kinds) (found : Option (Text × List Row))
+    (things : Things L N M F D I) (kinds : Kinds) (found : Option (Text × List Row)) (names : List (List ℕ))
     (source left sink full : Option (List ℕ)) (status : Status) : Type 0 where
   pub is : ((request : Request) × Asks found request
       × IsHandled facts views missing things request source left sink full status)
-      ⊎ IsUnasked kinds found things source left sink full status
+      ⊎ IsUnasked facts kinds found names things source left sink full status

@@ -1,4 +1,4 @@
-ghost use Rattle.std.specs.Prelude.{◌≡◌, ◌≢◌, None, OnOk, IfOk, IfErr, IsErrOf};
+ghost use Rattle.std.specs.Prelude.{◌≡◌, ◌≢◌, None, OnOk, IfOk, IfErr, IfSome, IsErrOf};
 ghost use Rattle.blockdisk.specs.Disk.{SameDisk, one_more};
 ghost use Rattle.imagefile.specs.Began.{BeganAs};
 ghost use Rattle.imagefile.specs.Image.{other_form};
@@ -7,7 +7,7 @@ ghost use Rattle.volume.specs.declared.error.CopyError.TheVariants.{Source, Targ
 ghost use Rattle.volume.specs.declared.error.VolumeError.{VolumeError as Errors};
 ghost use Rattle.filser.specs.Denials.{IsExplained};
 ghost use Rattle.filser.specs.Images.{IsCopied, IsCopyFault, IsCopyRun, IsLeftAlone, IsNewDisk, IsNotMade, IsOnBoth};
-ghost use Rattle.filser.specs.Images.{IsOnCopy, IsOnSource, IsTaken};
+ghost use Rattle.filser.specs.Images.{IsNameTaken, IsOnCopy, IsOnSource, IsTaken};
 ghost use Rattle.filser.specs.Lines.{IsLine};
 ghost use Rattle.filser.specs.Refusals.{converted_text};
 ghost use Rattle.filser.specs.ServedDisks.{IsRefusedBy};
@@ -15,12 +15,13 @@ ghost use Rattle.filser.specs.declared.disks.Disks.TheVariants as disks;
 ghost use Rattle.filser.specs.declared.fault.ImageFault.{ImageFault as Faults};
 ghost use Rattle.filser.specs.declared.status.Status.TheVariants.{BadArguments};
 
-use crate::fault::report;
+use crate::fault::{report, tell_stale_cache};
 use crate::image::{NotMade, failure_of, new_file, open_disk, zeros_in};
 use crate::message::print_line;
 use crate::outcome::Outcome;
 use crate::program::refuse_image;
 use crate::progress::Watched;
+use crate::streams::stream_at;
 use crate::{
     Access, Disks, Host, ImageDisks, ImageFault, Leaves, MakingLeave, Message, Refusal,
     RemovalRight, Run, Seen, Status, Telling,
@@ -63,21 +64,28 @@ pub(crate) fn convert_image<H: Host, W: Write, E: Write>(
         leaves.image leaves.new
         (W.contents writer.old) (W.contents writer.new) result.image result.new result.status }
 {
-    if host.identity(conversion.new).is_some() {
-        let fault = ImageFault {
-            refusal: Refusal::Exists,
-            host: None,
-        };
+    if let Some(fault) = name_taken(host, conversion.new) {
         let image = Disks::Unasked(leaves.image);
         return unconverted(fault, conversion.new, image, leaves.new, writer, errors);
     }
     let (path, form) = (conversion.path, conversion.form);
-    match open_disk(host, path, form, Access::Read, leaves.image, errors) {
+    match open_disk(host, path, form, Access::Read, leaves.image) {
         Ok(disk) => convert_disk(host, alloc, disk, conversion, leaves.new, writer, errors),
         Err((fault, disks)) => {
             unconverted(fault, conversion.path, disks, leaves.new, writer, errors)
         }
     }
+}
+
+/// Why a new image can't have a name, if something has it. If a stream leads there, nothing is printed into it.
+fn name_taken<H: Host>(host: &H, new: &str) -> Option<ImageFault>
+    ensures { IfSome result (IsNameTaken (H.facts host.now) new.now) }
+{
+    host.identity(new)?;
+    Some(ImageFault {
+        refusal: Refusal::Exists,
+        host: stream_at(host, new),
+    })
 }
 
 /// Says why an image isn't converted, before a new one is made.
@@ -149,45 +157,44 @@ fn convert_disk<H: Host, W: Write, E: Write>(
                 refusal: Refusal::Start(error),
                 host: failure_of(disk.file()),
             };
-            unconverted(
-                fault,
-                conversion.path,
-                Disks::Unserved(disk),
-                leave,
-                writer,
-                errors,
-            )
+            let path = conversion.path;
+            let image = Disks::Unserved(disk);
+            let outcome = unconverted(fault, path, image, leave, writer, errors);
+            tell_stale_cache(errors, path, &fault.host);
+            outcome
         }
     }
 }
 
-/// The disk of a new image, as many blocks of zeros, and the right to remove its file. One that was made and can't be
-/// filled is left, and people are told so.
+/// The disk of a new image, as many blocks of zeros, and the right to remove its file. It gets the permission bits of
+/// the image that is there. One that was made and can't be filled is left, and people are told so.
 ///
 /// # Errors
 ///
 /// As of `new_file` and `zeros_in`.
 fn new_target<H: Host, E: Write>(
     host: &H,
-    new: &str,
-    form: Form,
+    conversion: &Conversion<'_>,
     blocks: u32,
     leave: MakingLeave,
     errors: &mut E,
 ) -> Result<(ImageDisk<HostFile>, RemovalRight), NotMade>
-    ensures made { IfOk result (λ made. IsNewDisk (H.facts host.now) (⟦<Run as Seen>⟧.views) new.now form blocks
-        (unseen_in leave.supposed) made.0) }
+    ensures made { IfOk result (λ made. IsNewDisk (H.facts host.now) (⟦<Run as Seen>⟧.views) conversion.now.new.now
+        (other_form conversion.now.form) blocks (unseen_in leave.supposed) made.0) }
     ensures began { IfOk result
-        (λ made. BeganAs form (unseen_in leave.supposed) (⟦<ImageDisk<HostFile> as Disk>⟧.state made.0)) }
+        (λ made. BeganAs (other_form conversion.now.form) (unseen_in leave.supposed)
+        (⟦<ImageDisk<HostFile> as Disk>⟧.state made.0)) }
     ensures counted { IfOk result (λ made. (⟦<ImageDisk<HostFile> as Disk>⟧.state made.0).failures ≡ 0) }
-    ensures denied { IfErr result (λ denied. IsNotMade (H.facts host.now) (⟦<Run as Seen>⟧.views) new.now form
-        blocks (unseen_in leave.supposed) denied.0 denied.1) }
+    ensures denied { IfErr result (λ denied. IsNotMade (H.facts host.now) (⟦<Run as Seen>⟧.views)
+        conversion.now.new.now (other_form conversion.now.form) blocks (unseen_in leave.supposed) denied.0 denied.1) }
 {
-    let (made, supposed) = match new_file(host, new, leave) {
+    let new = conversion.new;
+    let (made, supposed) = match new_file(host, new, Some(conversion.path), leave) {
         Ok(made) => made,
         Err(fault) => return Err((fault, Disks::None)),
     };
-    match zeros_in(host, made.file, new, form, blocks, supposed, errors) {
+    let form = conversion.form.other();
+    match zeros_in(host, made.file, new, form, blocks, supposed) {
         Ok(disk) => Ok((disk, made.right)),
         Err(denied) => {
             tell_incomplete(new, errors);
@@ -219,8 +226,7 @@ fn write_new<H: Host, W: Write, E: Write>(
         (⟦<ImageDisk<HostFile> as Disk>⟧.state from) (W.contents writer.old) (W.contents writer.new) result.new
         result.status }
 {
-    let form = conversion.form.other();
-    match new_target(host, conversion.new, form, source.blocks(), leave, errors) {
+    match new_target(host, conversion, source.blocks(), leave, errors) {
         Ok((target, right)) => { copy_to(alloc, source, target, right, conversion, writer, errors) }
         Err((fault, disks)) => Outcome {
             status: refuse_image(fault, conversion.new, writer, errors),
@@ -299,8 +305,10 @@ fn uncopied<W: Write, E: Write>(
             },
         ),
     };
+    let status = refuse_image(fault, path, writer, errors);
+    tell_stale_cache(errors, conversion.path, &failure_of(source.file()));
     Outcome {
-        status: refuse_image(fault, path, writer, errors),
+        status,
         image: Disks::Unserved(source),
         new: Disks::Unserved(target),
         memory: None,

@@ -1,3 +1,4 @@
+use crate::Escaped;
 use clap::Error as ClapError;
 use thiserror::Error;
 
@@ -5,13 +6,13 @@ use thiserror::Error;
 #[derive(Clone, Copy, Debug, PartialEq, Eq, Error)]
 pub enum WrongArgument<'a> {
     /// The directory.
-    #[error("PPN {0}: two octal numbers of 1 to 6 digits, neither of them zero, as 10,20 or [10,20]")]
+    #[error("PPN {}: two octal numbers of 1 to 6 digits, neither of them zero, as 10,20 or [10,20]", Escaped(.0))]
     Owner(&'a str),
     /// The file.
-    #[error("NAME {0}: 1 to 6 letters and digits, and at most 3 more after a full stop, as FOO.TXT")]
+    #[error("NAME {}: 1 to 6 letters and digits, and at most 3 more after a full stop, as FOO.TXT", Escaped(.0))]
     Name(&'a str),
     /// The date.
-    #[error("--date {0}: a day from 1964-01-01 to 2052-02-01, as 1975-01-04 or 4-Jan-1975, or its number")]
+    #[error("--date {}: a day from 1964-01-01 to 2052-02-01, as 1975-01-04 or 4-Jan-1975, or its number", Escaped(.0))]
     Date(&'a str),
 }
 

@@ -2,9 +2,9 @@ ghost use Rattle.std.specs.Prelude.{◌≡◌};
 ghost use Rattle.filser.specs.Denials.{of_host};
 ghost use Rattle.filser.specs.HostFaults.{forbids_errors, forbids_output};
 
-use crate::Refusal;
+use crate::{Escaped, Refusal};
 use std::fmt::Display;
-use std::io::{self, Write};
+use std::io::{self, ErrorKind, Write};
 use thiserror::Error;
 use volume::VolumeError;
 
@@ -86,5 +86,35 @@ impl From<HostFault> for ImageFault {
 /// Tells people something about a file, or about another part of the host: a line on the standard error, which is left
 /// out where that fails.
 pub(crate) fn report<E: Write, T: Display>(errors: &mut E, name: &str, what: &T) {
-    let _ = writeln!(errors, "filser: {name}: {what}");
+    let _ = writeln!(errors, "filser: {}: {what}", Escaped(name));
+}
+
+/// Tells people what the host has to do with a file. A call that comes to the end of an image comes there too early,
+/// since an image keeps its length.
+pub(crate) fn tell_fault<E: Write>(errors: &mut E, path: &str, fault: &HostFault) {
+    match fault {
+        HostFault::System(error) if error.kind() == ErrorKind::UnexpectedEof => report(
+            errors,
+            path,
+            &"the image has another length than at the start",
+        ),
+        _ => report(errors, path, fault),
+    }
+}
+
+/// Tells people what to do after a fault of a device, if there was one: a host may go on with what it couldn't write,
+/// and forget that it failed, so that a start reads what isn't on the disk.
+pub(crate) fn tell_stale_cache<E: Write>(errors: &mut E, path: &str, fault: &Option<HostFault>) {
+    if fault.is_some() {
+        report(
+            errors,
+            path,
+            &"after a device fault let the host drop its cache (restart it) before the next start",
+        );
+    }
+}
+
+/// Tells people that the program found no memory for itself.
+pub(crate) fn tell_no_memory<E: Write>(errors: &mut E) {
+    let _ = writeln!(errors, "filser: out of memory");
 }

@@ -9,13 +9,19 @@ ghost use Rattle.filser.specs.Hosts.{HostFacts};
 use crate::FileId;
 use blockdisk::Disk;
 use imagefile::{Durable, Form, HostFile, ImageDisk, ImageError, Supposition};
-use std::fs::{self, File, OpenOptions, TryLockError};
+use std::fs::{self, File, Metadata, OpenOptions, Permissions, TryLockError};
 use std::io::{self, ErrorKind, Write};
 use std::os::fd::{AsRawFd, RawFd};
-use std::os::unix::fs::MetadataExt;
+use std::os::unix::fs::{MetadataExt, OpenOptionsExt, PermissionsExt};
 use std::path::Path;
 use std::rt::Files;
 use words36::BLOCK_BYTES;
+
+/// The permission bits of a file that its owner alone may read and write.
+const OWNER_ALONE: u32 = 0o600;
+
+/// The bits of a mode that say who may read, write and run a file.
+const PERMISSION_BITS: u32 = 0o777;
 
 /// What the program may do with the files of the host: open one, make one where there is none, fill that with zeros,
 /// and find out which file a path leads to. It can't cut a file short or write to one, except through the disk that is
@@ -42,7 +48,8 @@ pub trait Host {
             × (unseen_in opened.1 ≡ unseen_in leave.supposed)) }
         ensures refused { IfErr result (λ error. (facts self.now).opened path.now (Err error)) };
 
-    /// Makes a file at a path where there is none, and gives back what is supposed of it and the right to remove it.
+    /// Makes a file at a path where there is none, and gives back what is supposed of it and the right to remove it. It
+    /// gets the permission bits of the file at `like`, if one is named, and until then its owner alone may open it.
     ///
     /// # Errors
     ///
@@ -50,6 +57,7 @@ pub trait Host {
     fn create(
         &self,
         path: &str,
+        like: Option<&str>,
         leave: MakingLeave,
     ) -> Result<(NewFile<Self::File>, Supposition), io::Error>
         ensures made { IfOk result (λ made. (facts self.now).created path.now (Ok made.0.file)
@@ -67,11 +75,11 @@ pub trait Host {
         requires { (facts self.now).created path.now (Ok file.now) }
         ensures { (facts self.now).filled file.now result };
 
-    /// Keeps a file for this process, until the process ends. It never waits.
+    /// Keeps a file for this process, until the process ends. It never waits, and tries an interrupted call again.
     ///
     /// # Errors
     ///
-    /// `WouldBlock` if another process has it.
+    /// `WouldBlock` if another process has it, or the system's.
     fn try_lock(&self, file: &Self::File) -> Result<(), TryLockError>
         ensures { (facts self.now).locked file.now result };
 
@@ -104,7 +112,7 @@ pub trait Host {
         ensures failed { IfErr result (λ refused. refused.0 ≡ Device
             → (⟦<HostFile as Durable>⟧.state refused.1).failures ≡ 1) };
 
-    /// Removes a file that was made at a path.
+    /// Removes the file that was made at a path. If something else has come to its place, that is left alone.
     ///
     /// # Errors
     ///
@@ -147,7 +155,8 @@ pub struct NewFile<F: Drop> {
 /// The right to remove a file that was made. Whoever has made one has it once.
 #[derive(Drop)]
 pub struct RemovalRight {
-    _once: (),
+    /// Which file that is, if the system could say it.
+    made: Option<FileId>,
 }
 
 /// The files of a system. Nothing is supposed of what it answers, so that each fact is only that it was asked; that the
@@ -207,6 +216,35 @@ fn open_as<F: Files<File = File>>(files: &F, path: &str, access: Access) -> io::
     }
 }
 
+/// Makes a file that has the permission bits of the one at `like`. Nobody else may open it before it has them, and if
+/// they can't be had or given, it stays so.
+///
+/// # Errors
+///
+/// The system's.
+fn create_like<F: Files<File = File>>(files: &F, path: &str, like: &str) -> io::Result<File> {
+    let file = OpenOptions::new()
+        .read(true)
+        .write(true)
+        .create_new(true)
+        .mode(OWNER_ALONE)
+        .open(files, path)?;
+    if let Ok(found) = fs::metadata(files, like) {
+        let permissions = Permissions::from_mode(found.mode() & PERMISSION_BITS);
+        let _ = file.set_permissions(permissions);
+    }
+    Ok(file)
+}
+
+/// By which numbers the system knows what was asked for, if it could be.
+fn file_id(asked: io::Result<Metadata>) -> Option<FileId> {
+    let found = asked.ok()?;
+    Some(FileId {
+        device: found.dev(),
+        inode: found.ino(),
+    })
+}
+
 /// Waits until the entry of a file in its folder is on the device.
 ///
 /// # Errors
@@ -250,10 +288,16 @@ impl<F: Files<File = File>> Host for SystemHost<'_, F> {
     fn create(
         &self,
         path: &str,
+        like: Option<&str>,
         leave: MakingLeave,
     ) -> Result<(NewFile<File>, Supposition), io::Error> {
-        let file = File::create_new(self.files, path)?;
-        let right = RemovalRight { _once: () };
+        let file = match like {
+            Some(like) => create_like(self.files, path, like)?,
+            None => File::create_new(self.files, path)?,
+        };
+        let right = RemovalRight {
+            made: file_id(file.metadata()),
+        };
         Ok((NewFile { file, right }, leave.supposed))
     }
 
@@ -271,11 +315,7 @@ impl<F: Files<File = File>> Host for SystemHost<'_, F> {
     }
 
     fn identity(&self, path: &str) -> Option<FileId> {
-        let found = fs::metadata(self.files, path).ok()?;
-        Some(FileId {
-            device: found.dev(),
-            inode: found.ino(),
-        })
+        file_id(fs::metadata(self.files, path))
     }
 
     fn disk_of(
@@ -287,7 +327,13 @@ impl<F: Files<File = File>> Host for SystemHost<'_, F> {
         ImageDisk::open_file(file, supposed, form)
     }
 
-    fn remove(&self, path: &str, _right: RemovalRight) -> io::Result<()> {
-        fs::remove_file(self.files, path)
+    fn remove(&self, path: &str, right: RemovalRight) -> io::Result<()> {
+        // A link that somebody has put there leads elsewhere, so it isn't followed.
+        let found = file_id(fs::symlink_metadata(self.files, path));
+        if found.is_some() && found == right.made {
+            fs::remove_file(self.files, path)
+        } else {
+            Ok(())
+        }
     }
 }

@@ -1,18 +1,17 @@
 ghost use Rattle.std.specs.Prelude.{◌≡◌, Ok, Err, IfOk, IfErr, OnOk, option_map, pos, ◌<ℤ◌};
-ghost use Rattle.std.specs.declared.fs.TryLockError.TheVariants.{WouldBlock};
 ghost use Rattle.blockdisk.specs.Disk.{SameDisk};
 ghost use Rattle.imagefile.specs.Began.{BeganAs};
 ghost use Rattle.imagefile.specs.HostFile.{failure_of as reason_of};
 ghost use Rattle.imagefile.specs.Supposition.{unseen_in};
 ghost use Rattle.imagefile.specs.Unseen.{Unseen};
 ghost use Rattle.imagefile.specs.declared.form.Form.{Form as Forms};
-ghost use Rattle.filser.specs.Denials.{IsNoImage, IsUnfilled, IsUnfit, IsUnmade, IsUnopened, of_host};
+ghost use Rattle.filser.specs.Denials.{IsNoImage, IsUnfilled, IsUnfit, IsUnlocked, IsUnmade, IsUnopened, of_host};
 ghost use Rattle.filser.specs.Hosts.{IsKept, IsOpened, IsOwn};
 ghost use Rattle.filser.specs.Images.{HasNoDisk, IsDenied, IsEmptyVolume, IsNewDisk, IsNoNewDisk, IsNotMade};
 ghost use Rattle.filser.specs.declared.disks.Disks.TheVariants as disks;
-ghost use Rattle.filser.specs.declared.fault.HostFault.TheVariants.{InUse, System, Memory as OutOfMemory};
+ghost use Rattle.filser.specs.declared.fault.HostFault.TheVariants.{System, Memory as OutOfMemory};
 
-use crate::fault::report;
+use crate::fault::{tell_fault, tell_stale_cache};
 use crate::streams::{is_stream, stream_of};
 use crate::{
     Access, Disks, Host, HostFault, Image, ImageDisks, ImageFault, MakingLeave, NewDisks, NewFile,
@@ -56,40 +55,28 @@ pub(crate) fn failure_of(file: &HostFile) -> Option<HostFault>
     file.failure().map(HostFault::System)
 }
 
-/// Tells people why the file of an image failed, where it did. The image is only looked at.
+/// Tells people why the file of an image failed, if it did, and what to do then.
 pub(crate) fn tell_failure<E: Write>(errors: &mut E, path: &str, image: &Image) {
-    if let Some(fault) = failure_of(image.inner().file()) {
-        report(errors, path, &fault);
+    let fault = failure_of(image.inner().file());
+    if let Some(fault) = &fault {
+        tell_fault(errors, path, fault);
     }
+    tell_stale_cache(errors, path, &fault);
 }
 
-/// Takes the file of an image for this process alone, until the process ends. It never waits. A file system without
-/// locks can't keep others away, and people are told so.
+/// Takes the file of an image for this process alone, until the process ends. It never waits.
 ///
 /// # Errors
 ///
-/// `InUse` where another process has it.
-fn claim<H: Host, E: Write>(
-    host: &H,
-    file: &H::File,
-    path: &str,
-    errors: &mut E,
-) -> Result<(), ImageFault>
+/// `InUse` where another process has it, `System` where no lock can be had, as on a file system without locks.
+fn claim<H: Host>(host: &H, file: &H::File) -> Result<(), ImageFault>
     ensures kept { OnOk result (IsKept (H.facts host.now) file.now) }
-    ensures refused { IfErr result (λ fault. (H.facts host.now).locked file.now (Err WouldBlock)
-        × (fault ≡ of_host InUse)) }
+    ensures refused { IfErr result (IsUnlocked (H.facts host.now) file.now) }
 {
     match host.try_lock(file) {
         Ok(()) => Ok(()),
         Err(TryLockError::WouldBlock) => Err(ImageFault::from(HostFault::InUse)),
-        Err(TryLockError::Error(error)) => {
-            report(
-                errors,
-                path,
-                &format_args!("nothing keeps another process away: {error}"),
-            );
-            Ok(())
-        }
+        Err(TryLockError::Error(error)) => Err(ImageFault::from(HostFault::System(error))),
     }
 }
 
@@ -98,13 +85,8 @@ fn claim<H: Host, E: Write>(
 ///
 /// # Errors
 ///
-/// `Input`, `Output` or `Errors`, by the number; `InUse` where another process has the file.
-fn own<H: Host, E: Write>(
-    host: &H,
-    file: H::File,
-    path: &str,
-    errors: &mut E,
-) -> Result<H::File, ImageFault>
+/// `Input`, `Output` or `Errors`, by the number; as of `claim`.
+fn own<H: Host>(host: &H, file: H::File) -> Result<H::File, ImageFault>
     ensures own { IfOk result (λ kept. (kept ≡ file) × IsOwn (H.facts host.now) kept) }
     ensures refused { IfErr result (IsUnfit (H.facts host.now) file) }
 {
@@ -112,7 +94,7 @@ fn own<H: Host, E: Write>(
     if is_stream(number) {
         return Err(ImageFault::from(stream_of(number)));
     }
-    claim(host, &file, path, errors)?;
+    claim(host, &file)?;
     Ok(file)
 }
 
@@ -120,20 +102,20 @@ fn own<H: Host, E: Write>(
 ///
 /// # Errors
 ///
-/// `InUse` where another process has it, `System` where the file can't be opened, or the stream whose number it has.
-fn open_file<H: Host, E: Write>(
+/// `InUse` where another process has it, `System` where the file can't be opened or locked, or the stream whose number
+/// it has.
+fn open_file<H: Host>(
     host: &H,
     path: &str,
     access: Access,
     leave: OpeningLeave,
-    errors: &mut E,
 ) -> Result<(H::File, Supposition), ImageFault>
     ensures opened { IfOk result (λ opened. (H.facts host.now).opened path.now (Ok opened.0)
         × IsOwn (H.facts host.now) opened.0 × (unseen_in opened.1 ≡ unseen_in leave.supposed)) }
     ensures refused { IfErr result (IsUnopened (H.facts host.now) path.now) }
 {
     match host.open(path, access, leave) {
-        Ok((file, supposed)) => Ok((own(host, file, path, errors)?, supposed)),
+        Ok((file, supposed)) => Ok((own(host, file)?, supposed)),
         Err(error) => Err(ImageFault::from(HostFault::System(error))),
     }
 }
@@ -181,13 +163,12 @@ fn disk_in<H: Host>(
 /// # Errors
 ///
 /// As of `open_file` and `disk_in`.
-pub(crate) fn open_disk<H: Host, E: Write>(
+pub(crate) fn open_disk<H: Host>(
     host: &H,
     path: &str,
     form: Form,
     access: Access,
     leave: OpeningLeave,
-    errors: &mut E,
 ) -> Result<ImageDisk<HostFile>, Denied>
     ensures opened { IfOk result (λ disk. IsOpened (H.facts host.now) path.now (unseen_in leave.supposed)) }
     ensures began { IfOk result
@@ -197,7 +178,7 @@ pub(crate) fn open_disk<H: Host, E: Write>(
         (unseen_in leave.supposed) denied.0 denied.1) }
     ensures undone { IfErr result (λ denied. HasNoDisk denied.1) }
 {
-    let (file, supposed) = match open_file(host, path, access, leave, errors) {
+    let (file, supposed) = match open_file(host, path, access, leave) {
         Ok(opened) => opened,
         Err(fault) => return Err((fault, Disks::None)),
     };
@@ -233,14 +214,13 @@ fn keep_blocks(alloc: Global, disk: ImageDisk<HostFile>) -> Result<Image, Denied
 /// # Errors
 ///
 /// As of `open_disk`; `Memory` where that room isn't found.
-pub(crate) fn open_image<H: Host, E: Write>(
+pub(crate) fn open_image<H: Host>(
     host: &H,
     alloc: Global,
     path: &str,
     form: Form,
     access: Access,
     leave: OpeningLeave,
-    errors: &mut E,
 ) -> Result<Image, Denied>
     ensures opened { IfOk result (λ image. IsOpened (H.facts host.now) path.now (unseen_in leave.supposed)) }
     ensures began { IfOk result
@@ -249,11 +229,12 @@ pub(crate) fn open_image<H: Host, E: Write>(
     ensures denied { IfErr result (λ denied. IsDenied (H.facts host.now) (⟦<Run as Seen>⟧.views) path.now form
         (unseen_in leave.supposed) denied.0 denied.1) }
 {
-    let disk = open_disk(host, path, form, access, leave, errors)?;
+    let disk = open_disk(host, path, form, access, leave)?;
     keep_blocks(alloc, disk)
 }
 
-/// A new file, where there was none, and the right to remove it.
+/// A new file, where there was none, and the right to remove it. It gets the permission bits of the file at `like`, if
+/// one is named, and else those of any new file.
 ///
 /// # Errors
 ///
@@ -261,13 +242,14 @@ pub(crate) fn open_image<H: Host, E: Write>(
 pub(crate) fn new_file<H: Host>(
     host: &H,
     path: &str,
+    like: Option<&str>,
     leave: MakingLeave,
 ) -> Result<(NewFile<H::File>, Supposition), ImageFault>
     ensures made { IfOk result (λ made. (H.facts host.now).created path.now (Ok made.0.file)
         × (unseen_in made.1 ≡ unseen_in leave.supposed)) }
     ensures refused { IfErr result (IsUnmade (H.facts host.now) path.now) }
 {
-    match host.create(path, leave) {
+    match host.create(path, like, leave) {
         Ok(made) => Ok(made),
         Err(error) if error.kind() == ErrorKind::AlreadyExists => Err(ImageFault {
             refusal: Refusal::Exists,
@@ -281,21 +263,20 @@ pub(crate) fn new_file<H: Host>(
 ///
 /// # Errors
 ///
-/// The system's where it can't be filled, or another process has it.
-fn filled<H: Host, E: Write>(
+/// The system's where it can't be locked or filled, or another process has it.
+fn filled<H: Host>(
     host: &H,
     file: H::File,
     path: &str,
     form: Form,
     blocks: u32,
-    errors: &mut E,
 ) -> Result<H::File, ImageFault>
     requires { (H.facts host.now).created path.now (Ok file) }
     ensures filled { IfOk result (λ kept. (kept ≡ file) × IsOwn (H.facts host.now) kept
         × (H.facts host.now).filled kept (Ok tt)) }
     ensures refused { IfErr result (λ fault. IsUnfilled (H.facts host.now) path.now fault) }
 {
-    let file = own(host, file, path, errors)?;
+    let file = own(host, file)?;
     match host.fill(path, &file, form, blocks) {
         Ok(()) => Ok(file),
         Err(error) => Err(ImageFault::from(HostFault::System(error))),
@@ -329,14 +310,13 @@ fn as_long(disk: ImageDisk<HostFile>, blocks: u32) -> Result<ImageDisk<HostFile>
 /// # Errors
 ///
 /// `Device` where the file can't be written, or another process has it.
-pub(crate) fn zeros_in<H: Host, E: Write>(
+pub(crate) fn zeros_in<H: Host>(
     host: &H,
     file: H::File,
     path: &str,
     form: Form,
     blocks: u32,
     supposed: Supposition,
-    errors: &mut E,
 ) -> Result<ImageDisk<HostFile>, NotMade>
     requires { (H.facts host.now).created path.now (Ok file) }
     ensures made { IfOk result (λ disk. IsNewDisk (H.facts host.now) (⟦<Run as Seen>⟧.views) path.now form
@@ -347,7 +327,7 @@ pub(crate) fn zeros_in<H: Host, E: Write>(
     ensures denied { IfErr result (λ denied. IsNotMade (H.facts host.now) (⟦<Run as Seen>⟧.views) path.now form
         blocks (unseen_in supposed) denied.0 denied.1) }
 {
-    let file = match filled(host, file, path, form, blocks, errors) {
+    let file = match filled(host, file, path, form, blocks) {
         Ok(file) => file,
         Err(fault) => return Err((fault, Disks::None)),
     };
@@ -393,13 +373,12 @@ fn volume_on(
 /// # Errors
 ///
 /// `Device` where the file can't be written, or another process has it.
-fn volume_in<H: Host, E: Write>(
+fn volume_in<H: Host>(
     host: &H,
     file: H::File,
     path: &str,
     volume: &NewVolume,
     supposed: Supposition,
-    errors: &mut E,
 ) -> Result<ImageDisk<HostFile>, NotMade>
     requires { (H.facts host.now).created path.now (Ok file) }
     ensures made { IfOk result (λ disk. IsNewDisk (H.facts host.now) (⟦<Run as Seen>⟧.views) path.now
@@ -408,15 +387,7 @@ fn volume_in<H: Host, E: Write>(
     ensures denied { IfErr result (λ denied. IsNotMade (H.facts host.now) (⟦<Run as Seen>⟧.views) path.now
         volume.now.form volume.now.blocks (unseen_in supposed) denied.0 denied.1) }
 {
-    let disk = zeros_in(
-        host,
-        file,
-        path,
-        volume.form,
-        volume.blocks,
-        supposed,
-        errors,
-    )?;
+    let disk = zeros_in(host, file, path, volume.form, volume.blocks, supposed)?;
     volume_on(disk, volume.blocks, volume.layout)
 }
 
@@ -427,12 +398,11 @@ fn volume_in<H: Host, E: Write>(
 ///
 /// `Exists` where something has that name; it is left alone. `Device` where the file can't be made or written; it is
 /// removed then.
-pub(crate) fn make_image<H: Host, E: Write>(
+pub(crate) fn make_image<H: Host>(
     host: &H,
     path: &str,
     volume: &NewVolume,
     leave: MakingLeave,
-    errors: &mut E,
 ) -> Result<(ImageDisk<HostFile>, RemovalRight), NotMade>
     ensures made { IfOk result (λ made. IsNewDisk (H.facts host.now) (⟦<Run as Seen>⟧.views) path.now
         volume.now.form volume.now.blocks (unseen_in leave.supposed) made.0) }
@@ -441,11 +411,11 @@ pub(crate) fn make_image<H: Host, E: Write>(
     ensures denied { IfErr result (λ denied. IsNotMade (H.facts host.now) (⟦<Run as Seen>⟧.views) path.now
         volume.now.form volume.now.blocks (unseen_in leave.supposed) denied.0 denied.1) }
 {
-    let (made, supposed) = match new_file(host, path, leave) {
+    let (made, supposed) = match new_file(host, path, None, leave) {
         Ok(made) => made,
         Err(fault) => return Err((fault, Disks::None)),
     };
-    match volume_in(host, made.file, path, volume, supposed, errors) {
+    match volume_in(host, made.file, path, volume, supposed) {
         Ok(disk) => Ok((disk, made.right)),
         Err(denied) => {
             let _ = host.remove(path, made.right);

@@ -10,12 +10,13 @@
 //!    status of such a run is the definition's. (`specs/Refusals.antt`)
 //! 5. `work` is a whole run: it ends, takes nothing but what it is handed, and answers a status from 0 to 4. `main`
 //!    holds the numbers of the standard streams that are missing, asks whether the standard error is a terminal, hands
-//!    `work` the streams and the host's files, drops what is left of the images, and does nothing else.
+//!    `work` the streams and the host's files, drops what is left of the images, and does nothing else, except that it
+//!    tells why there are no arguments or no numbers.
 //! 6. Files are reached through `Host` alone: generic code can't truncate one, write to one except through its disk, or
 //!    remove one that it didn't make. What was asked of the host can be shown only by asking. (`HostFacts`) A run can
 //!    open one file and make one, and hands back the leave that it didn't use. (`Leaves`)
-//! 7. The file of an image was opened at its path, has the number of no standard stream, and is locked if the system
-//!    has locks for it. (`IsOpened`) The disk that is served is that file's from before its first call. (`IsOnImage`)
+//! 7. The file of an image was opened at its path, has the number of no standard stream, and is locked.
+//!    (`IsOpened`) The disk that is served is that file's from before its first call. (`IsOnImage`)
 //! 8. Every task on an image is done by one function, `serve`: it starts a service on the disk, or says why there is
 //!    none, and hands the disk back. (`IsTaskRun`) A new image has the layout that was asked for. (`IsEmptyVolume`)
 //!    A migration writes the home copies alone, and its line is printed only if the volume has layout 2.
@@ -23,6 +24,7 @@
 //! 9. A refusal has its cause (`IsDenied`, `IsNotMade`), and its line is printed whole, or a beginning of it if the
 //!    writer fails. (`IsExplained`, `IsLine`)
 //! 10. A run hands back the images that it worked on, so that its contract says what became of them. (`WasRun`)
+//! 11. Words that ask for nothing print nothing into a file that one of them names. (`SparesNamed`)
 //!
 //! What an image stands for, and what a line does, is not known here.
 #![tactic(auto)]
@@ -31,6 +33,7 @@ mod asked;
 mod convert;
 mod disks;
 mod error;
+mod escaped;
 mod fault;
 mod host;
 mod identity;
@@ -39,6 +42,7 @@ mod lines;
 mod message;
 mod migrating;
 mod outcome;
+mod output;
 mod program;
 mod progress;
 mod reading;
@@ -46,6 +50,7 @@ mod reasons;
 mod refusal;
 mod seen;
 mod serving;
+mod sparing;
 mod status;
 mod streams;
 mod task;
@@ -53,49 +58,90 @@ mod task;
 pub use asked::Request;
 pub use disks::Disks;
 pub use error::{RequestError, WrongArgument};
+pub use escaped::Escaped;
 pub use fault::{HostFault, ImageFault};
 pub use host::{Access, Host, MakingLeave, NewFile, OpeningLeave, RemovalRight, SystemHost};
 pub use identity::FileId;
 pub use lines::LineReader;
 pub use message::Message;
 pub use outcome::{Leaves, Run};
+pub use output::{OutputFault, OutputWriter};
 pub use program::work;
 pub use progress::Telling;
 pub use reading::request;
 pub use refusal::Refusal;
 pub use seen::{Image, ImageDisks, NewDisks, Seen};
 pub use status::Status;
-use std::env;
+use std::env::{self, FillError};
+use std::fmt::Display;
 use std::io::{self, ErrorKind, IsTerminal};
 use std::process::ExitCode;
+use std::rt::Env;
 pub use streams::MissingStreams;
+use streams::is_at_errors;
 pub use task::{NamedFile, Task};
 
-/// Runs the program on its arguments and the standard streams.
+/// How many bytes the path of a file has at most, with its end.
+const PATH_BYTES: usize = 4096;
+
+/// Runs the program on its arguments and the standard streams, whose numbers are held before anything else is opened.
 fn main(rt: HostRuntime) -> ExitCode {
-    match run(&rt) {
-        Ok(code) => ExitCode::from(code),
-        Err(error) if error.kind() == ErrorKind::OutOfMemory => ExitCode::from(
-            Status::Fault.code(),
-        ),
-        Err(_) => {
-            let _ = eprintln!(rt; "?Bad argument\nfilser: an argument isn't UTF-8");
-            ExitCode::from(Status::BadArguments.code())
+    let code = match MissingStreams::hold(&rt) {
+        Ok(missing) => match run(&rt, &missing) {
+            Ok(code) => code,
+            Err(error) => tell_unread(&rt, &error),
+        },
+        Err(error) => {
+            tell(&rt, &format_args!("filser: /: {error}"));
+            Status::Fault.code()
         }
+    };
+    ExitCode::from(code)
+}
+
+/// Tells people why the arguments couldn't be had, and answers the status of a run without any.
+fn tell_unread(rt: &HostRuntime, error: &io::Error) -> u8 {
+    if error.kind() == ErrorKind::OutOfMemory {
+        tell(rt, &"filser: out of memory");
+        Status::Fault.code()
+    } else {
+        tell(rt, &"?Bad argument\nfilser: an argument isn't UTF-8");
+        Status::BadArguments.code()
     }
 }
 
+/// Tells people why there is no run, unless that would land in a file that an argument names.
+fn tell<T: Display>(rt: &HostRuntime, what: &T) {
+    if !leads_to_argument(rt) {
+        let _ = eprintln!(rt; "{what}");
+    }
+}
+
+/// Whether the standard error leads to a file that an argument names. The arguments are read one by one, into a buffer
+/// that has room for any path, since there may be no memory for them.
+fn leads_to_argument(rt: &HostRuntime) -> bool {
+    let (host, _, _) = SystemHost::new(rt);
+    let mut bytes = [0; PATH_BYTES];
+    for place in 1..usize::MAX {
+        match rt.arg(place, &mut bytes) {
+            Ok(count) if names_errors(&host, &bytes[..count]) => return true,
+            Ok(_) | Err(FillError::TooLong) => {}
+            Err(FillError::NotPresent) => return false,
+        }
+    }
+    false
+}
+
+/// Whether the standard error leads to the file that an argument of these bytes names. One that isn't text names none.
+fn names_errors<H: Host>(host: &H, argument: &[u8]) -> bool {
+    str::from_utf8(argument).is_ok_and(|path| is_at_errors(host, path))
+}
+
 /// The status of a run, or why there are no arguments: one isn't text, or memory ran out.
-///
-/// The numbers of the standard streams are held before anything else is opened.
-fn run(rt: &HostRuntime) -> io::Result<u8> {
-    let Ok(missing) = MissingStreams::hold(rt) else {
-        return Ok(Status::Fault.code());
-    };
+fn run(rt: &HostRuntime, missing: &MissingStreams) -> io::Result<u8> {
     let alloc = rt.alloc();
     let words: Vec<String> = env::args(rt)?.collect(alloc)?;
     let texts: Vec<&str> = words.iter().map(|word| word.as_str()).collect(alloc)?;
-    let mut output = rt.stdout();
     let mut errors = rt.stderr();
     let telling = if errors.is_terminal() {
         Telling::Progress
@@ -107,11 +153,11 @@ fn run(rt: &HostRuntime) -> io::Result<u8> {
         &host,
         alloc,
         texts.as_slice(),
-        &missing,
+        missing,
         telling,
         Leaves { image, new },
         &mut LineReader::new(rt.reader()),
-        &mut output,
+        &mut OutputWriter::new(rt.stdout()),
         &mut errors,
     );
     Ok(run.code)

@@ -52,7 +52,7 @@ pub(crate) fn migrate_image<H: Host, W: Write, E: Write>(
     ensures ran { IsOnMigrated (H.facts host.now) (⟦<Run as Seen>⟧.views) path.now form (unseen_in leave.supposed)
         (W.contents writer.old) (W.contents writer.new) result.1 result.0 }
 {
-    match open_image(host, alloc, path, form, Access::Write, leave, errors) {
+    match open_image(host, alloc, path, form, Access::Write, leave) {
         Ok(image) => {
             let mut image = image;
             let status = migrate(alloc, &mut image, writer);

@@ -1,5 +1,5 @@
 ghost use Rattle.std.specs.Prelude.{◌≡◌, ◌≢◌, ◌⊎◌, ◌≤◌, ℕ, List, [], map, true, Option, None, Some, IfSome};
-ghost use Rattle.std.specs.Prelude.{MatchOption, MatchResult};
+ghost use Rattle.std.specs.Prelude.{MatchOption, MatchResult, IsFalse, drop};
 ghost use Rattle.std.specs.Io.KnownBytes.{Keeps};
 ghost use Rattle.clap.specs.Words.{fault_of, kind_of, subcommand_of};
 ghost use Rattle.clap.specs.declared.error.Error.{Error as Errors};
@@ -21,16 +21,19 @@ ghost use Rattle.filser.specs.declared.status.Status.{Status as Statuses};
 ghost use Rattle.filser.specs.declared.status.Status.TheVariants.{Done, BadArguments, Fault};
 
 use crate::convert::{Conversion, convert_image};
-use crate::fault::report;
+use crate::escaped::EscapedLines;
+use crate::fault::{report, tell_fault, tell_no_memory};
 use crate::image::{NewVolume, make_image};
 use crate::lines::LineReader;
 use crate::migrating::migrate_image;
 use crate::outcome::Outcome;
+use crate::output::OutputWriter;
 use crate::serving::{say, serve_fresh, serve_image};
-use crate::streams::stream_at;
+use crate::sparing::FreeStreams;
+use crate::streams::{is_at_errors, stream_at};
 use crate::{
     Disks, Host, HostFault, ImageDisks, ImageFault, Leaves, MakingLeave, MissingStreams, NewDisks,
-    OpeningLeave, Request, RequestError, Run, Seen, Status, Telling, request,
+    OpeningLeave, Request, RequestError, Run, Seen, Status, Telling, WrongArgument, request,
 };
 use blockdisk::MemDisk;
 use clap::Error;
@@ -53,7 +56,7 @@ pub fn work<H: Host, R: Read, W: Write, E: Write>(
     telling: Telling,
     leaves: Leaves,
     reader: &mut LineReader<R>,
-    writer: &mut W,
+    writer: &mut OutputWriter<W>,
     errors: &mut E,
 ) -> Run
     ensures few { result.code ≤ 4 }
@@ -66,7 +69,7 @@ pub fn work<H: Host, R: Read, W: Write, E: Write>(
     // What was done with the images, what was printed, and the status of that, unless the end of the text can't be
     // written.
     ensures ran { (status : Statuses) × (full : Option (List ℕ))
-        × ((result.code ≡ status_code status) ⊎ (result.code ≡ 4)) × Keeps full (W.contents writer.new)
+        × ((result.code ≡ status_code status) ⊎ (result.code ≡ 4)) × Keeps full (W.contents writer.new.writer)
         × WasRun (H.facts host.now) (⟦<Run as Seen>⟧.views) missing.now (record {
           opening = leaves.image;
           making = leaves.new;
@@ -76,24 +79,45 @@ pub fn work<H: Host, R: Read, W: Write, E: Write>(
           new = result.new;
           memory = result.memory;
         }) (fault_of command_line (map (λ w. w.now) words.now))
-        (subcommand_of command_line (map (λ w. w.now) words.now)) (R.remaining reader.old.reader)
-        (R.remaining reader.new.reader) (W.contents writer.old) full status }
+        (subcommand_of command_line (map (λ w. w.now) words.now)) (drop 1 (map (λ w. w.now) words.now))
+        (R.remaining reader.old.reader)
+        (R.remaining reader.new.reader) (W.contents writer.old.writer) full status }
 {
     let outcome = answer(
         host, alloc, words, missing, telling, leaves, reader, writer, errors,
     );
-    if let Some((line, fault)) = reader.fault() {
+    let flushed = writer.flush();
+    tell_streams(host, words, reader, writer, errors);
+    Run {
+        code: exit_code(outcome.status, flushed),
+        image: outcome.image,
+        new: outcome.new,
+        memory: outcome.memory,
+    }
+}
+
+/// Tells people why the input broke off, and why the output failed, if they did, unless that would land in a file that
+/// the words name.
+fn tell_streams<H: Host, R: Read, W: Write, E: Write>(
+    host: &H,
+    words: &[&str],
+    reader: &LineReader<R>,
+    writer: &OutputWriter<W>,
+    errors: &mut E,
+) {
+    let (broken, failed) = (reader.fault(), writer.fault());
+    if broken.is_none() && failed.is_none() || !FreeStreams::of_words(host, words).errors {
+        return;
+    }
+    if let Some((line, fault)) = broken {
         report(
             errors,
             "standard input",
             &format_args!("line {line}: {fault}"),
         );
     }
-    Run {
-        code: exit_code(outcome.status, writer.flush()),
-        image: outcome.image,
-        new: outcome.new,
-        memory: outcome.memory,
+    if let Some(fault) = failed {
+        report(errors, "standard output", &fault);
     }
 }
 
@@ -151,14 +175,18 @@ fn answer<H: Host, R: Read, W: Write, E: Write>(
       new = result.new;
       memory = result.memory;
     }) (fault_of command_line (map (λ w. w.now) words.now))
-        (subcommand_of command_line (map (λ w. w.now) words.now)) (R.remaining reader.old) (R.remaining reader.new)
+        (subcommand_of command_line (map (λ w. w.now) words.now)) (drop 1 (map (λ w. w.now) words.now))
+        (R.remaining reader.old) (R.remaining reader.new)
         (W.contents writer.old) (W.contents writer.new) result.status }
 {
     match request(alloc, words) {
         Ok(asked) => start(
             host, alloc, &asked, missing, telling, leaves, reader, writer, errors,
         ),
-        Err(error) => without_disks(refuse(&error, writer, errors), leaves),
+        Err(error) => {
+            let free = FreeStreams::of_words(host, words);
+            without_disks(refuse(&error, free, writer, errors), leaves)
+        }
     }
 }
 
@@ -192,10 +220,21 @@ fn start<H: Host, R: Read, W: Write, E: Write>(
         return without_disks(refuse_image(fault, path, writer, errors), leaves);
     }
     if missing.are_needed() {
-        report(errors, "standard input or output", &"it is closed");
+        tell_closed(host, asked, errors);
         return without_disks(Status::Fault, leaves);
     }
     perform(host, alloc, asked, telling, leaves, reader, writer, errors)
+}
+
+/// Tells people that there is nothing to read or to print to, unless that would land in the file that has the name of a
+/// new image.
+fn tell_closed<H: Host, E: Write>(host: &H, asked: &Request<'_>, errors: &mut E) {
+    if let Request::Convert(_, new, _) = asked
+        && is_at_errors(host, new)
+    {
+        return;
+    }
+    report(errors, "standard input or output", &"it is closed");
 }
 
 /// The path of the image that is named, and the standard stream that leads to it, where one does.
@@ -328,7 +367,7 @@ fn init_image<H: Host, W: Write, E: Write>(
     ensures ran { IsOnNew (H.facts host.now) (⟦<Run as Seen>⟧.views) path.now volume.now.form volume.now.blocks
         volume.now.layout (unseen_in leave.supposed) (W.contents writer.old) (W.contents writer.new) result.1 result.0 }
 {
-    match make_image(host, path, volume, leave, errors) {
+    match make_image(host, path, volume, leave) {
         Ok((disk, right)) => (Status::Done, Disks::Made(disk, right)),
         Err((fault, disks)) => (refuse_image(fault, path, writer, errors), disks),
     }
@@ -351,7 +390,7 @@ pub(crate) fn refuse_image<W: Write, E: Write>(
         return say(writer, fault.refusal);
     };
     if !host.forbids_errors() {
-        report(errors, path, &host);
+        tell_fault(errors, path, &host);
     }
     if host.forbids_output() {
         return fault.refusal.status();
@@ -359,36 +398,67 @@ pub(crate) fn refuse_image<W: Write, E: Write>(
     say(writer, fault.refusal)
 }
 
-/// Says why the words ask for nothing that is done.
-fn refuse<W: Write, E: Write>(error: &RequestError<'_>, writer: &mut W, errors: &mut E) -> Status
+/// Says why the words ask for nothing that is done, on the streams that are free.
+fn refuse<W: Write, E: Write>(
+    error: &RequestError<'_>,
+    free: FreeStreams,
+    writer: &mut W,
+    errors: &mut E,
+) -> Status
     ensures ends { EndsUnasked error.now result }
     ensures unprinted { ((wrong : Option WrongArguments) × (error.now ≡ BadArgument wrong)) ⊎ (error.now ≡ NoMemory)
         → W.contents writer.new ≡ W.contents writer.old }
     ensures mistake { (usage : Errors) → error.now ≡ Usage usage → (AsksForHelp (kind_of usage) → ⊥)
         → W.contents writer.new ≡ W.contents writer.old }
+    ensures spared { IsFalse free.output → W.contents writer.new ≡ W.contents writer.old }
+    ensures untold { IsFalse free.errors → E.contents errors.new ≡ E.contents errors.old }
 {
     match error {
-        RequestError::Usage(usage) => show(usage, writer, errors),
+        RequestError::Usage(usage) => show(usage, free, writer, errors),
         RequestError::BadArgument(wrong) => {
-            let _ = writeln!(errors, "?Bad argument");
-            if let Some(wrong) = wrong {
-                let _ = writeln!(errors, "filser: {wrong}");
+            if free.errors {
+                tell_wrong(*wrong, errors);
             }
             Status::BadArguments
         }
-        RequestError::NoMemory => Status::Fault,
+        RequestError::NoMemory => {
+            if free.errors {
+                tell_no_memory(errors);
+            }
+            Status::Fault
+        }
+    }
+}
+
+/// Tells people which argument isn't what it should be.
+fn tell_wrong<E: Write>(wrong: Option<WrongArgument<'_>>, errors: &mut E) {
+    let _ = writeln!(errors, "?Bad argument");
+    if let Some(wrong) = wrong {
+        let _ = writeln!(errors, "filser: {wrong}");
     }
 }
 
 /// Shows the text of `clap`: help and the version are what was asked for, and all else is a mistake.
-fn show<W: Write, E: Write>(usage: &Error, writer: &mut W, errors: &mut E) -> Status
+fn show<W: Write, E: Write>(
+    usage: &Error,
+    free: FreeStreams,
+    writer: &mut W,
+    errors: &mut E,
+) -> Status
     ensures shown { AsksForHelp (kind_of usage.now) → (result ≡ Done) ⊎ (result ≡ Fault) }
     ensures mistake { (AsksForHelp (kind_of usage.now) → ⊥) → (result ≡ BadArguments)
         × (W.contents writer.new ≡ W.contents writer.old) }
+    ensures spared { IsFalse free.output → W.contents writer.new ≡ W.contents writer.old }
+    ensures untold { IsFalse free.errors → E.contents errors.new ≡ E.contents errors.old }
 {
     if usage.use_stderr() {
-        let _ = write!(errors, "{usage}");
+        if free.errors {
+            let _ = write!(errors, "{}", EscapedLines(usage));
+        }
         return Status::BadArguments;
+    }
+    if !free.output {
+        return Status::Done;
     }
     match write!(writer, "{usage}") {
         Ok(()) => Status::Done,

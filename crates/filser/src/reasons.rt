@@ -1,4 +1,4 @@
-use crate::fault::report;
+use crate::fault::{report, tell_no_memory};
 use crate::{Status, Task};
 use commands::{Misfit, Reason, RefusedLines, SessionError, Tally};
 use std::io::Write;
@@ -23,19 +23,23 @@ pub(crate) fn tell_late_date<E: Write>(errors: &mut E, task: &Task, layout: Layo
     }
 }
 
-/// Tells people why a run was refused, if it was and nothing worse happened.
-pub(crate) fn tell_refusal<E: Write>(
+/// Tells people why a run was refused, if it was and nothing worse happened, or that it broke off for want of memory.
+pub(crate) fn tell_ending<E: Write>(
     errors: &mut E,
     status: Status,
     talked: &Result<Tally, SessionError>,
 ) {
-    let Ok(tally) = talked else {
-        return;
-    };
-    if status != Status::Refused {
-        return;
+    match talked {
+        Ok(tally) if status == Status::Refused => tell_refusal(errors, tally.reason),
+        Err(SessionError::NoMemory) => tell_no_memory(errors),
+        // The file of an image tells its own fault, and a run that of a stream at its end.
+        Ok(_) | Err(SessionError::Read | SessionError::Write) => {}
     }
-    match tally.reason {
+}
+
+/// Tells people why lines or an input were refused.
+fn tell_refusal<E: Write>(errors: &mut E, reason: Option<Reason>) {
+    match reason {
         Some(Reason::Lines(lines)) => tell_lines(errors, lines),
         Some(Reason::Input(misfit)) => tell_misfit(errors, misfit),
         None => {}

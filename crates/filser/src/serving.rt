@@ -8,10 +8,11 @@ ghost use Rattle.filser.specs.Statuses.{status_code};
 ghost use Rattle.filser.specs.Tasks.{Attends, IsFirstMoment};
 ghost use Rattle.filser.specs.declared.status.Status.TheVariants.{BadArguments};
 
+use crate::fault::tell_no_memory;
 use crate::image::{open_image, tell_failure};
 use crate::message::print_line;
 use crate::program::refuse_image;
-use crate::reasons::{tell_late_date, tell_refusal};
+use crate::reasons::{tell_ending, tell_late_date};
 use crate::{Disks, Host, ImageDisks, OpeningLeave, Refusal, Run, Seen, Status, Task};
 use blockdisk::{Disk, MemDisk};
 use commands::{Monitor, SessionError, Tally, Volume, check, get, list, put, script, session};
@@ -128,7 +129,7 @@ fn serve<D: Disk + Drop, R: Read, W: Write, E: Write>(
             tell_late_date(errors, &task, monitor.layout());
             let attended = attend(alloc, task, reader, writer, &mut monitor);
             let status = ending(attended);
-            tell_refusal(errors, status, &attended);
+            tell_ending(errors, status, &attended);
             (status, monitor.finish())
         }
         Err((error, disk)) => (say(writer, Refusal::Start(error)), disk),
@@ -154,7 +155,7 @@ pub(crate) fn serve_image<H: Host, R: Read, W: Write, E: Write>(
         (R.remaining reader.old) (R.remaining reader.new) (W.contents writer.old) (W.contents writer.new) result.1
         result.0 }
 {
-    match open_image(host, alloc, path, form, task.access(), leave, errors) {
+    match open_image(host, alloc, path, form, task.access(), leave) {
         Ok(image) => {
             let (status, image) = serve(alloc, image, task, reader, writer, errors);
             tell_failure(errors, path, &image);
@@ -176,6 +177,7 @@ pub(crate) fn serve_fresh<R: Read, W: Write, E: Write>(
         (W.contents writer.old) (W.contents writer.new) result.1 result.0 }
 {
     let Ok(mut disk) = MemDisk::new(alloc, FRESH_BLOCKS, FRESH_CALLS) else {
+        tell_no_memory(errors);
         return (Status::Fault, None);
     };
     match Volume::init(&mut disk) {

@@ -113,6 +113,11 @@ fn leads_to<H: Host>(host: &H, named: FileId, path: &str, other: &str) -> bool
     host.identity(other) == Some(named)
 }
 
+/// Whether the standard error leads to the file at a path.
+pub(crate) fn is_at_errors<H: Host>(host: &H, path: &str) -> bool {
+    stream_at(host, path).is_some_and(|stream| stream.forbids_errors())
+}
+
 /// The standard stream that leads to the file at a path, where one does, as far as the host has names for the streams:
 /// of several the one that forbids the most.
 pub(crate) fn stream_at<H: Host>(host: &H, path: &str) -> Option<HostFault>

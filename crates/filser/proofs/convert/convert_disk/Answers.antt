@@ -23,11 +23,11 @@ pub returns-in-Err-clause-ran : goal.returns-in-Err-clause-ran
 returns-in-Err-clause-ran g c =
     let t = c.in-Err.ensures in (
       c.in-Err.disk,
-      c.unconverted.ensures.image,
+      c.unconverted-outcome.ensures.image,
       record { size = t.refused.size; was_honest = t.refused.was_honest },
       t.alone_refused,
       inl (
-        c.unconverted.ensures.new,
-        (_, (c.in-Err.error, refl, (_, c.failure_of.ensures), t.refused), c.unconverted.ensures.explained),
+        c.unconverted-outcome.ensures.new,
+        (_, (c.in-Err.error, refl, (_, c.failure_of.ensures), t.refused), c.unconverted-outcome.ensures.explained),
       ),
     )

@@ -1,16 +1,13 @@
-use Rattle.std.proofs.Common.{◌∙◌, inl, inr, refl, sym}
+use Rattle.std.proofs.Common.{inl, inr}
 use Rattle.imagefile.specs.Supposition.{unseen_in}
-use Rattle.filser.proofs.Imaging.{converted, seen}
+use Rattle.filser.proofs.Imaging.{converted}
 use Rattle.filser.proofs.convert.convert_image.Goals as goal
 
-pub returns-then-is_some-clause-ran : goal.returns-then-is_some-clause-ran
-returns-then-is_some-clause-ran g c =
-    let there = seen (λ file. (g.H.Host.facts c.args.host.now).found c.args.conversion.now.new.now file)
-    c.identity.result (sym c.is_some.ensures ∙ c.if-is_some.true) c.identity.ensures in
-    inr (
-      c.unconverted.ensures.new,
-      (_, inl (c.unconverted.ensures.image, there, refl), c.unconverted.ensures.explained),
-    )
+pub returns-in-Some-clause-ran : goal.returns-in-Some-clause-ran
+returns-in-Some-clause-ran g c = inr (
+  c.unconverted.ensures.new,
+  (_, inl (c.unconverted.ensures.image, c.in-Some.ensures), c.unconverted.ensures.explained),
+)
 
 pub returns-in-Ok-clause-ran : goal.returns-in-Ok-clause-ran
 returns-in-Ok-clause-ran g c =

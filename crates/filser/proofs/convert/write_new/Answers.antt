@@ -12,9 +12,9 @@ returns-in-Ok-clause-ran g c =
       p.3,
       λ was same alone. alone_on _ _ _ same.size p.3.was_honest alone p.4,
       on_copy (g.H.Host.facts c.args.host.now) _ _ _ _ c.args.conversion.now.new.now
-          (other_form c.args.conversion.now.form) c.other-form.result c.blocks-2.result
+          (other_form c.args.conversion.now.form) (other_form c.args.conversion.now.form) c.blocks-2.result
           (unseen_in c.args.leave.supposed) _ _
-          c.in-Ok.target p.1 c.copy_to.result.new c.other-form.ensures c.blocks-2.ensures c.in-Ok.ensures.made
+          c.in-Ok.target p.1 c.copy_to.result.new refl c.blocks-2.ensures c.in-Ok.ensures.made
           c.in-Ok.ensures.began c.in-Ok.ensures.counted p.5 p.6,
     )
 
@@ -26,7 +26,7 @@ returns-in-Err-clause-ran g c = (
   λ was same alone. alone,
   inr (inr (
     c.in-Err.fault,
-    rw (sym c.other-form.ensures, sym c.blocks-2.ensures) c.in-Err.ensures.denied,
+    rw (sym c.blocks-2.ensures) c.in-Err.ensures.denied,
     c.refuse_image.ensures.explained,
   )),
 )

@@ -2,6 +2,7 @@ use Rattle.std.proofs.Common.{inl, inr, map, refl}
 use Rattle.clap.specs.Words.{fault_of, subcommand_of}
 use Rattle.arguments.specs.CommandLine.{command_line}
 use Rattle.filser.proofs.ExitCodes.{bad_error, prints_only}
+use Rattle.filser.proofs.Naming.{spares_named}
 use Rattle.filser.proofs.Unasked.{ends_asked, ends_mistaken, ends_shown}
 use Rattle.filser.proofs.program.answer.Goals as goal
 
@@ -36,6 +37,7 @@ returns-in-Err-clause-ran g c = rw c.without_disks.ensures (record {
     prints_only (fault_of command_line (map (λ w. w.now) c.args.words.now))
         (subcommand_of command_line (map (λ w. w.now) c.args.words.now)) c.in-Err.error _ _ c.in-Err.ensures.usage
         (λ wrong bad. (c.in-Err.ensures.bad wrong bad).1) c.refuse.ensures.unprinted c.refuse.ensures.mistake,
+    spares_named _ _ _ _ c.of_words-free.result.output c.refuse.ensures.spared c.of_words-free.ensures.output,
     λ wrong is r asks. (c.in-Err.ensures.bad wrong (bad_error c.in-Err.error wrong is)).2 r asks,
   );
 })

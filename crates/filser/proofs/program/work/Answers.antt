@@ -3,19 +3,19 @@ use Rattle.filser.proofs.program.work.Goals as goal
 
 pub returns-clause-mistaken : goal.returns-clause-mistaken
 returns-clause-mistaken g c h = code_mistaken c.answer-outcome.result.status c.exit_code.result
-    (code_is c.flush.result c.answer-outcome.result.status c.exit_code.result c.exit_code.ensures)
+    (code_is c.flush-flushed.result c.answer-outcome.result.status c.exit_code.result c.exit_code.ensures)
     (c.answer-outcome.ensures.mistaken h)
 
 pub returns-clause-asked : goal.returns-clause-asked
 returns-clause-asked g c r asks none = code_asked c.answer-outcome.result.status c.exit_code.result
-    (code_is c.flush.result c.answer-outcome.result.status c.exit_code.result c.exit_code.ensures)
+    (code_is c.flush-flushed.result c.answer-outcome.result.status c.exit_code.result c.exit_code.ensures)
     (c.answer-outcome.ensures.asked r asks none)
 
 pub returns-clause-ran : goal.returns-clause-ran
 returns-clause-ran g c = (
   c.answer-outcome.result.status,
-  g.W.Write.contents c.answer-outcome.new.writer,
-  code_is c.flush.result c.answer-outcome.result.status c.exit_code.result c.exit_code.ensures,
-  c.flush.ensures.bytes,
+  g.W.Write.contents c.answer-outcome.new.writer.writer,
+  code_is c.flush-flushed.result c.answer-outcome.result.status c.exit_code.result c.exit_code.ensures,
+  c.flush-flushed.ensures.bytes,
   c.answer-outcome.ensures.ran,
 )

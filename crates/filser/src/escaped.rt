@@ -1,0 +1,56 @@
+use std::fmt::{self, Display, Formatter, Write};
+
+/// A text of one line, in which a control character is shown as `\n` or `\u{1b}`: what a name has can't act on a
+/// terminal, or look like a line of its own.
+#[derive(Clone, Copy, Debug)]
+pub struct Escaped<'a>(pub &'a str);
+
+/// A text of several lines that has words of the command line in it. Its line feeds stay.
+#[derive(Clone, Copy, Debug)]
+pub(crate) struct EscapedLines<'a, T: Display>(pub(crate) &'a T);
+
+impl Display for Escaped<'_> {
+    fn fmt<W: fmt::Write>(&self, f: &mut Formatter<W>) -> fmt::Result {
+        let mut writer = Escaper { f, keeps: None };
+        write!(writer, "{}", self.0)
+    }
+}
+
+impl<T: Display> Display for EscapedLines<'_, T> {
+    fn fmt<W: fmt::Write>(&self, f: &mut Formatter<W>) -> fmt::Result {
+        let keeps = Some('\n');
+        let mut writer = Escaper { f, keeps };
+        write!(writer, "{}", self.0)
+    }
+}
+
+/// Writes texts on, with their control characters escaped except one.
+#[derive(Drop)]
+struct Escaper<'a, W: fmt::Write> {
+    f: &'a mut Formatter<W>,
+    keeps: Option<char>,
+}
+
+impl<W: fmt::Write> Escaper<'_, W> {
+    /// Whether a character is escaped.
+    fn escapes(&self, c: char) -> bool {
+        c.is_control() && self.keeps != Some(c)
+    }
+}
+
+impl<W: fmt::Write> fmt::Write for Escaper<'_, W> {
+    fn write_str(&mut self, s: &str) -> fmt::Result {
+        // A text without any is written as one, since the standard error has no buffer.
+        if !s.chars().any(|c| self.escapes(c)) {
+            return self.f.write_str(s);
+        }
+        for c in s.chars() {
+            if self.escapes(c) {
+                write!(self.f, "{}", c.escape_default())?;
+            } else {
+                self.f.write_char(c)?;
+            }
+        }
+        Ok(())
+    }
+}

@@ -1,0 +1,70 @@
+ghost use Rattle.std.specs.Prelude.{◌≡◌, None};
+
+use std::io::{self, Write};
+use thiserror::Error;
+
+/// Why the standard output failed, as people are told on the standard error.
+#[derive(Clone, Copy, Debug, Error)]
+pub enum OutputFault {
+    /// A call of the system's failed.
+    #[error(transparent)]
+    System(io::Error),
+    /// It took no byte of some.
+    #[error("it can't be written")]
+    NoByte,
+}
+
+/// A writer that knows why it failed first.
+#[derive(Drop)]
+pub struct OutputWriter<W: Write> {
+    writer: W,
+    fault: Option<OutputFault>,
+}
+
+impl<W: Write> OutputWriter<W> {
+    /// What this writer takes. It has not failed yet.
+    pub fn new(writer: W) -> Self
+        ensures { (result.writer ≡ writer) × (result.fault ≡ None) }
+    {
+        OutputWriter {
+            writer,
+            fault: None,
+        }
+    }
+
+    /// Why it failed first, if it did.
+    pub(crate) fn fault(&self) -> Option<OutputFault> {
+        self.fault
+    }
+
+    /// Keeps a fault, unless one came before.
+    fn keep(&mut self, fault: OutputFault)
+        ensures { self.new.writer ≡ self.old.writer }
+    {
+        if self.fault.is_none() {
+            self.fault = Some(fault);
+        }
+    }
+}
+
+impl<W: Write> Write for OutputWriter<W> {
+    ghost contents = { λ output. W.contents output.writer };
+
+    fn write(&mut self, buf: &[u8]) -> io::Result<usize> {
+        let count = self.writer.write(buf);
+        match count {
+            Ok(0) if !buf.is_empty() => self.keep(OutputFault::NoByte),
+            Ok(_) => {}
+            Err(error) => self.keep(OutputFault::System(error)),
+        }
+        count
+    }
+
+    fn flush(&mut self) -> io::Result<()> {
+        let flushed = self.writer.flush();
+        if let Err(error) = flushed {
+            self.keep(OutputFault::System(error));
+        }
+        flushed
+    }
+}

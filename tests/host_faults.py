@@ -1,0 +1,387 @@
+#!/usr/bin/env python3
+"""Tests what the program tells if the host fails it, and that nothing lands in a file that its words name.
+
+usage: tests/host_faults.py PROGRAM
+
+A run that ends with status 4 tells why: an output that is full, a root directory that can't be opened, want of memory,
+a lock that the system doesn't give, a sync that fails, an image whose length changes. Words that are refused or ask for
+help print nothing into a file that one of them names. `convert` hands on permission bits, a failed `init` removes its
+own file alone, and names are told with their control characters escaped. Some calls are made to fail by strace; without
+it, or if it may not trace, those cases are SKIPPED, which is said. Prints a line for each thing that is not as it
+should be, and one line at the end.
+"""
+
+import fcntl
+import os
+import resource
+import shutil
+import subprocess
+import sys
+import tempfile
+import time
+
+LIMIT = 60
+PAGE = 4096
+AMPLE = 1 << 28
+
+LOGIN = b"LOGIN [1,2]\n"
+JOB = b"Job 1 [1,2]\n"
+MAKDIR = b"MAKDIR [10,21]\n"
+FAULT = b"?Device fault\n"
+MADE = b"LOGIN [10,20]\nMAKDIR [10,20]\n"
+HELLO = b"HELLO\r\n"
+VERSION = b"filser 0.1.0\n"
+HINT = "after a device fault let the host drop its cache (restart it) before the next start"
+LENGTH = "the image has another length than at the start"
+OWNER = "two octal numbers of 1 to 6 digits, neither of them zero, as 10,20 or [10,20]"
+FULL = "No space left on device (os error 28)"
+BROKEN = "Input/output error (os error 5)"
+
+
+def tells(name, *reasons):
+    """What is told of a file, or of another part of the host: a line for each reason."""
+    return "".join(f"filser: {name}: {reason}\n" for reason in reasons).encode()
+
+
+class Tries:
+    """Runs of the program, each case in a folder of its own, which has an image A.IMG with a file on it."""
+
+    def __init__(self, program):
+        self.program = program
+        self.folder = None
+        self.count = 0
+        self.failed = 0
+        self.may_trace = may_trace()
+
+    def enter(self, folder):
+        """From now on runs are in this folder, which is new."""
+        os.mkdir(folder)
+        self.folder = folder
+        self.run(["init", "A.IMG", "64"])
+        self.run(["run", "A.IMG"], data=MADE)
+        self.run(["put", "A.IMG", "10,20", "HELLO.TXT"], data=HELLO)
+
+    def path(self, name):
+        return os.path.join(self.folder, name)
+
+    def read(self, name):
+        with open(self.path(name), "rb") as file:
+            return file.read()
+
+    def write(self, name, data):
+        with open(self.path(name), "wb") as file:
+            file.write(data)
+
+    def mode(self, name):
+        """The permission bits of a file."""
+        return os.stat(self.path(name)).st_mode & 0o7777
+
+    def judge(self, good, what):
+        """Counts, and says what is not as it should be."""
+        self.count += 1
+        if not good:
+            self.failed += 1
+            print(f"{os.path.basename(self.folder)}: {what}")
+
+    def skip(self, what):
+        """Says what can't be tried here."""
+        print(f"{os.path.basename(self.folder)}: SKIPPED, {what}")
+
+    def words(self, words, faults, log):
+        """The words of a run in which calls fail as strace says it, with a log of what it traced."""
+        if not faults:
+            return [self.program, *words]
+        return ["strace", "-f", "-o", self.path(log), *faults, self.program, *words]
+
+    def run(self, words, data=b"", faults=(), log="LOG", **how):
+        """What a run prints and tells, and its status. A stream that leads to a file is empty here."""
+        streams = {"stdout": subprocess.PIPE, "stderr": subprocess.PIPE, **how}
+        done = subprocess.run(self.words(words, faults, log), input=data, cwd=self.folder, check=False, timeout=LIMIT,
+                              **streams)
+        return done.stdout or b"", done.stderr or b"", done.returncode
+
+    def expect(self, words, printed, told, status, **how):
+        """A run prints this, tells this, and has this status; None is anything."""
+        out, err, code = self.run(words, **how)
+        good = code == status and printed in (None, out) and told in (None, err)
+        self.judge(good, f"{words}: status {code} and not {status}; {out!r} and not {printed!r}; tells {err!r} and not "
+                         f"{told!r}")
+        return out, err
+
+    def expect_kept(self, name, words, printed, told, status, **how):
+        """The same, and a file has the bytes that it had."""
+        was = self.read(name)
+        out, err = self.expect(words, printed, told, status, **how)
+        self.judge(self.read(name) == was, f"{words}: {name} has other bytes")
+        return out, err
+
+    def appending(self, name):
+        """A stream that leads to the end of a file."""
+        return open(self.path(name), "ab")
+
+
+def may_trace():
+    """Whether strace is installed and may trace."""
+    if not shutil.which("strace"):
+        return False
+    return subprocess.run(["strace", "-o", "/dev/null", "true"], capture_output=True, check=False).returncode == 0
+
+
+def failing(call, error, when="1+"):
+    """What strace takes to make a call fail."""
+    return ["-e", f"trace={call}", "-e", f"inject={call}:error={error}:when={when}"]
+
+
+def an_output_that_is_full(tries):
+    """An answer that can't be written is told, and what was done stays."""
+    told = tells("standard output", FULL)
+    for words, data in [(["list", "A.IMG"], b""), (["list", "A.IMG", "7,7"], b""), (["check", "A.IMG"], b""),
+                        (["get", "A.IMG", "10,20", "HELLO.TXT"], b""), (["run", "A.IMG"], LOGIN),
+                        (["calls", "A.IMG"], b"1 RESET\n"), (["migrate", "A.IMG"], b""), ([], LOGIN),
+                        (["--version"], b""), (["help"], b"")]:
+        with open("/dev/full", "wb") as full:
+            tries.expect(words, None, told, 4, data=data, stdout=full)
+    # a refusal that can't be printed has its reason too
+    with open("/dev/full", "wb") as full:
+        tries.expect(["check", "NONE.IMG"], None, tells("NONE.IMG", "No such file or directory (os error 2)") + told, 4,
+                     stdout=full)
+    with open("/dev/full", "wb") as full, tries.appending("A.IMG") as errors:
+        for words in (["--help", "A.IMG"], ["run", "A.IMG", "--help"]):
+            tries.expect_kept("A.IMG", words, None, None, 0, stdout=full, stderr=errors)
+    # where nothing is printed, nothing fails
+    with open("/dev/full", "wb") as full:
+        tries.expect(["init", "B.IMG", "64"], None, b"", 0, stdout=full)
+
+
+def a_root_that_is_not_opened(tries):
+    """The root directory holds the places of missing streams: without it there is no run."""
+    if not tries.may_trace:
+        tries.skip("there is no strace that may trace")
+        return
+    faults = ["-P", "/", *failing("openat", "EMFILE")]
+    told = tells("/", "Too many open files (os error 24)")
+    for words in (["check", "A.IMG"], [], ["--version"]):
+        tries.expect_kept("A.IMG", words, b"", told, 4, data=LOGIN, faults=faults)
+    with tries.appending("A.IMG") as errors:
+        tries.expect_kept("A.IMG", ["check", "A.IMG"], b"", None, 4, faults=faults, stderr=errors)
+
+
+def too_little_memory(tries):
+    """Whatever memory a run has, it tells why it ends with status 4, and where it has enough it tells nothing."""
+    want = b"filser: out of memory\n"
+    tales = {}
+    for words, data in [(["run", "A.IMG"], LOGIN), ([], LOGIN), (["get", "A.IMG", "10,20", "HELLO.TXT"], b"")]:
+        for pages in range(0, 512):
+            def limit(size=pages * PAGE):
+                resource.setrlimit(resource.RLIMIT_DATA, (size, size))
+            try:
+                out, err, code = tries.run(words, data=data, preexec_fn=limit)
+            except (OSError, subprocess.SubprocessError):
+                continue
+            if code == 0:
+                tries.judge(err == b"", f"{words} with {pages} pages: tells {err!r}")
+                break
+            if code == 4:
+                tales[err] = tales.get(err, 0) + 1
+                tries.judge(err in (want, tells("A.IMG", "out of memory")),
+                            f"{words} with {pages} pages: prints {out!r} and tells {err!r}")
+    if want not in tales:
+        tries.skip("no limit of memory ends a run for want of it")
+
+
+def words_that_are_refused(tries):
+    """Wrong words print nothing into a file that one of them names, and else they are told as ever."""
+    os.symlink("A.IMG", tries.path("LINK.IMG"))
+    os.link(tries.path("A.IMG"), tries.path("OTHER.IMG"))
+    for words in [["run", "A.IMG", "--date", "99999"], ["run", "A.IMG", "--date", "x"], ["get", "A.IMG", "9,9", "FOO"],
+                  ["init", "A.IMG", "63"], ["run", "NONE.IMG", "A.IMG"], ["A.IMG"], ["run", "LINK.IMG", "--date", "x"],
+                  ["list", "OTHER.IMG", "x"], ["run", "./A.IMG", "--minute", "1440"], ["--nonsense", "A.IMG"],
+                  ["list", "A.IMG", b"\xff"]]:
+        with tries.appending("A.IMG") as image:
+            tries.expect_kept("A.IMG", words, b"", None, 2, stderr=image)
+            tries.expect_kept("A.IMG", words, None, None, 2, stdout=image, stderr=image)
+            _, told = tries.expect_kept("A.IMG", words, None, None, 2, stdout=image)
+            tries.judge(told != b"", f"{words}: nothing is told on a standard error that leads elsewhere")
+        with open(tries.path("ERRORS"), "wb") as errors:
+            tries.expect(words, b"", None, 2, stderr=errors)
+        tries.judge(tries.read("ERRORS") == told, f"{words}: {tries.read('ERRORS')!r} and not {told!r}")
+
+
+def words_that_ask_for_help(tries):
+    """So it is with help and the version."""
+    for words in [["--help", "A.IMG"], ["run", "A.IMG", "--help"], ["--version", "A.IMG"], ["run", "--help", "A.IMG"]]:
+        shown, _ = tries.expect(words, None, b"", 0)
+        tries.judge(shown != b"", f"{words}: nothing is shown")
+        with tries.appending("A.IMG") as image:
+            tries.expect_kept("A.IMG", words, None, b"", 0, stdout=image)
+            tries.expect_kept("A.IMG", words, None, None, 0, stdout=image, stderr=image)
+            tries.expect_kept("A.IMG", words, b"", None, 0, stderr=image)
+        with open(tries.path("SHOWN"), "wb") as output:
+            tries.expect(words, None, b"", 0, stdout=output)
+        tries.judge(tries.read("SHOWN") == shown, f"{words}: {tries.read('SHOWN')!r} and not {shown!r}")
+    # the first word is the program's name, and names no file
+    with open(tries.path("filser"), "wb") as output:
+        done = subprocess.run(["filser", "--version"], executable=tries.program, stdout=output, cwd=tries.folder,
+                              check=False, timeout=LIMIT)
+    shown = tries.read("filser")
+    tries.judge((done.returncode, shown) == (0, VERSION), f"{shown!r} in a file with the name of the program")
+
+
+def a_new_name_that_a_stream_leads_to(tries):
+    """`convert` prints nothing into the file that has the new name."""
+    shutil.copy(tries.path("A.IMG"), tries.path("NEW.IMG"))
+    words = ["convert", "A.IMG", "NEW.IMG"]
+    tries.expect_kept("NEW.IMG", words, b"?Image exists\n", b"", 3)
+    with tries.appending("NEW.IMG") as new:
+        tries.expect_kept("NEW.IMG", words, None, tells("NEW.IMG", "the standard output of this run"), 3, stdout=new)
+        tries.expect_kept("NEW.IMG", words, b"", None, 3, stderr=new)
+        tries.expect_kept("NEW.IMG", words, None, None, 3, stdout=new, stderr=new)
+    with open("/dev/full", "wb") as full, tries.appending("NEW.IMG") as new:
+        tries.expect_kept("NEW.IMG", words, None, None, 3, stdout=full, stderr=new)
+    with tries.appending("NEW.IMG") as new:
+        tries.expect_kept("NEW.IMG", words, b"", None, 4, stderr=new, preexec_fn=lambda: os.close(0))
+    tries.expect(words, b"", tells("standard input or output", "it is closed"), 4, preexec_fn=lambda: os.close(0))
+
+
+def a_sync_that_fails(tries):
+    """After a fault of a device the reason is told, and what to do before the next start."""
+    if not tries.may_trace:
+        tries.skip("there is no strace that may trace")
+        return
+    told = tells("A.IMG", BROKEN, HINT)
+    faults = failing("fdatasync", "EIO")
+    # what asks for no sync meets no fault
+    tries.expect(["get", "A.IMG", "10,20", "HELLO.TXT"], HELLO, b"", 0, faults=faults)
+    # a file that can't be opened is no device that failed
+    tries.expect(["check", "NONE.IMG"], FAULT, tells("NONE.IMG", "No such file or directory (os error 2)"), 4)
+    # a new image that a conversion can't finish is to be removed
+    new = tells("N.IMG", "incomplete", BROKEN)
+    tries.expect_kept("A.IMG", ["convert", "A.IMG", "N.IMG"], FAULT, new, 4, faults=faults)
+    tries.expect(["run", "A.IMG"], JOB + FAULT, told, 4, data=LOGIN + MAKDIR, faults=faults)
+    tries.expect(["migrate", "A.IMG"], FAULT, told, 4, faults=faults)
+    tries.expect(["put", "A.IMG", "10,20", "BAR"], FAULT, told, 4, data=HELLO, faults=faults)
+
+
+def an_image_whose_length_changes(tries):
+    """That is told as what it is."""
+    image = tries.read("A.IMG")
+    for changed in (image + b"\0", image[:1024]):
+        tries.write("A.IMG", image)
+        with subprocess.Popen([tries.program, "run", "A.IMG"], cwd=tries.folder, stdin=subprocess.PIPE,
+                              stdout=subprocess.PIPE, stderr=subprocess.PIPE) as running:
+            running.stdin.write(LOGIN)
+            running.stdin.flush()
+            first = running.stdout.readline()
+            with open(tries.path("A.IMG"), "r+b") as file:
+                file.truncate(len(changed))
+            out, err = running.communicate(MAKDIR, timeout=LIMIT)
+        tries.judge((first + out, err, running.returncode) == (JOB + FAULT, tells("A.IMG", LENGTH, HINT), 4),
+                    f"{len(changed)} bytes: status {running.returncode}; {first + out!r}; tells {err!r}")
+
+
+def a_lock_that_is_not_given(tries):
+    """A run wants a lock, and tries an interrupted call again."""
+    with open(tries.path("A.IMG"), "rb") as other:
+        fcntl.flock(other, fcntl.LOCK_EX)
+        told = tells("A.IMG", "in use by another process")
+        for words in (["run", "A.IMG"], ["list", "A.IMG"], ["migrate", "A.IMG"], ["convert", "A.IMG", "N.IMG"]):
+            tries.expect_kept("A.IMG", words, FAULT, told, 4, data=LOGIN)
+    if not tries.may_trace:
+        tries.skip("there is no strace that may trace")
+        return
+    for error, reason in [("ENOLCK", "No locks available (os error 37)"),
+                          ("EBADF", "Bad file descriptor (os error 9)")]:
+        told = tells("A.IMG", reason)
+        for words in (["run", "A.IMG"], ["list", "A.IMG"], ["migrate", "A.IMG"], ["convert", "A.IMG", "N.IMG"]):
+            tries.expect_kept("A.IMG", words, FAULT, told, 4, data=LOGIN, faults=failing("flock", error))
+        tries.judge(not os.path.lexists(tries.path("N.IMG")), "N.IMG is there")
+        tries.expect(["init", "B.IMG", "64"], FAULT, tells("B.IMG", reason), 4, faults=failing("flock", error))
+        tries.judge(not os.path.lexists(tries.path("B.IMG")), "B.IMG is there")
+    tries.expect(["run", "A.IMG"], JOB, b"", 0, data=LOGIN, faults=failing("flock", "EINTR", "1..3"))
+
+
+def names_with_control_characters(tries):
+    """They are told escaped, in the names of files, in arguments, and in what is unknown."""
+    missing = "No such file or directory (os error 2)"
+    for name, shown in [("A\x1b[31m\n.IMG", "A\\u{1b}[31m\\n.IMG"), ("\t\r\x7f", "\\t\\r\\u{7f}"),
+                        ("\u009b31m", "\\u{9b}31m"), ("Ä '\\.IMG", "Ä '\\.IMG")]:
+        tries.expect(["check", name], FAULT, tells(shown, missing), 4)
+        tries.expect(["list", "A.IMG", name], b"", f"?Bad argument\nfilser: PPN {shown}: {OWNER}\n".encode(), 2)
+    for words in (["\x1b[31m"], ["run", "A.IMG", "\x1b[31m"], ["--\x1b[31m"], ["run", "A.IMG", "--minute", "\x1b"]):
+        _, told = tries.expect(words, b"", None, 2)
+        tries.judge(b"\x1b" not in told and b"\\u{1b}" in told, f"{words}: {told!r}")
+
+
+def permission_bits(tries):
+    """A converted image has those of the image, whatever the mask; a new one those that the mask leaves."""
+    for mask in (0o000, 0o022, 0o077):
+        for mode in (0o600, 0o640, 0o644, 0o666, 0o660):
+            os.chmod(tries.path("A.IMG"), mode)
+            name = f"{mask:o}-{mode:o}.IMG"
+            tries.expect(["convert", "A.IMG", name], b"Converted 64 blocks\n", b"", 0, umask=mask)
+            tries.judge(tries.mode(name) == mode, f"{name}: mode {tries.mode(name):o}")
+        name = f"{mask:o}.IMG"
+        tries.expect(["init", name, "64"], b"", b"", 0, umask=mask)
+        tries.judge(tries.mode(name) == 0o666 & ~mask, f"{name}: mode {tries.mode(name):o}")
+    if not tries.may_trace:
+        tries.skip("there is no strace that may trace")
+        return
+    os.chmod(tries.path("A.IMG"), 0o644)
+    tries.expect(["convert", "A.IMG", "NEW.IMG"], None, b"", 0, faults=["-e", "trace=open,openat"], umask=0)
+    opened = [line for line in tries.read("LOG").decode().split("\n") if "NEW.IMG" in line]
+    tries.judge(len(opened) == 1 and "O_EXCL" in opened[0] and ", 0600)" in opened[0], f"NEW.IMG is opened by {opened}")
+
+
+def a_file_that_came_in_its_place(tries):
+    """A failed `init` removes the file that it made, and no other that has its name meanwhile."""
+    if not tries.may_trace:
+        tries.skip("there is no strace that may trace")
+        return
+    tries.expect(["init", "B.IMG", "64"], FAULT, tells("B.IMG", BROKEN), 4, faults=failing("fsync", "EIO"))
+    tries.judge(not os.path.lexists(tries.path("B.IMG")), "B.IMG is there")
+    faults = ["-e", "trace=fsync", "-e", "inject=fsync:error=EIO:delay_enter=2000000"]
+    tries.write("OTHER", b"another file\n")
+    with subprocess.Popen(tries.words(["init", "C.IMG", "64"], faults, "LOG"), cwd=tries.folder,
+                          stdin=subprocess.DEVNULL, stdout=subprocess.PIPE, stderr=subprocess.PIPE) as running:
+        for _ in range(100):
+            if os.path.exists(tries.path("C.IMG")) and os.path.getsize(tries.path("C.IMG")) == 65536:
+                break
+            time.sleep(0.01)
+        os.rename(tries.path("OTHER"), tries.path("C.IMG"))
+        out, err = running.communicate(timeout=LIMIT)
+    tries.judge((out, err, running.returncode) == (FAULT, tells("C.IMG", BROKEN), 4),
+                f"status {running.returncode}; {out!r}; tells {err!r}")
+    tries.judge(os.path.exists(tries.path("C.IMG")) and tries.read("C.IMG") == b"another file\n", "it is gone")
+
+
+CASES = [
+    an_output_that_is_full,
+    a_root_that_is_not_opened,
+    too_little_memory,
+    words_that_are_refused,
+    words_that_ask_for_help,
+    a_new_name_that_a_stream_leads_to,
+    a_sync_that_fails,
+    an_image_whose_length_changes,
+    a_lock_that_is_not_given,
+    names_with_control_characters,
+    permission_bits,
+    a_file_that_came_in_its_place,
+]
+
+
+def main():
+    if len(sys.argv) != 2 or not os.access(sys.argv[1], os.X_OK):
+        print("usage: tests/host_faults.py PROGRAM", file=sys.stderr)
+        return 2
+    with tempfile.TemporaryDirectory() as folder:
+        tries = Tries(os.path.abspath(sys.argv[1]))
+        for case in CASES:
+            tries.enter(os.path.join(folder, case.__name__))
+            case(tries)
+    print(f"host_faults: {tries.count - tries.failed} as they should be, {tries.failed} not")
+    return 1 if tries.failed else 0
+
+
+if __name__ == "__main__":
+    sys.exit(main())
