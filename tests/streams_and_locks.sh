@@ -124,7 +124,8 @@ for kind in run calls; do
     "$program" $kind LINK.IMG <input >out 2>err || status=$?
     judge "$kind on a link to nothing" 4
     rm LINK.IMG
-    want err 'filser: /dev/null: Invalid argument (os error 22)'
+    want err 'filser: /dev/null: Invalid argument (os error 22)' \
+        'filser: /dev/null: after a device fault let the host drop its cache (restart it) before the next start'
     fresh
     "$program" $kind /dev/null <input >out 2>err || status=$?
     judge "$kind on a device without blocks" 4
