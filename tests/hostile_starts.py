@@ -85,7 +85,7 @@ def scattered(number):
 
 def name(number):
     """A name for each number, not in order."""
-    return 0o414141 << 18 | scattered(number) if number < 1 << 18 else 0o424242 << 18 | scattered(number)
+    return (0o414141 + (number >> 18) << 18) + scattered(number)
 
 
 def leads_to(prime):
