@@ -6,7 +6,8 @@ usage: tests/host_faults.py PROGRAM
 A run that ends with status 4 tells why: an output that is full, a root directory that can't be opened, want of memory,
 a lock that the system doesn't give, a sync that fails, an image whose length changes. Words that are refused or ask for
 help print nothing into a file that one of them names. `convert` hands on permission bits, a failed `init` removes its
-own file alone, and names are told with their control characters escaped. Some calls are made to fail by strace; without
+own file alone, and names are told with their control characters escaped. An input without an end is refused, and 512
+KiB of stack are enough. Some calls are made to fail by strace; without
 it, or if it may not trace, those cases are SKIPPED, which is said. Prints a line for each thing that is not as it
 should be, and one line at the end.
 """
@@ -23,6 +24,7 @@ import time
 LIMIT = 60
 PAGE = 4096
 AMPLE = 1 << 28
+STACK = 1 << 19
 
 LOGIN = b"LOGIN [1,2]\n"
 JOB = b"Job 1 [1,2]\n"
@@ -118,6 +120,11 @@ class Tries:
     def appending(self, name):
         """A stream that leads to the end of a file."""
         return open(self.path(name), "ab")
+
+
+def limits(what, bytes_allowed):
+    """What gives a child this limit."""
+    return lambda: resource.setrlimit(what, (bytes_allowed, bytes_allowed))
 
 
 def may_trace():
@@ -356,6 +363,45 @@ def a_file_that_came_in_its_place(tries):
     tries.judge(os.path.exists(tries.path("C.IMG")) and tries.read("C.IMG") == b"another file\n", "it is gone")
 
 
+def an_input_without_an_end(tries):
+    """An input of `put` is read only as far as a file can hold it, or up to a byte that isn't text. A list that comes to
+    have more than 16 MiB takes places for 32 MiB, half of which it never touches."""
+    inputs = [
+        (["yes"], [], 1 << 25, b"?No room\n", "more than 10485760 bytes, which no file can hold"),
+        (["yes"], ["--words"], 1 << 26, b"?No room\n", "more than 16777216 bytes, which no file can hold"),
+        (["cat", "/dev/zero"], [], 1 << 22, b"?Not ASCII\n",
+         "byte 0 at 1 isn't text (1 to 127); --words stores any words"),
+    ]
+    for source, options, memory, printed, reason in inputs:
+        with subprocess.Popen(source, stdout=subprocess.PIPE) as running:
+            done = subprocess.run([tries.program, "put", *options, "A.IMG", "10,20", "LONG"], stdin=running.stdout,
+                                  capture_output=True, cwd=tries.folder, check=False, timeout=LIMIT,
+                                  preexec_fn=limits(resource.RLIMIT_DATA, memory))
+            running.stdout.close()
+            running.kill()
+        answered = (done.stdout, done.stderr, done.returncode)
+        tries.judge(answered == (printed, tells("standard input", reason), 1), f"{source} {options}: {answered!r}")
+    tries.expect(["get", "A.IMG", "10,20", "HELLO.TXT"], HELLO, b"", 0)
+
+
+def a_small_stack(tries):
+    """512 KiB of stack are enough for every command."""
+    small = {"preexec_fn": limits(resource.RLIMIT_STACK, STACK)}
+    tries.expect(["init", "B.IMG", "512"], b"", b"", 0, **small)
+    tries.expect(["run", "B.IMG"], b"Job 1 [10,20]\nOK\n", b"", 0, data=MADE, **small)
+    tries.expect(["put", "B.IMG", "10,20", "A"], b"OK\n", b"", 0, data=b"B" * 100000, **small)
+    tries.expect(["run", "B.IMG"], b"Job 1 [10,20]\nOK\nOK\nOK\n", b"", 0,
+                 data=b"LOGIN [10,20]\nCOPY B=A\nRENAME C=B\nDELETE C\n", **small)
+    tries.expect(["get", "B.IMG", "10,20", "A"], b"B" * 100000, b"", 0, **small)
+    tries.expect(["check", "B.IMG"], None, b"", 0, **small)
+    tries.expect(["list", "B.IMG"], None, b"", 0, **small)
+    tries.expect(["convert", "B.IMG", "C.IMG"], None, b"", 0, **small)
+    tries.expect(["migrate", "B.IMG"], b"Layout 2\n", b"", 0, **small)
+    jobs = b"".join(b"%o LOGIN 10,20 1000\n" % job for job in range(1, 65))
+    tries.expect(["calls", "B.IMG"], b"DONE\n" * 64, b"", 0, data=jobs, **small)
+    tries.expect(["--help"], None, b"", 0, **small)
+
+
 CASES = [
     an_output_that_is_full,
     a_root_that_is_not_opened,
@@ -369,6 +415,8 @@ CASES = [
     names_with_control_characters,
     permission_bits,
     a_file_that_came_in_its_place,
+    an_input_without_an_end,
+    a_small_stack,
 ]
 
 
