@@ -8,7 +8,8 @@ use Rattle.meaning.specs.declared.encoding.Encoding.TheVariants.{Characters, Wor
 use Rattle.commands.specs.Reasons.{IsTooLong}
 use Rattle.commands.proofs.WordLaws.{length-words}
 
-length-packed : (text : List ℕ) → (length text ≤ 5 * length (packed text)) × (5 * length (packed text) < length text + 5)
+length-packed : (text : List ℕ) → (length text ≤ 5 * length (packed text))
+    × (5 * length (packed text) < length text + 5)
 length-packed [] = (omega arith, omega arith)
 length-packed (a ∷ []) = (omega arith, omega arith)
 length-packed (a ∷ b ∷ []) = (omega arith, omega arith)

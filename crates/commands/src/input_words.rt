@@ -56,7 +56,7 @@ fn read_piece<R: Read>(reader: &mut R, piece: &mut [u8]) -> Result<usize, Sessio
     Err(SessionError::Read)
 }
 
-/// Whether no input can be a file that has this piece, wherever the piece begins.
+/// Whether no input that has this piece can be a file, wherever the piece begins.
 fn is_hopeless(encoding: Encoding, piece: &[u8]) -> bool
     ensures { IsTrue result → (before : List ℕ) → BeginsNoFile encoding (before ++ piece.now) }
 {
@@ -66,8 +66,8 @@ fn is_hopeless(encoding: Encoding, piece: &[u8]) -> bool
     }
 }
 
-/// Reads an input to its end. Stops early at a piece with which no input can be a file, and at more bytes than a file can
-/// hold.
+/// Reads an input to its end. Stops early at a piece with which no input can be a file, and at more bytes than a file
+/// can hold.
 ///
 /// # Errors
 ///

@@ -54,7 +54,8 @@ returns-in_err-print g c =
     (errand_cut g.S.FileService.machine (λ bytes. bytes.items) c.put_words-text.result _ _ _ _ plan
     c.put_words-text.new.tally c.in_err-print.field-0.0
     (carried g.S.FileService.machine (λ bytes. bytes.items) c.put_words-text.result _ _ plan c.none-tally.result
-    c.put_words-text.new.tally c.none-tally.ensures c.put_words-text.ensures) c.in_err-print.ensures) _ (λ acts written p. p) tt)
+    c.put_words-text.new.tally c.none-tally.ensures c.put_words-text.ensures) c.in_err-print.ensures) _
+    (λ acts written p. p) tt)
 
 pub returns : goal.returns
 returns g c =
