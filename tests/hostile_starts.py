@@ -11,12 +11,13 @@ Each shape is made at four sizes, each twice the one before, up to images of LAR
 - one directory: a master directory as long, all of whose entries lead to one directory;
 - short runs: a file of a quarter of the disk's blocks, no two of them neighbours; a start, and a get.
 
-A refusal has to be the one that the image deserves. A start reads each block at most once, and takes at most as many
-steps as there are entries, times the logarithm: so twice the size has to take at most 2.4 times the instructions. They
-are counted by valgrind, which gives the same number in each run; without valgrind the sizes are tried alone. The last
-line says how many were as they should be.
+A refusal has to be the one that the image deserves. A start on n blocks takes at most 7,000 * n * log n instructions
+(log to base 2; a block has up to 42 entries), and twice the size at most 2.4 times as many. They are counted by valgrind,
+which gives the same number in each run; without valgrind the sizes are tried alone. The last line says how many were as
+they should be.
 """
 
+import math
 import os
 import re
 import shutil
@@ -27,6 +28,7 @@ import tempfile
 BLOCK = 1024
 ENTRIES = 42
 STEPS = 2.4
+MOST = 7000
 COUNTER = ["valgrind", "--tool=cachegrind", "--cache-sim=no", "--cachegrind-out-file=/dev/null"]
 COUNTED = re.compile(rb"I\s+refs:\s+([0-9,]+)")
 PROTECTION = 0o775 << 27
@@ -158,8 +160,10 @@ class Counts:
         counted = COUNTED.search(done.stderr)
         return int(counted[1].replace(b",", b"")) if counted else 0
 
-    def growth(self, what, costs):
-        """Each cost is at most so many times the one before."""
+    def growth(self, what, sizes, costs):
+        """The costs are within the bound, and each is at most so many times the one before."""
+        for size, cost in zip(sizes, costs):
+            self.expect(cost <= MOST * size * math.log2(size), f"{what}, {size} blocks: {cost} instructions")
         ratios = [after / before for before, after in zip(costs, costs[1:]) if before]
         print(f"{what}: " + ", ".join(f"{cost / 1e6:.1f}" for cost in costs) + " million instructions")
         for ratio in ratios:
@@ -183,7 +187,7 @@ def main():
                 image.save()
                 costs.append(counts.cost(image, ["list", path], wanted, f"{what}, {size} blocks"))
                 os.remove(path)
-            counts.growth(what, costs)
+            counts.growth(what, sizes, costs)
         starts, gets = [], []
         for size in sizes:
             image = Image(program, path, size)
@@ -191,8 +195,8 @@ def main():
             starts.append(counts.cost(image, ["run", path], b"", f"short runs, {size} blocks"))
             gets.append(counts.cost(image, ["get", path, "10,20", "BIG"], text, f"get of short runs, {size} blocks"))
             os.remove(path)
-        counts.growth("short runs, a start", starts)
-        counts.growth("short runs, a get", gets)
+        counts.growth("short runs, a start", sizes, starts)
+        counts.growth("short runs, a get", sizes, gets)
     print(f"{counts.count - counts.failed} of {counts.count} as they should be")
     return 1 if counts.failed else 0
 
