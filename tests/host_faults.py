@@ -364,8 +364,8 @@ def a_file_that_came_in_its_place(tries):
 
 
 def an_input_without_an_end(tries):
-    """An input of `put` is read only as far as a file can hold it, or up to a byte that isn't text. A list that comes to
-    have more than 16 MiB takes places for 32 MiB, half of which it never touches."""
+    """An input of `put` is read only as far as a file can hold it, or up to a byte that isn't text. A list that comes
+    to have more than 16 MiB takes places for 32 MiB, half of which it never touches."""
     inputs = [
         (["yes"], [], 1 << 25, b"?No room\n", "more than 10485760 bytes, which no file can hold"),
         (["yes"], ["--words"], 1 << 26, b"?No room\n", "more than 16777216 bytes, which no file can hold"),

@@ -12,9 +12,9 @@ Each shape is made at four sizes, each twice the one before, up to images of LAR
 - short runs: a file of a quarter of the disk's blocks, no two of them neighbours; a start, and a get.
 
 A refusal has to be the one that the image deserves. A start on n blocks takes at most 7,000 * n * log n instructions
-(log to base 2; a block has up to 42 entries), and twice the size at most 2.4 times as many. They are counted by valgrind,
-which gives the same number in each run; without valgrind the sizes are tried alone. The last line says how many were as
-they should be.
+(log to base 2; a block has up to 42 entries), and twice the size at most 2.4 times as many. They are counted by
+valgrind, which gives the same number in each run; without valgrind the sizes are tried alone. The last line says how
+many were as they should be.
 """
 
 import math
