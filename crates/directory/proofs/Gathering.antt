@@ -1,8 +1,8 @@
 -- Entries that are gathered beside the places of their keys: where a new key belongs among these, and that they stay in
 -- step. `o` says that the order of the keys is total, `exact` that only equal keys tie in it, and `keyed` that the
 -- keys compare by it.
-use Rattle.std.proofs.Common.{◌≡◌, ◌⊎◌, inl, inr, ℕ, zero, suc, ◌<◌, ◌≤◌, List, [], ◌∷◌, ◌++◌, length, take, drop, map}
-use Rattle.std.proofs.Common.{slice_get, Option, Some, None, Bool, true, false, cond, refl, sym, ap, subst, ◌∙◌, arith}
+use Rattle.std.proofs.Common.{◌≡◌, ℕ, suc, List, [], ◌∷◌, ◌++◌, length, take, drop, map}
+use Rattle.std.proofs.Common.{slice_get, Option, Some, None, true, false, cond, refl, sym, ap, subst, ◌∙◌, arith}
 use Rattle.std.proofs.Common.{Ordering, Less, Equal, Greater}
 use Rattle.std.specs.Option.{is_some}
 use Rattle.std.proofs.lemmas.List.{length-map, map_push}
@@ -16,7 +16,7 @@ use Rattle.std.specs.FinMap.{IsAntisymmetric}
 use Rattle.std.specs.FinMap.Entries.{find}
 use Rattle.std.proofs.lemmas.Option.{slice_get_within}
 use Rattle.meaning.proofs.MapLaws.{some_none, some_same}
-use Rattle.directory.specs.Indexes.{HasKeyAt, Compares, IsGap, IsInserted, IsIndex, AreGathered}
+use Rattle.directory.specs.Indexes.{HasKeyAt, Compares, IsGap, AreGathered}
 use Rattle.directory.proofs.Orders.{get-push, get-push_last}
 use Rattle.directory.proofs.Indexing.{index_pushed, index_nil, none_found, nowhere_found}
 

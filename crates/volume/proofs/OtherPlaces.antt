@@ -1,9 +1,9 @@
 -- A version that was read at a prime block shows that no other place's prime block is there.
-use Rattle.std.proofs.Common.{◌≡◌, ◌⊎◌, inl, inr, ℕ, ◌*◌, ◌/◌, ◌%◌, ◌<◌, ◌^◌, ◌+◌, ◌&&◌, Bool, true, false, cond, not, eqb, eq-eqb, sym, ap, ◌∙◌, arith}
+use Rattle.std.proofs.Common.{◌≡◌, ◌⊎◌, inl, inr, ℕ, ◌*◌, ◌/◌, ◌<◌, ◌^◌, ◌+◌, ◌&&◌, Bool, true, false, cond, not, eqb, eq-eqb, sym, ap, ◌∙◌, arith}
 use Rattle.words36.specs.declared.names.FileName.{FileName}
 use Rattle.blockdisk.specs.Disk.{Contents}
 use Rattle.meaning.specs.Retrieval.{date_limit}
-use Rattle.meaning.specs.Retrieval.{Prime, prime_block, first_extension}
+use Rattle.meaning.specs.Retrieval.{prime_block, first_extension}
 use Rattle.meaning.specs.Stands.{place_of}
 use Rattle.meaning.proofs.MapLaws.{some_same}
 use Rattle.retrieval.specs.Primes.{with_length}

@@ -1,5 +1,4 @@
-use Rattle.std.proofs.Common.{◌≡◌, map, None, subst, ◌∙◌}
-use Rattle.std.specs.FinMap.Entries.{find}
+use Rattle.std.proofs.Common.{subst, ◌∙◌}
 use Rattle.meaning.specs.Faults.{InSpace}
 use Rattle.directory.proofs.EntryReading.{good_push}
 use Rattle.directory.proofs.load.push_entry.Goals as goal
