@@ -1,4 +1,4 @@
-ghost use Rattle.std.specs.Prelude.{◌≡◌, ◌++◌, ◌∷◌, [], IfOk, OnOk, IsErrOf, None, map};
+ghost use Rattle.std.specs.Prelude.{◌≡◌, ◌++◌, ◌∷◌, [], IfOk, OnOk, OnErr, IsErrOf, None, map};
 ghost use Rattle.std.specs.FinMap.Entries.{find};
 ghost use Rattle.directory.specs.declared.gathered.GatherError.TheVariants.{Again};
 
@@ -81,6 +81,7 @@ impl<E: Entry> Gathered<E> {
     pub(crate) fn push(&mut self, entry: E) -> Result<(), GatherError>
         ensures more { OnOk result (self.new ≡ self.old ++ entry ∷ []) }
         ensures absent { OnOk result (find E.order (E.view entry).0 (map E.view self.old) ≡ None) }
+        ensures same { OnErr result (self.new ≡ self.old) }
         ensures again { IsErrOf result Again → find E.order (E.view entry).0 (map E.view self.old) ≡ None → ⊥ }
     {
         let key = entry.key();
