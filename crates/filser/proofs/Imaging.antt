@@ -1,6 +1,6 @@
 -- What becomes of images and their disks.
 use Rattle.std.proofs.Common.{◌≡◌, ◌⊎◌, inl, inr, ⊎_elim, ℕ, List, Option, Some, Result, Ok, Err, OnOk, refl}
-use Rattle.std.proofs.Common.{sym, subst, ◌∙◌, ◌+◌, ◌-◌, ◌*◌, ◌^◌, min, true, IfOk, ap, length, replicate}
+use Rattle.std.proofs.Common.{sym, subst, ◌∙◌, ◌+◌, ◌-◌, ◌*◌, ◌^◌, min, IfOk, ap, length, replicate}
 use Rattle.std.proofs.Common.{arith}
 use Rattle.std.proofs.lemmas.List.{length-replicate}
 use Rattle.std.specs.Prelude.{IsErrOf, option_map, None as Nothing}

@@ -1,5 +1,5 @@
 -- Streams that lead to no file of some words.
-use Rattle.std.proofs.Common.{◌≡◌, ◌⊎◌, ◌<◌, ◌≤◌, ◌+◌, inl, inr, ℕ, List, Bool, true, false, Option, IsTrue, IsFalse}
+use Rattle.std.proofs.Common.{◌≡◌, ◌<◌, ◌≤◌, ◌+◌, inl, inr, ℕ, List, Bool, true, false, Option, IsTrue, IsFalse}
 use Rattle.std.proofs.Common.{All, map, take, length, get_or, subst, sym, refl}
 use Rattle.std.proofs.lemmas.List.{take_all, take_more}
 use Rattle.std.proofs.lemmas.List.Elements.{All-map, All-push}
