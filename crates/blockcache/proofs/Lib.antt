@@ -1,2 +1,4 @@
+mod Ahead
 mod Held
 mod Recalled
+mod Seen

@@ -29,11 +29,28 @@ one_place [] words one = cc
 one_place (place ∷ []) words one = refl
 one_place (place ∷ next ∷ more) words one = cc
 
--- a run of one place that is read as a block is, which is kept, is filled with that
-pub run_recalled : (o : Option (List ℕ)) (places : List (List ℕ)) (read : List ℕ) (Inner Kept : Type 0)
-    → length places ≡ 1 → IfSome o (λ words. (◌≡◌ {A = Result (List ℕ) Fault} (Ok read) (Ok words)) × Inner × Kept)
-    → IfSome o (λ words. (◌≡◌ {A = Result (Option ℕ) Fault} (Ok None) (Ok None)) × (slice_set places 0 read ≡ words ∷ [])
-    × Inner × Kept)
-run_recalled None places read inner kept one was = was
-run_recalled (Some words) places read inner kept one was =
-    (refl, one_place places read one ∙ ap (λ ws. ws ∷ []) (same_words read words was.0), was.1, was.2)
+-- A run of one place that is read as a block is, which is kept, is filled with that.
+module _ (o : Option (List ℕ)) (places : List (List ℕ)) (read : List ℕ) (one : length places ≡ 1) where
+  pub run_recalled : (Inner Kept Near : Type 0)
+      → IfSome o (λ words. (◌≡◌ {A = Result (List ℕ) Fault} (Ok read) (Ok words)) × Inner × Kept × Near)
+      → IfSome o (λ words. (◌≡◌ {A = Result (Option ℕ) Fault} (Ok None) (Ok None))
+      × (slice_set places 0 read ≡ words ∷ []) × Inner × Kept × Near)
+  run_recalled inner kept near was = (elim o as (λ o. IfSome o (λ words. (◌≡◌ {A = Result (List ℕ) Fault} (Ok read)
+      (Ok words)) × inner × kept × near) → IfSome o (λ words. (◌≡◌ {A = Result (Option ℕ) Fault} (Ok None) (Ok None))
+      × (slice_set places 0 read ≡ words ∷ []) × inner × kept × near)) [
+        | None ↦ λ was. was
+        | Some words ↦ λ was.
+            (refl, one_place places read one ∙ ap (λ ws. ws ∷ []) (same_words read words was.0), was.1, was.2, was.3)
+      ]) was
+
+  pub run_near : (Inner : Type 0)
+      → IfSome o (λ words. (◌≡◌ {A = Result (List ℕ) Fault} (Ok read) (Ok words)) × Inner)
+      → IfSome o (λ words. (◌≡◌ {A = Result (Option ℕ) Fault} (Ok None) (Ok None))
+      × (slice_set places 0 read ≡ words ∷ []) × Inner)
+  run_near inner was = (elim o as (λ o. IfSome o (λ words. (◌≡◌ {A = Result (List ℕ) Fault} (Ok read)
+      (Ok words)) × inner) → IfSome o (λ words. (◌≡◌ {A = Result (Option ℕ) Fault} (Ok None) (Ok None))
+      × (slice_set places 0 read ≡ words ∷ []) × inner)) [
+        | None ↦ λ was. was
+        | Some words ↦ λ was.
+            (refl, one_place places read one ∙ ap (λ ws. ws ∷ []) (same_words read words was.0), was.1)
+      ]) was

@@ -14,5 +14,7 @@
 #![tactic(auto)]
 
 mod cache;
+mod window;
+mod windows;
 
 pub use cache::Cached;
