@@ -203,7 +203,7 @@ ok = prints (line (codes "OK"))
 abbrev pub blocks_at_once : ℕ
 blocks_at_once = 16
 
--- INs, and behind each an OUT of the words that it moved
+-- INs, each followed by an OUT of the words that it moved
 unfoldable pub copies_runs : Moment → ℕ → Plan → Plan
 copies_runs moment zero next = next
 copies_runs moment (suc more) next = each moment (takes moment ∷ asks_out moment ∷ []) (copies_runs moment more next)
