@@ -1,10 +1,10 @@
 -- How a file is copied: its plan, step by step.
-use Rattle.std.proofs.Common.{◌≡◌, ◌≢◌, ℕ, zero, suc, ◌+◌, ◌-◌, ◌<◌, ◌≤◌, List, [], ◌∷◌, ◌++◌, refl, sym, ◌∙◌, ap}
+use Rattle.std.proofs.Common.{◌≡◌, ◌≢◌, ℕ, zero, suc, ◌+◌, ◌-◌, ◌/◌, ◌%◌, ◌<◌, ◌≤◌, List, [], ◌∷◌, ◌++◌, refl, sym, ◌∙◌, ap}
 use Rattle.std.proofs.Common.{subst, arith}
 use Rattle.words36.specs.declared.moment.Moment.{Moment}
 use Rattle.meaning.specs.Plans.{Plan, each, examines, fails, finds}
-use Rattle.meaning.specs.Plans.{writes, lists, takes, asks_out, calls, copies_blocks}
-use Rattle.meaning.specs.Plans.{copies_last, copies_body, until_end, blocks_said, file_words}
+use Rattle.meaning.specs.Plans.{writes, lists, takes, asks_out, calls, copies_runs, copies_blocks}
+use Rattle.meaning.specs.Plans.{copies_last, copies_body, until_end, blocks_said, file_words, blocks_at_once}
 use Rattle.meaning.specs.declared.command.Spec.{Spec}
 use Rattle.meaning.specs.declared.call.Call.TheVariants.{Close}
 use Rattle.meaning.specs.declared.call.Reply.{Reply}
@@ -28,13 +28,13 @@ pub each_both : (moment : Moment) (asked : List Event) (events more : List Event
 each_both moment asked events more next e = each_append moment events more next
     ∙ ap (λ (l : List Event). each moment l (each moment more next)) (sym e)
 
-block_copied : (moment : Moment) (more : ℕ) (next : Plan) → copies_blocks moment (suc more) next
-    ≡ each moment (takes moment ∷ asks_out moment ∷ []) (copies_blocks moment more next)
-unfolding copies_blocks
-block_copied moment more next = refl
+run_copied : (moment : Moment) (more : ℕ) (next : Plan) → copies_runs moment (suc more) next
+    ≡ each moment (takes moment ∷ asks_out moment ∷ []) (copies_runs moment more next)
+unfolding copies_runs
+run_copied moment more next = refl
 
-none_copied : (moment : Moment) (next : Plan) → copies_blocks moment 0 next ≡ next
-unfolding copies_blocks
+none_copied : (moment : Moment) (next : Plan) → copies_runs moment 0 next ≡ next
+unfolding copies_runs
 none_copied moment next = refl
 
 one_before : (more : ℕ) → more ≡ suc more - 1
@@ -64,43 +64,43 @@ module _ {S : Type 0} (machine : S → Machine) where
   led_first a b moment asked events more next rest e p = subst (λ (l : Plan). Led machine a b l rest)
       (sym (each_both moment asked events more next e)) p
 
-  -- Blocks.
+  -- Runs.
 
   module _ (a b c : S) (moment : Moment) (count i : ℕ) (asked : List Event) (is_asked : asked
       ≡ takes moment ∷ asks_out moment ∷ []) (h : i < count)
       (before : (next : Plan)
-      → Led machine a b (copies_blocks moment count next) (copies_blocks moment (count - i) next)) where
-    block_led : (next rest : Plan) → Led machine b c (each moment asked (copies_blocks moment (count - (i + 1)) next))
-        rest → Led machine a c (copies_blocks moment count next) rest
-    block_led next rest p =
-        led_on machine a b c (copies_blocks moment count next) (copies_blocks moment (count - i) next) rest
+      → Led machine a b (copies_runs moment count next) (copies_runs moment (count - i) next)) where
+    run_led : (next rest : Plan) → Led machine b c (each moment asked (copies_runs moment (count - (i + 1)) next))
+        rest → Led machine a c (copies_runs moment count next) rest
+    run_led next rest p =
+        led_on machine a b c (copies_runs moment count next) (copies_runs moment (count - i) next) rest
         (before next)
         (subst (λ (l : Plan). Led machine b c l rest)
-        (sym (ap (λ (k : ℕ). copies_blocks moment k next) (one_less count i h)
-        ∙ block_copied moment (count - (i + 1)) next))
-        (led_each b c moment asked (takes moment ∷ asks_out moment ∷ []) (copies_blocks moment (count - (i + 1)) next)
+        (sym (ap (λ (k : ℕ). copies_runs moment k next) (one_less count i h)
+        ∙ run_copied moment (count - (i + 1)) next))
+        (led_each b c moment asked (takes moment ∷ asks_out moment ∷ []) (copies_runs moment (count - (i + 1)) next)
         rest is_asked p))
 
-    pub blocks_more : ((next : Plan) → Led machine b c (each moment asked next) next) → (next : Plan)
-        → Led machine a c (copies_blocks moment count next) (copies_blocks moment (count - (i + 1)) next)
-    blocks_more p next = block_led next (copies_blocks moment (count - (i + 1)) next)
-        (p (copies_blocks moment (count - (i + 1)) next))
+    pub runs_more : ((next : Plan) → Led machine b c (each moment asked next) next) → (next : Plan)
+        → Led machine a c (copies_runs moment count next) (copies_runs moment (count - (i + 1)) next)
+    runs_more p next = run_led next (copies_runs moment (count - (i + 1)) next)
+        (p (copies_runs moment (count - (i + 1)) next))
 
-    pub blocks_fail : (reply : Reply) → ((next : Plan) → Led machine b c (each moment asked next) (fails moment reply))
-        → (next : Plan) → Led machine a c (copies_blocks moment count next) (fails moment reply)
-    blocks_fail reply p next = block_led next (fails moment reply) (p (copies_blocks moment (count - (i + 1)) next))
+    pub runs_fail : (reply : Reply) → ((next : Plan) → Led machine b c (each moment asked next) (fails moment reply))
+        → (next : Plan) → Led machine a c (copies_runs moment count next) (fails moment reply)
+    runs_fail reply p next = run_led next (fails moment reply) (p (copies_runs moment (count - (i + 1)) next))
 
-  pub blocks_all : (a b : S) (moment : Moment) (count i : ℕ) → count ≤ i
-      → ((next : Plan) → Led machine a b (copies_blocks moment count next) (copies_blocks moment (count - i) next))
-      → (next : Plan) → Led machine a b (copies_blocks moment count next) next
-  blocks_all a b moment count i h p next = subst (λ (l : Plan). Led machine a b (copies_blocks moment count next) l)
-      (ap (λ (k : ℕ). copies_blocks moment k next) (all_less count i h) ∙ none_copied moment next) (p next)
+  pub runs_all : (a b : S) (moment : Moment) (count i : ℕ) → count ≤ i
+      → ((next : Plan) → Led machine a b (copies_runs moment count next) (copies_runs moment (count - i) next))
+      → (next : Plan) → Led machine a b (copies_runs moment count next) next
+  runs_all a b moment count i h p next = subst (λ (l : Plan). Led machine a b (copies_runs moment count next) l)
+      (ap (λ (k : ℕ). copies_runs moment k next) (all_less count i h) ∙ none_copied moment next) (p next)
 
-  pub blocks_none : AlwaysStands machine → (a : S) (moment : Moment) (count : ℕ) (next : Plan)
-      → Led machine a a (copies_blocks moment count next) (copies_blocks moment (count - 0) next)
-  blocks_none stands a moment count next = subst
-      (λ (k : ℕ). Led machine a a (copies_blocks moment count next) (copies_blocks moment k next))
-      (sym (none_less count)) (led_still machine stands a (copies_blocks moment count next))
+  pub runs_none : AlwaysStands machine → (a : S) (moment : Moment) (count : ℕ) (next : Plan)
+      → Led machine a a (copies_runs moment count next) (copies_runs moment (count - 0) next)
+  runs_none stands a moment count next = subst
+      (λ (k : ℕ). Led machine a a (copies_runs moment count next) (copies_runs moment k next))
+      (sym (none_less count)) (led_still machine stands a (copies_runs moment count next))
 
   -- A body.
 
@@ -142,6 +142,14 @@ module _ {S : Type 0} (machine : S → Machine) (moment : Moment) where
 
 pub not_none : (n : ℕ) → n ≢ 0 → 0 < n
 not_none n h = omega arith
+
+-- What is left of whole blocks: the runs, and then those that make none.
+
+abbrev pub singles_behind : Moment → ℕ → Plan → Plan
+singles_behind moment blocks next = each moment (lists 128) (copies_runs moment (blocks % blocks_at_once) next)
+
+abbrev pub runs_behind : Moment → ℕ → Plan → Plan
+runs_behind moment blocks next = copies_runs moment (blocks / blocks_at_once) (singles_behind moment blocks next)
 
 -- What a copy asks: all of it, what is left once its size is known, and once its words are moved.
 

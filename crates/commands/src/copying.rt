@@ -1,7 +1,7 @@
 ghost use Rattle.std.specs.Prelude.{◌++◌, ◌∷◌, [], ◌+◌, ℕ, Some};
 ghost use Rattle.meaning.specs.Plans.{Plan, each, examines, finds as found, writes as written, lists as listed};
-ghost use Rattle.meaning.specs.Plans.{file_words, copies_blocks, copies_last, copies_body, blocks_said as said_blocks};
-ghost use Rattle.meaning.specs.Plans.{until_end, calls};
+ghost use Rattle.meaning.specs.Plans.{file_words, copies_runs, copies_blocks, copies_last, copies_body, until_end};
+ghost use Rattle.meaning.specs.Plans.{blocks_said as said_blocks, calls};
 ghost use Rattle.meaning.specs.declared.call.Call.TheVariants.{Close};
 ghost use Rattle.meaning.specs.declared.command.Command.TheVariants.{Copy as CopyLine};
 ghost use Rattle.commands.specs.Asking.{Led, followed};
@@ -11,13 +11,29 @@ use crate::answer::Tally;
 use crate::asking::{ask_all, examine};
 use crate::concluding::conclude;
 use crate::reading::{blocks_said, find_end, last_count};
-use crate::requests::{SIZE_WORD, closes, finds, goes_to, lists, puts, takes, writes};
+use crate::requests::{RUN_BLOCKS, RUN_WORDS, SIZE_WORD, closes, finds, goes_to, lists, puts, takes, writes};
 use crate::service::FileService;
 use meaning::{Reply, Spec};
 use std::alloc::{AllocError, Global};
 use words36::{BLOCK_WORDS, Moment, Ppn, Word};
 
-/// Copies so many whole blocks, from where the two files are.
+/// Copies by INs and OUTs, each of which moves the words that the command list names.
+fn copy_runs<S: FileService>(
+    alloc: Global,
+    service: &mut S,
+    moment: Moment,
+    runs: u32,
+) -> Result<(), Reply>
+    ensures { (next : Plan) → Led S.machine service.old service.new
+        (copies_runs moment runs next) (followed moment result (λ unit. next)) }
+{
+    for _ in 0..runs {
+        ask_all(alloc, service, &[takes(moment), puts(moment)])?;
+    }
+    Ok(())
+}
+
+/// Copies whole blocks, from where the two files are: by runs, and those that make none one by one.
 fn copy_blocks<S: FileService>(
     alloc: Global,
     service: &mut S,
@@ -27,10 +43,10 @@ fn copy_blocks<S: FileService>(
     ensures { (next : Plan) → Led S.machine service.old service.new
         (copies_blocks moment count next) (followed moment result (λ unit. next)) }
 {
-    for _ in 0..count {
-        ask_all(alloc, service, &[takes(moment), puts(moment)])?;
-    }
-    Ok(())
+    ask_all(alloc, service, &lists(RUN_WORDS))?;
+    copy_runs(alloc, service, moment, count / RUN_BLOCKS)?;
+    ask_all(alloc, service, &lists(BLOCK_WORDS as u32))?;
+    copy_runs(alloc, service, moment, count % RUN_BLOCKS)
 }
 
 /// Copies the words of the last block, which is block n.

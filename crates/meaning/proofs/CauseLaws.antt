@@ -10,7 +10,7 @@ use Rattle.meaning.specs.Plans.{Plan, Ask, Show, Say, Act, Asks, Looks, Conducts
 use Rattle.meaning.specs.Plans.{if_done, if_told, if_end, is_end, until_end, takes, asks_out, goes_to, finds, writes}
 use Rattle.meaning.specs.Plans.{lists, deposits, examines, fetches, takes_over, counts, sizes, says_words, last_said}
 use Rattle.meaning.specs.Plans.{same_words, block_address, file_words, blocks_said, blocks_at_once, asks_quota}
-use Rattle.meaning.specs.Plans.{copies_blocks, copies_last, copies_body, copies}
+use Rattle.meaning.specs.Plans.{copies_runs, copies_blocks, copies_last, copies_body, copies}
 use Rattle.meaning.specs.Plans.{types_runs, types_blocks, types_last, types_body, reads_file}
 use Rattle.meaning.specs.Plans.{asks_rename, deletes, protects, asks_make_dir, shows, begins}
 use Rattle.meaning.specs.Errands.{enters, creates, fills, announces, fills_parts, fills_all, parts_of, part_words}
@@ -143,12 +143,18 @@ module _ (moment : Moment) (IsEnd : Plan → Type 0) where
 
   -- COPY
 
-  copies_blocks_goes : (more : ℕ) (next : Plan) → GoesUntilRefused moment IsEnd next
-      → GoesUntilRefused moment IsEnd (copies_blocks moment more next)
-  unfolding copies_blocks
-  copies_blocks_goes zero next g = g
-  copies_blocks_goes (suc more) next g = each_goes (takes moment ∷ asks_out moment ∷ [])
-      (copies_blocks moment more next) (tt, (tt, tt)) (copies_blocks_goes more next g)
+  copies_runs_goes : (more : ℕ) (next : Plan) → GoesUntilRefused moment IsEnd next
+      → GoesUntilRefused moment IsEnd (copies_runs moment more next)
+  unfolding copies_runs
+  copies_runs_goes zero next g = g
+  copies_runs_goes (suc more) next g = each_goes (takes moment ∷ asks_out moment ∷ []) (copies_runs moment more next)
+      (tt, (tt, tt)) (copies_runs_goes more next g)
+
+  copies_blocks_goes : (blocks : ℕ) (next : Plan) → GoesUntilRefused moment IsEnd next
+      → GoesUntilRefused moment IsEnd (copies_blocks moment blocks next)
+  copies_blocks_goes blocks next g = each_goes (lists (blocks_at_once * 128)) _ (want_lists (blocks_at_once * 128))
+      (copies_runs_goes (blocks / blocks_at_once) _ (each_goes (lists 128) _ (want_lists 128)
+      (copies_runs_goes (blocks % blocks_at_once) next g)))
 
   copies_last_goes : (n size : ℕ) (next : Plan) → GoesUntilRefused moment IsEnd next
       → GoesUntilRefused moment IsEnd (copies_last moment n size next)

@@ -35,7 +35,7 @@ use Rattle.meaning.proofs.RoomSteps.{Fine, itself, same_le, channel_fine, placed
 module _ (pack : Pack) (s : State) (sound : IsSound s) (n : ℕ) (job : Job) (there : job_at s n
     ≡ Some job) (ch : ℕ) (c : Channel) (is : channel_at job ch ≡ Some c) where
   -- one name more, or the same names
-  names_more : (v : Version) (o : Output) (d : Directory Version) → writes_at s n ch ≡ Some o
+  pub names_more : (v : Version) (o : Output) (d : Directory Version) → writes_at s n ch ≡ Some o
       → get s.files o.place.ppn ≡ Some d → (found : Option Version) → get d.files o.place.name ≡ found
       → size (insert d.files o.place.name v) ≤ size d.files + creation o.place.ppn o
   names_more v o d w at (Some old) e = let h = size-insert_over name_total name_exact d.files o.place.name v old e in
@@ -55,7 +55,7 @@ module _ (pack : Pack) (s : State) (sound : IsSound s) (n : ℕ) (job : Job) (th
           ∙ ap (λ (x : Directory Version). get x.files o.place.name) (some_same (sym at ∙ h.1)) ∙ h.2 in cc
 
   -- the state with this file, and the channel as it closes
-  abbrev with_closed : Files Version → List ℕ → Option Channel → State
+  abbrev pub with_closed : Files Version → List ℕ → Option Channel → State
   with_closed files core x = record s {
     files = files;
     jobs = slice_set s.jobs n (Some (with_channel (record job { core = core }) ch x));
@@ -83,7 +83,7 @@ module _ (pack : Pack) (s : State) (sound : IsSound s) (n : ℕ) (job : Job) (th
       omega (arith, dirs, costs, pend)
 
   -- the output side with words put, and what these ask for
-  abbrev with_words : Output → List ℕ → Output
+  abbrev pub with_words : Output → List ℕ → Output
   with_words o words = record o {
     pending = record o.pending { body = splice o.pending.body o.next words };
     next = o.next + blocks_of (length words);
@@ -92,7 +92,7 @@ module _ (pack : Pack) (s : State) (sound : IsSound s) (n : ℕ) (job : Job) (th
   rises : (now was old new : ℕ) → now + old ≤ was + new → now ≤ was + (new - old)
   rises now was old new h = omega (arith, h)
 
-  last_needs : (o : Output) (last : Option (List ℕ)) → last_answer pack s c (Some o) last ≡ Done
+  pub last_needs : (o : Output) (last : Option (List ℕ)) → last_answer pack s c (Some o) last ≡ Done
       → finds_no_place pack s o (length (words_or_none last)) ≡ false
   last_needs o None e = let wrong = e in cc
   last_needs o (Some words) e = placed_needs pack s c o words e
@@ -142,14 +142,14 @@ module _ (pack : Pack) (s : State) (sound : IsSound s) (n : ℕ) (job : Job) (th
           (inl (channel_fine pack s sound n job there ch c x core is (few pending) (λ ppn. few (creation ppn))
           (good e)))
 
-  closes_none : (some keeps drops : Bool) (o : Option Output) → (some && not keeps && not drops) ≡ true
+  pub closes_none : (some keeps drops : Bool) (o : Option Output) → (some && not keeps && not drops) ≡ true
       → (if keeps then o else None) ≡ None
   closes_none true true drops o e = let wrong = e in cc
   closes_none false true drops o e = let wrong = e in cc
   closes_none true false drops o e = refl
   closes_none false false drops o e = refl
 
-  closes_few : (keeps : Bool) (f : Output → ℕ) (o : Option Output) → item f (if keeps then o else None) ≤ item f o
+  pub closes_few : (keeps : Bool) (f : Output → ℕ) (o : Option Output) → item f (if keeps then o else None) ≤ item f o
   closes_few true f o = itself (item f o)
   closes_few false f o = omega arith
 

@@ -1,6 +1,6 @@
 -- COPY: what it says, and the files that it leaves.
-use Rattle.std.proofs.Common.{◌≡◌, ◌⊎◌, inl, inr, ⊎_elim, ℕ, zero, suc, ◌+◌, ◌-◌, ◌*◌, ◌<◌, ◌≤◌, Bool}
-use Rattle.std.proofs.Common.{true}
+use Rattle.std.proofs.Common.{◌≡◌, ◌⊎◌, inl, inr, ⊎_elim, ℕ, zero, suc, ◌+◌, ◌-◌, ◌*◌, ◌/◌, ◌%◌, ◌<◌, ◌≤◌}
+use Rattle.std.proofs.Common.{Bool, true}
 use Rattle.std.proofs.Common.{false, if◌then◌else◌, List, [], ◌∷◌, ◌++◌, length, take, Some, refl}
 use Rattle.std.proofs.Common.{sym}
 use Rattle.std.proofs.Common.{ap, subst, ◌∙◌, arith}
@@ -26,8 +26,8 @@ use Rattle.meaning.specs.Step.{last_date, on_job, on_channel, of_job, call_of}
 use Rattle.meaning.specs.Texts.{Spoken}
 use Rattle.meaning.specs.Plans.{Plan, each, calls, finds, writes, lists, takes, asks_out}
 use Rattle.meaning.specs.Plans.{goes_to}
-use Rattle.meaning.specs.Plans.{copies_blocks, copies_last, copies_body, copies, until_end, if_end, is_end, fails}
-use Rattle.meaning.specs.Plans.{ends, ok}
+use Rattle.meaning.specs.Plans.{copies_runs, copies_blocks, copies_last, copies_body, copies, until_end, if_end}
+use Rattle.meaning.specs.Plans.{is_end, fails, ends, ok, blocks_at_once}
 use Rattle.meaning.specs.Plans.{list_words, file_words, open_words, examines, blocks_said}
 use Rattle.meaning.specs.Copies.{Comes, IsJobReady, HasHalfwordExtension, AreShort}
 use Rattle.meaning.specs.Copies.{IsLineRefused, IsOneChange, IsCopied, place_of}
@@ -51,7 +51,8 @@ use Rattle.meaning.proofs.OpenRuns.{open_channel, opening, reading, writing, wit
 use Rattle.meaning.proofs.OpenRuns.{job_open, not_none, Found, finds_done}
 use Rattle.meaning.proofs.EnterRuns.{side, outputs, Lists, list_pair, listing, writes_done}
 use Rattle.meaning.proofs.BlockRuns.{goes_done}
-use Rattle.meaning.proofs.CopyRuns.{Copying, with_body, both_done}
+use Rattle.meaning.proofs.CopyRuns.{Copying, with_body, both_done, one_block, whole_blocks, next_blocks, by_runs}
+use Rattle.meaning.proofs.CopyRuns.{runs_of}
 use Rattle.meaning.proofs.SizeRuns.{said_blocks, sizes_done, quiet_deposits, told}
 
 -- Job 1 with the whole body in the file that it writes.
@@ -96,47 +97,99 @@ settled_other reply done other status = settled_by (λ r. r.0 ≡ Stopped status
     other (λ is e. let wrong : Done ≡ Stopped status = e in cc) (λ differs e. ap other e)
 
 module _ (pack : Pack) (s : State) (j0 : Job) (there : job_at s 1 ≡ Some j0) (moment : Moment) where
-  -- One block more.
-  block_copied : (me : ℕ) (from : Place) (v : Version) (to : Place) (kind : Kind) (file : File) (k : ℕ) (j : Job)
-      → Copying me from v to kind file k j → Lists 128 j.core → (k + 1) * 128 ≤ length v.file.body
+  -- A run of blocks more.
+  run_copied : (me : ℕ) (from : Place) (v : Version) (to : Place) (kind : Kind) (file : File) (b count : ℕ) → 0 < b
+      → b ≤ blocks_at_once → count ≡ b * 128 → (k : ℕ) (j : Job) → Copying me from v to kind file k j
+      → Lists count j.core → (k + b) * 128 ≤ length v.file.body
       → (t : State) → AllDone pack (at s j) (takes moment ∷ asks_out moment ∷ []) t
-      → (j' : Job) × (t ≡ at s j') × Copying me from v to kind file (k + 1) j' × Lists 128 j'.core
-  block_copied me from v to kind file k j is named fits t all =
-      let d = both_done pack s j0 there moment me j from v to kind file k 128 t is (omega arith) (omega arith) named
-      (omega arith) all in
-      let words : k * 128 + 128 ≡ (k + 1) * 128 = omega arith in
-      let two : k + 2 ≡ k + 1 + 1 = omega arith in
-      let is' : Copying me from v to kind file (k + 1) d.0 = record {
+      → (j' : Job) × (t ≡ at s j') × Copying me from v to kind file (k + b) j' × Lists count j'.core
+  run_copied me from v to kind file b count some few size k j is named fits t all =
+      let d = both_done pack s j0 there moment me j from v to kind file k b count t is (omega arith) (omega arith)
+      (whole_blocks b count size) named (omega arith) all in
+      let words : k * 128 + count ≡ (k + b) * 128 = omega arith in
+      let is' : Copying me from v to kind file (k + b) d.0 = record {
         whole = d.2;
-        first = d.3 ∙ ap (λ n. Some (reading from v n)) two;
-        second = d.4 ∙ ap (λ n. Some (writing (side to kind (with_body file (take n v.file.body)) (k + 2)))) words
-            ∙ ap (λ n. Some (writing (side to kind (with_body file (take ((k + 1) * 128) v.file.body)) n))) two;
+        first = d.3;
+        second = d.4 ∙ ap (λ n. Some (writing (side to kind (with_body file (take n v.file.body)) (k + b + 1)))) words;
       } in
       (d.0, d.1, is', d.5)
 
-  -- Whole blocks, one after the other.
-  blocks_copied : (me : ℕ) (from : Place) (v : Version) (to : Place) (kind : Kind) (file : File) (next : Plan)
-      (said : Spoken) (new : Service) (more k : ℕ) (j : Job) → Copying me from v to kind file k j → Lists 128 j.core
-      → (k + more) * 128 ≤ length v.file.body
-      → Comes pack (Serving (at s j)) (copies_blocks moment more next) said new
+  -- Runs, one after the other.
+  runs_copied : (me : ℕ) (from : Place) (v : Version) (to : Place) (kind : Kind) (file : File) (said : Spoken)
+      (new : Service) (b count : ℕ) → 0 < b → b ≤ blocks_at_once → count ≡ b * 128 → (more k : ℕ) (next : Plan)
+      (j : Job) → Copying me from v to kind file k j → Lists count j.core → (k + more * b) * 128 ≤ length v.file.body
+      → Comes pack (Serving (at s j)) (copies_runs moment more next) said new
       → IsLineRefused s.files said new
-      ⊎ ((j' : Job) × Copying me from v to kind file (k + more) j' × Lists 128 j'.core
+      ⊎ ((j' : Job) × Copying me from v to kind file (k + more * b) j' × Lists count j'.core
       × Comes pack (Serving (at s j')) next said new)
-  unfolding copies_blocks
-  blocks_copied me from v to kind file next said new zero k j is named fits c =
-      let e : k ≡ k + 0 = omega arith in
+  unfolding copies_runs
+  runs_copied me from v to kind file said new b count some few size zero k next j is named fits c =
+      let e : k ≡ k + zero * b = omega arith in
       inr (j, subst (λ n. Copying me from v to kind file n j) e is, named, c)
-  blocks_copied me from v to kind file next said new (suc more) k j is named fits c = ⊎_elim inl
+  runs_copied me from v to kind file said new b count some few size (suc more) k next j is named fits c = ⊎_elim inl
       (λ (t, all, same, rest).
-      let one : k + 1 + more ≡ k + suc more = omega arith in
-      let d = block_copied me from v to kind file k j is named (omega arith) t all in
+      let left : (k + b + more * b) * 128 ≤ length v.file.body = omega (arith, next_blocks b more k) in
+      let d = run_copied me from v to kind file b count some few size k j is named (omega arith) t all in
       subst (λ n. IsLineRefused s.files said new
-      ⊎ ((j' : Job) × Copying me from v to kind file n j' × Lists 128 j'.core
-      × Comes pack (Serving (at s j')) next said new)) one
-      (blocks_copied me from v to kind file next said new more (k + 1) d.0 d.2 d.3 (omega arith)
-      (subst (λ u. Comes pack (Serving u) (copies_blocks moment more next) said new) d.1 rest)))
-      (each_done pack (at s j) moment (takes moment ∷ asks_out moment ∷ []) (copies_blocks moment more next) said new
+      ⊎ ((j' : Job) × Copying me from v to kind file n j' × Lists count j'.core
+      × Comes pack (Serving (at s j')) next said new)) (next_blocks b more k)
+      (runs_copied me from v to kind file said new b count some few size more (k + b) next d.0 d.2 d.3 left
+      (subst (λ u. Comes pack (Serving u) (copies_runs moment more next) said new) d.1 rest)))
+      (each_done pack (at s j) moment (takes moment ∷ asks_out moment ∷ []) (copies_runs moment more next) said new
       (tt, (tt, tt)) c)
+
+  -- The command list names another number of words.
+  pub listed_anew : (me count : ℕ) (next : Plan) (said : Spoken) (new : Service) (j : Job) → IsJob me j
+      → Comes pack (Serving (at s j)) (each moment (lists count) next) said new
+      → IsLineRefused s.files said new
+      ⊎ ((core : List ℕ) × IsJob me (with_core j core) × Lists count core
+      × Comes pack (Serving (at s (with_core j core))) next said new)
+  listed_anew me count next said new j is come = ⊎_elim inl
+      (λ (t, all, same, rest). inr (
+        after_writes j.core (placed list_words (list_pair count)),
+        job_core me j (after_writes j.core (placed list_words (list_pair count))) is
+            (writes_length j.core (placed list_words (list_pair count))),
+        listing j.core count is.core,
+        subst (λ u. Comes pack (Serving u) next said new)
+            (deposits_done pack s j0 there (list_pair count) j list_words t all) rest,
+      ))
+      (each_done pack (at s j) moment (lists count) next said new (quiet_deposits (list_pair count) list_words) come)
+
+  relisted : (me : ℕ) (from : Place) (v : Version) (to : Place) (kind : Kind) (file : File) (k : ℕ) (j : Job)
+      (core : List ℕ) → Copying me from v to kind file k j → IsJob me (with_core j core)
+      → Copying me from v to kind file k (with_core j core)
+  relisted me from v to kind file k j core is whole =
+      record { whole = whole; first = is.first; second = is.second }
+
+  -- Whole blocks.
+  blocks_copied : (me : ℕ) (from : Place) (v : Version) (to : Place) (kind : Kind) (file : File) (next : Plan)
+      (said : Spoken) (new : Service) (blocks : ℕ) (j : Job) → Copying me from v to kind file 0 j
+      → blocks * 128 ≤ length v.file.body
+      → Comes pack (Serving (at s j)) (copies_blocks moment blocks next) said new
+      → IsLineRefused s.files said new
+      ⊎ ((j' : Job) × Copying me from v to kind file blocks j' × Lists 128 j'.core
+      × Comes pack (Serving (at s j')) next said new)
+  blocks_copied me from v to kind file next said new blocks j is fits come = ⊎_elim inl
+      (λ (core1, is1, named1, come1). ⊎_elim inl
+      (λ (j2, is2, named2, come2). ⊎_elim inl
+      (λ (core3, is3, named3, come3). subst (λ n. IsLineRefused s.files said new
+      ⊎ ((j' : Job) × Copying me from v to kind file n j' × Lists 128 j'.core
+      × Comes pack (Serving (at s j')) next said new)) (by_runs blocks)
+      (runs_copied me from v to kind file said new 1 128 (omega arith) (omega arith) (omega arith)
+      (blocks % blocks_at_once) runs next (with_core j2 core3) (relisted me from v to kind file runs j2 core3 is2 is3)
+      named3 (omega (arith, by_runs blocks)) come3))
+      (listed_anew me 128 singles said new j2 is2.whole come2))
+      (runs_copied me from v to kind file said new blocks_at_once (blocks_at_once * 128) (omega arith) (omega arith)
+      (omega arith) (blocks / blocks_at_once) 0 (each moment (lists 128) singles) (with_core j core1)
+      (relisted me from v to kind file 0 j core1 is is1) named1 (omega (arith, runs_of blocks)) come1))
+      (listed_anew me (blocks_at_once * 128)
+      (copies_runs moment (blocks / blocks_at_once) (each moment (lists 128) singles)) said new j is.whole come)
+    where
+      runs : ℕ
+      runs = 0 + blocks / blocks_at_once * blocks_at_once
+
+      singles : Plan
+      singles = copies_runs moment (blocks % blocks_at_once) next
 
   pub last_copied : (me : ℕ) (from : Place) (v : Version) (to : Place) (kind : Kind) (file : File) (more : ℕ)
       (next : Plan)
@@ -181,9 +234,8 @@ module _ (pack : Pack) (s : State) (j0 : Job) (there : job_at s 1 ≡ Some j0) (
             first = at_own j2 me 1 (reading from v (more + 1)) is2 (omega arith);
             second = at_other j2 1 2 (reading from v (more + 1)) (λ e. cc) ∙ second1 ∙ is.second;
           } in
-          let d = both_done pack s j0 there moment me j3 from v to kind file more count t is3 (omega arith)
-          (omega arith)
-          (listing j1.core count is1.core) (omega arith)
+          let d = both_done pack s j0 there moment me j3 from v to kind file more 1 count t is3 (omega arith)
+          (omega arith) (one_block count (omega arith) (omega arith)) (listing j1.core count is1.core) (omega arith)
           (subst (λ u. AllDone pack u (takes moment ∷ asks_out moment ∷ []) t) to3 parts.2.2) in
           let all_words : take (more * 128 + count) v.file.body ≡ v.file.body =
           take_all (more * 128 + count) v.file.body
@@ -191,8 +243,8 @@ module _ (pack : Pack) (s : State) (j0 : Job) (there : job_at s 1 ≡ Some j0) (
             d.0,
             (
               d.2,
-              (more + 2, d.3),
-              (more + 2, d.4 ∙ ap (λ b. Some (writing (side to kind (with_body file b) (more + 2)))) all_words),
+              (more + 1 + 1, d.3),
+              (more + 1 + 1, d.4 ∙ ap (λ b. Some (writing (side to kind (with_body file b) (more + 1 + 1)))) all_words),
             ),
             subst (λ u. Comes pack (Serving u) next said new) d.1 rest,
           )
@@ -321,13 +373,12 @@ module _ (pack : Pack) (s : State) (j0 : Job) (there : job_at s 1 ≡ Some j0) (
       empty [] e = refl
       empty (x ∷ xs) e = absurd (omega arith)
   body_copied me from v to kind file next said new j is first second named fits (suc more) count come = ⊎_elim inl
-      (λ (j1, is1, named1, rest). last_copied me from v to kind file more next said new j1 (begun j1 is1) named1 fits
+      (λ (j1, is1, named1, rest). last_copied me from v to kind file more next said new j1 is1 named1 fits
       (omega (arith, bounds)) (omega (arith, bounds))
       (subst (λ n. Comes pack (Serving (at s j1)) (copies_last moment n (size_word (length v.file.body)) next) said new)
       one_more rest))
-      (blocks_copied me from v to kind file
-      (copies_last moment (suc more) (size_word (length v.file.body)) next) said new
-      more 0 j (record { whole = is; first = first; second = second }) named (omega (arith, bounds)) come)
+      (blocks_copied me from v to kind file (copies_last moment (suc more) (size_word (length v.file.body)) next) said
+      new more j (record { whole = is; first = first; second = second }) (omega (arith, bounds)) come)
     where
       one_more : suc more ≡ more + 1
       one_more = omega arith
@@ -337,9 +388,6 @@ module _ (pack : Pack) (s : State) (j0 : Job) (there : job_at s 1 ≡ Some j0) (
         where
           bound : (more len : ℕ) → suc more ≡ blocks_of len → (more * 128 < len) × (len ≤ (more + 1) * 128)
           bound more len e = (grind arith, grind arith)
-
-      begun : (j1 : Job) → Copying me from v to kind file (0 + more) j1 → Copying me from v to kind file more j1
-      begun j1 is1 = let e : 0 + more ≡ more = omega arith in subst (λ n. Copying me from v to kind file n j1) e is1
 
 -- COPY as a whole.
 

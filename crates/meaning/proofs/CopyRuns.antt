@@ -1,5 +1,5 @@
 -- A body that job 1 copies from channel 1 to channel 2: whole blocks, and the words of the last.
-use Rattle.std.proofs.Common.{◌≡◌, inl, ℕ, ◌+◌, ◌*◌, ◌<◌, ◌≤◌}
+use Rattle.std.proofs.Common.{◌≡◌, inl, ℕ, suc, ◌+◌, ◌*◌, ◌/◌, ◌%◌, ◌<◌, ◌≤◌}
 use Rattle.std.proofs.Common.{List, [], ◌∷◌, ◌++◌, length, take, drop, min, Some}
 use Rattle.std.proofs.Common.{sym, ap, subst, ◌∙◌, arith}
 use Rattle.std.proofs.lemmas.List.{length-take, length-drop}
@@ -13,7 +13,7 @@ use Rattle.meaning.specs.CommandLists.{word_count}
 use Rattle.meaning.specs.Jobs.{Job, State, Kind, job_at, channel_at}
 use Rattle.meaning.specs.Room.{Pack}
 use Rattle.meaning.specs.Runs.{Steps}
-use Rattle.meaning.specs.Plans.{takes, asks_out, list_words, block_address}
+use Rattle.meaning.specs.Plans.{takes, asks_out, list_words, block_address, blocks_at_once}
 use Rattle.meaning.specs.declared.call.Reply.TheVariants.{Done}
 use Rattle.meaning.proofs.PlanRuns.{AllDone}
 use Rattle.meaning.proofs.CoreWrites.{writes_length, spared, window, written}
@@ -56,33 +56,50 @@ blocks_moved core count ahead there =
 pub one_block : (count : ℕ) → 0 < count → count ≤ 128 → blocks_of count ≡ 1
 one_block count some few = grind arith
 
+pub whole_blocks : (b count : ℕ) → count ≡ b * 128 → blocks_of count ≡ b
+whole_blocks b count size = grind arith
+
+-- Blocks by runs, and those that make none one by one.
+
+pub next_blocks : (b more k : ℕ) → k + b + more * b ≡ k + suc more * b
+next_blocks b more k = grind arith
+
+pub by_runs : (blocks : ℕ) → 0 + blocks / blocks_at_once * blocks_at_once + blocks % blocks_at_once * 1 ≡ blocks
+by_runs blocks = grind arith
+
+pub runs_of : (blocks : ℕ) → blocks / blocks_at_once * blocks_at_once ≤ blocks
+runs_of blocks = grind arith
+
 module _ (pack : Pack) (s : State) (j0 : Job) (there : job_at s 1 ≡ Some j0) (moment : Moment) where
-  -- words are taken and put: the file has so many more of the version
-  pub both_done : (me : ℕ) (j : Job) (from : Place) (v : Version) (to : Place) (kind : Kind) (file : File) (k count : ℕ)
-      (t : State) → Copying me from v to kind file k j → 0 < count → count ≤ 128 → Lists count j.core
+  -- words are taken and put: the file has them behind those that it had
+  pub both_done : (me : ℕ) (j : Job) (from : Place) (v : Version) (to : Place) (kind : Kind) (file : File)
+      (k b count : ℕ) (t : State) → Copying me from v to kind file k j → 0 < count → count ≤ 2048 → blocks_of count ≡ b
+      → Lists count j.core
       → k * 128 + count ≤ length v.file.body → AllDone pack (at s j) (takes moment ∷ asks_out moment ∷ []) t
-      → (j' : Job) × (t ≡ at s j') × IsJob me j' × (channel_at j' 1 ≡ Some (reading from v (k + 2)))
-      × (channel_at j' 2 ≡ Some (writing (side to kind (with_body file (take (k * 128 + count) v.file.body)) (k + 2))))
+      → (j' : Job) × (t ≡ at s j') × IsJob me j' × (channel_at j' 1 ≡ Some (reading from v (k + b + 1)))
+      × (channel_at j' 2 ≡ Some (writing (side to kind (with_body file (take (k * 128 + count) v.file.body))
+      (k + b + 1))))
       × Lists count j'.core
-  both_done me j from v to kind file k count t is some few lists there' (u, taking, (w, putting, same)) =
+  both_done me j from v to kind file k b count t is some few blocks lists there' (u, taking, (w, putting, same)) =
       let body = v.file.body in
       let ahead = words_from body (k + 1) in
       let begin = start_is k in
       let long : count ≤ length ahead = omega (arith, length-drop (block_start (k + 1)) body) in
-      let next : k + 1 + blocks_of (moved j.core count ahead) ≡ k + 2 =
-      omega (arith, blocks_moved j.core count ahead long, one_block count some few) in
+      let next : k + 1 + blocks_of (moved j.core count ahead) ≡ k + b + 1 =
+      omega (arith, blocks_moved j.core count ahead long, blocks) in
       let core = taken j.core count ahead in
       let c1 = with_core j core in
       let is1 : IsJob me c1 = job_core me j core is.whole
       (writes_length j.core (placed block_address (take count ahead))) in
-      let j1 = with_open c1 1 (reading from v (k + 2)) in
-      let first : u ≡ at s j1 = takes_done pack s j0 there moment me j from v (k + 1) count u is.whole is.first some
-      (omega arith) lists taking ∙ ap (λ n. at s (with_open c1 1 (reading from v n))) next in
-      let is2 : IsJob me j1 = job_open me c1 1 (reading from v (k + 2)) is1 in
+      let j1 = with_open c1 1 (reading from v (k + b + 1)) in
+      let first : u ≡ at s j1 = takes_done pack s j0 there moment me j from v (k + 1) count u is.whole is.first some few
+      lists taking ∙ ap (λ n. at s (with_open c1 1 (reading from v n))) next in
+      let is2 : IsJob me j1 = job_open me c1 1 (reading from v (k + b + 1)) is1 in
       let o = side to kind (with_body file (take (k * 128) body)) (k + 1) in
-      let out : channel_at j1 2 ≡ Some (writing o) = at_other c1 1 2 (reading from v (k + 2)) (λ e. cc) ∙ is.second in
+      let out : channel_at j1 2 ≡ Some (writing o) =
+      at_other c1 1 2 (reading from v (k + b + 1)) (λ e. cc) ∙ is.second in
       let second =
-      puts_done pack s j0 there moment me j1 o count w is2 out some (omega arith) (kept_lists j.core count ahead
+      puts_done pack s j0 there moment me j1 o count w is2 out some few (kept_lists j.core count ahead
       count lists) (subst (λ x. Steps pack x (asks_out moment) Done w) first putting) in
       let words : window core block_address count ≡ take count ahead = written j.core block_address count
       (take count ahead) (omega (arith, length-take count ahead)) (let l = is.whole.core in omega arith) in
@@ -91,24 +108,21 @@ module _ (pack : Pack) (s : State) (j0 : Job) (there : job_at s 1 ≡ Some j0) (
         length-take count
             ahead,
       ) in
-      let after : o.next + blocks_of (length (window core block_address count)) ≡ k + 2 =
-      ap (λ n. k + 1 + blocks_of n) long' ∙ two count some few in
+      let after : o.next + blocks_of (length (window core block_address count)) ≡ k + b + 1 =
+      ap (λ n. k + 1 + blocks_of n) long' ∙ omega (arith, blocks) in
       let body' : splice (take (k * 128) body) (k + 1) (window core block_address count) ≡ take (k * 128 + count) body =
       ap (splice (take (k * 128) body) (k + 1)) words
       ∙ put_at_end (take (k * 128) body) (k + 1) (take count ahead) (omega (arith, length-take (k * 128) body))
       ∙ ap (λ n. take (k * 128) body ++ take count (drop n body)) begin
       ∙ sym (take_more (k * 128) count body) in
-      let o' = side to kind (with_body file (take (k * 128 + count) body)) (k + 2) in
+      let o' = side to kind (with_body file (take (k * 128 + count) body)) (k + b + 1) in
       let j2 = with_open j1 2 (writing o') in (
         j2,
         same ∙ second
             ∙ ap {A = List ℕ × ℕ} (λ b. at s (with_open j1 2 (writing (side to kind (with_body file b.0) b.1))))
             (λ i. (body' i, after i)),
         job_open me j1 2 (writing o') is2,
-        at_other j1 2 1 (writing o') (λ e. cc) ∙ at_own c1 me 1 (reading from v (k + 2)) is1 (omega arith),
+        at_other j1 2 1 (writing o') (λ e. cc) ∙ at_own c1 me 1 (reading from v (k + b + 1)) is1 (omega arith),
         at_own j1 me 2 (writing o') is2 (omega arith),
         kept_lists j.core count ahead count lists,
       )
-    where
-      two : (n : ℕ) → 0 < n → n ≤ 128 → k + 1 + blocks_of n ≡ k + 2
-      two n some few = grind arith

@@ -60,6 +60,10 @@ pub mod RoomSteps
 pub mod RemovalRoom
 pub mod ClosingRoom
 pub mod RoomEvents
+pub mod ChargeSteps
+pub mod ChargedFiles
+pub mod ChargeEvents
+mod QuotaLaws
 pub mod SoundRuns
 pub mod OutcomeLaws
 pub mod StepLaws

@@ -32,9 +32,10 @@ use Rattle.meaning.proofs.CallRuns.{at, IsJob, with_core, deposits_done}
 use Rattle.meaning.proofs.OpenRuns.{reading, with_open, at_own, job_core, job_open, Found, finds_done}
 use Rattle.meaning.proofs.EnterRuns.{Lists, list_pair, listing}
 use Rattle.meaning.proofs.BlockRuns.{take_more, taken, moved, takes_done, goes_done}
-use Rattle.meaning.proofs.CopyRuns.{kept_lists, start_is, blocks_moved, one_block}
+use Rattle.meaning.proofs.CopyRuns.{kept_lists, start_is, blocks_moved, one_block, whole_blocks, next_blocks, by_runs}
+use Rattle.meaning.proofs.CopyRuns.{runs_of}
 use Rattle.meaning.proofs.SizeRuns.{said_blocks, sizes_done, fetched, told, quiet_deposits}
-use Rattle.meaning.proofs.CopyLaws.{until_done, quiet_finds, at_home}
+use Rattle.meaning.proofs.CopyLaws.{until_done, listed_anew, quiet_finds, at_home}
 
 -- Job 1 with a version that it reads, at a block.
 pub record Reads (me : ℕ) (place : Place) (v : Version) (n count : ℕ) (j : Job) : Type 0 where
@@ -53,9 +54,6 @@ no_parts count = omega arith
 next_part : (count more : ℕ) → count + more * count ≡ suc more * count
 next_part count more = grind arith
 
-next_blocks : (b more k : ℕ) → k + b + more * b ≡ k + suc more * b
-next_blocks b more k = grind arith
-
 parts_joined : (body : List ℕ) (from first others to sum : ℕ) → from + first ≡ to → first + others ≡ sum
     → take first (drop from body) ++ take others (drop to body) ≡ take sum (drop from body)
 parts_joined body from first others to sum place all =
@@ -63,13 +61,6 @@ parts_joined body from first others to sum place all =
     ∙ sym (drop-drop first from body))
     ∙ sym (take_more first others (drop from body))
     ∙ ap (λ n. take n (drop from body)) all
-
--- the blocks that are read by runs, and those that are read one by one
-by_runs : (blocks : ℕ) → 0 + blocks / blocks_at_once * blocks_at_once + blocks % blocks_at_once * 1 ≡ blocks
-by_runs blocks = grind arith
-
-runs_of : (blocks : ℕ) → blocks / blocks_at_once * blocks_at_once ≤ blocks
-runs_of blocks = grind arith
 
 words_by_runs : (blocks : ℕ)
     → blocks / blocks_at_once * (blocks_at_once * 128) + blocks % blocks_at_once * 128 ≡ blocks * 128
@@ -128,7 +119,7 @@ module _ (pack : Pack) (s : State) (j0 : Job) (there : job_at s 1 ≡ Some j0) (
   runs_read me place v said new b count some few size (suc more) k next j is fits come = ⊎_elim inl
       (λ (t, (u, steps, same), files, rest).
       let left : (k + b + more * b) * 128 ≤ length v.file.body = omega (arith, next_blocks b more k) in
-      let d = blocks_taken me place v k b count j u is (omega arith) (omega arith) (whole b count size) (omega arith)
+      let d = blocks_taken me place v k b count j u is (omega arith) (omega arith) (whole_blocks b count size) (omega arith)
       steps in
       let words = take count (drop (k * 128) v.file.body) in
       let behind : List ℕ → Plan = λ words. types_runs moment more count (λ others. next (words ++ others)) in
@@ -150,29 +141,16 @@ module _ (pack : Pack) (s : State) (j0 : Job) (there : job_at s 1 ≡ Some j0) (
       (subst (λ ws. Comes pack (Serving (at s d.0)) (behind ws) said new) d.3 got)))
       (each_done pack (at s j) moment (takes moment ∷ []) (fetches moment count block_address
       (λ words. types_runs moment more count (λ others. next (words ++ others)))) said new (tt, tt) come)
-    where
-      whole : (b count : ℕ) → count ≡ b * 128 → blocks_of count ≡ b
-      whole b count size = grind arith
 
   -- the command list names another number of words
-  listed_anew : (me : ℕ) (place : Place) (v : Version) (said : Spoken) (new : Service) (n was count : ℕ) (next : Plan)
+  read_anew : (me : ℕ) (place : Place) (v : Version) (said : Spoken) (new : Service) (n was count : ℕ) (next : Plan)
       (j : Job) → Reads me place v n was j → Comes pack (Serving (at s j)) (each moment (lists count) next) said new
       → IsLineRefused s.files said new
       ⊎ ((j' : Job) × Reads me place v n count j' × Comes pack (Serving (at s j')) next said new)
-  listed_anew me place v said new n was count next j is come = ⊎_elim inl
-      (λ (t, all, same, rest).
-      let core = after_writes j.core (placed list_words (list_pair count)) in
-      inr (
-        with_core j core,
-        record {
-          whole = job_core me j core is.whole (writes_length j.core (placed list_words (list_pair count)));
-          first = is.first;
-          named = listing j.core count is.whole.core;
-        },
-        subst (λ u. Comes pack (Serving u) next said new)
-            (deposits_done pack s j0 there (list_pair count) j list_words t all) rest,
-      ))
-      (each_done pack (at s j) moment (lists count) next said new (quiet_deposits (list_pair count) list_words) come)
+  read_anew me place v said new n was count next j is come = ⊎_elim inl
+      (λ (core, whole, named, rest).
+      inr (with_core j core, record { whole = whole; first = is.first; named = named }, rest))
+      (listed_anew pack s j0 there moment me count next said new j is.whole come)
 
   blocks_read : (me : ℕ) (place : Place) (v : Version) (said : Spoken) (new : Service) (blocks : ℕ)
       (next : List ℕ → Plan) (j : Job) → Reads me place v 1 128 j → blocks * 128 ≤ length v.file.body
@@ -191,11 +169,11 @@ module _ (pack : Pack) (s : State) (j0 : Job) (there : job_at s 1 ≡ Some j0) (
       ))
       (runs_read me place v said new 1 128 (omega arith) (omega arith) (omega arith) (blocks % blocks_at_once) runs
       (λ others. next (words ++ others)) j3 is3 (omega (arith, by_runs blocks)) come3))
-      (listed_anew me place v said new (runs + 1) (blocks_at_once * 128) 128
+      (read_anew me place v said new (runs + 1) (blocks_at_once * 128) 128
       (types_runs moment (blocks % blocks_at_once) 128 (λ others. next (words ++ others))) j2 is2 come2))
       (runs_read me place v said new blocks_at_once (blocks_at_once * 128) (omega arith) (omega arith) (omega arith)
       (blocks / blocks_at_once) 0 behind j1 is1 (omega (arith, runs_of blocks)) come1))
-      (listed_anew me place v said new 1 128 (blocks_at_once * 128)
+      (read_anew me place v said new 1 128 (blocks_at_once * 128)
       (types_runs moment (blocks / blocks_at_once) (blocks_at_once * 128) behind) j is come)
     where
       runs : ℕ

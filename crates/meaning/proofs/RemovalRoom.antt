@@ -35,7 +35,7 @@ use Rattle.meaning.proofs.BookingLaws.{sum_of, sum_channel, costs_kept}
 use Rattle.meaning.proofs.RoomLaws.{pending, creation, directory_cost_le, directories_changed, directories_more}
 use Rattle.meaning.proofs.RoomSteps.{Fine, was_there, fits, same_le}
 
-size-insert_le : (m : FinMap name_cmp Version) (k : FileName) (v : Version) → size (insert m k v) ≤ size m + 1
+pub size-insert_le : (m : FinMap name_cmp Version) (k : FileName) (v : Version) → size (insert m k v) ≤ size m + 1
 size-insert_le m k v = decide (get m k) refl
   where
     decide : (o : Option Version) → get m k ≡ o → size (insert m k v) ≤ size m + 1
@@ -60,10 +60,10 @@ grows_by_one n = omega arith
 module _ (pack : Pack) (s : State) (sound : IsSound s) (n : ℕ) (job : Job) (there : job_at s n
     ≡ Some job) (ch : ℕ) (c : Channel) (is : channel_at job ch ≡ Some c) where
   -- the state with these files
-  abbrev with_files : Files Version → State
+  abbrev pub with_files : Files Version → State
   with_files files = record s { files = files; jobs = slice_set s.jobs n (Some (rename_done job ch c)) }
 
-  sums_stay : (f : Output → ℕ) (files : Files Version) → sum_of f (with_files files) ≡ sum_of f s
+  pub sums_stay : (f : Output → ℕ) (files : Files Version) → sum_of f (with_files files) ≡ sum_of f s
   sums_stay f files =
       let h = sum_channel f s files n job job.core ch c (Some (record (clean c) { input = None })) there is in
       omega (arith, h)

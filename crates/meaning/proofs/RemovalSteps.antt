@@ -35,7 +35,7 @@ use Rattle.meaning.proofs.RoomLaws.{creation}
 -- What RENAME has seen where it is done.
 
 pub move_needs : (pack : Pack) (s : State) (job : Job) (old new : Place) → move_answer pack s job old new ≡ Done
-    → (has_no_directory s new ≡ false) × (crowds pack s old new ≡ false)
+    → (has_no_directory s new ≡ false) × (crowds pack s old new ≡ false) × (overfills s old new ≡ false)
 move_needs pack s job old new done =
     let a = passed (has_no_directory s new) (Refused 1) _ (λ x. cc) done in
     let b = passed (not (new.ppn == old.ppn) && not (may_create (directory_digit_at s job new))) (Refused 2) _
@@ -43,7 +43,8 @@ move_needs pack s job old new done =
     let d = passed (not (same_place new old) && not (is_absent s new)) (Refused 4) _ (λ x. cc) b.1 in
     let f = passed (not (same_place new old) && is_claimed s new) (Refused 3) _ (λ x. cc) d.1 in
     let g = passed (crowds pack s old new || overfills s old new) (Refused 0o14) _ (λ x. cc) f.1 in
-    (a.0, (or_false (crowds pack s old new) (overfills s old new) g.0).0)
+    let both = or_false (crowds pack s old new) (overfills s old new) g.0 in
+    (a.0, both.0, both.1)
 
 pub record Renames (pack : Pack) (s : State) (job : Job) (c : Channel) (e : ℕ) : Type 0 where
   pub side : Input

@@ -140,7 +140,7 @@ module _ (pack : Pack) (serial : ℕ) (s : State) (fresh : IsFresh s serial) (so
   call_event (DeleteDir e) moment = remove_event e
   call_event (Quota e) moment = limit_event e
 
-examined : (job : Job) (address : ℕ) → examine_answer job address ≢ Done
+pub examined : (job : Job) (address : ℕ) → examine_answer job address ≢ Done
 examined job address = decide (nat_lt address (length job.core))
   where
     decide : (b : Bool) → (if b then Value (slice_index job.core address) else AddressCheck) ≢ Done

@@ -105,12 +105,12 @@ same_le {a} {b} e = omega (arith, e)
 pub longer_none : (words block : ℕ) → length_after words block 0 ≡ words
 longer_none words block = refl
 
-at_output : (f : Output → ℕ) (o : Option Output) (k : ℕ) → ((o : Output) → f (record o { next = k }) ≡ f o)
+pub at_output : (f : Output → ℕ) (o : Option Output) (k : ℕ) → ((o : Output) → f (record o { next = k }) ≡ f o)
     → item f (output_at o k) ≡ item f o
 at_output f None k h = refl
 at_output f (Some o) k h = h o
 
-abbrev one_if : Bool → ℕ
+abbrev pub one_if : Bool → ℕ
 one_if t = if t then 1 else 0
 
 -- Rows of a job that is there.
@@ -186,7 +186,7 @@ pub placed_needs : (pack : Pack) (s : State) (c : Channel) (o : Output) (words :
 placed_needs pack s c o words e = (passed (finds_no_place pack s o (length words)) (reports c block_too_large) Done
     (λ x. cc) e).0
 
-out_needs : (pack : Pack) (s : State) (c : Channel) (output : Option Output) (found : Option Outgoing)
+pub out_needs : (pack : Pack) (s : State) (c : Channel) (output : Option Output) (found : Option Outgoing)
     → put_answer pack s c output found ≡ Done
     → (o : Output) × (output ≡ Some o) × (t : Outgoing) × (found ≡ Some t)
     × (finds_no_place pack s o (length t.words) ≡ false)
@@ -204,7 +204,7 @@ split_test false true full over before e = let wrong = e in cc
 split_test false false true over before e = let wrong = e in cc
 split_test false false false over before e = inr refl
 
-zero_is : (n : ℕ) → (n == 0) ≡ true → n ≡ 0
+pub zero_is : (n : ℕ) → (n == 0) ≡ true → n ≡ 0
 zero_is n e = eqb-true n 0 e
 
 pub up_to : (a b : ℕ) → b ≤ a + (b - a)
@@ -280,7 +280,7 @@ module _ (pack : Pack) (s : State) (sound : IsSound s) (n : ℕ) (job : Job) (th
       decide true e = rw e refl
       decide false e = rw e refl
 
-  entered_sum : (f : Output → ℕ) (core : List ℕ) (input : Option Input) (o : Output)
+  pub entered_sum : (f : Output → ℕ) (core : List ℕ) (input : Option Input) (o : Output)
       → sum_of f (with_job s n (with_channel (record job { core = core }) ch
       (Some (record (clean c) { input = input; output = Some o })))) ≤ sum_of f s + f o
   entered_sum f core input o =

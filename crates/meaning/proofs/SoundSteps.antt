@@ -11,7 +11,7 @@ use Rattle.meaning.specs.Rights.{may_create, may_look, may_append, may_update, m
 use Rattle.meaning.specs.Cores.{lies_outside}
 use Rattle.meaning.specs.Jobs.{Channel, Job, Input, Output, State, is_create, channel_at, job_at, with_channel}
 use Rattle.meaning.specs.Room.{Pack, output_of, version_of, is_claimed, entry_count, exceeds_room, has_no_room, growth}
-use Rattle.meaning.specs.Charges.{exceeds_limits}
+use Rattle.meaning.specs.Charges.{exceeds_left, exceeds_limits}
 use Rattle.meaning.specs.Outcomes.{settled, clean, stopped_in, refused_at}
 use Rattle.meaning.specs.Opening.{opens, open_answer, open_done, ring_answer, sets_up}
 use Rattle.meaning.specs.Looking.{lookup, lookup_answer, lookup_done, looked_up, place_at, has_no_directory, is_absent}
@@ -46,25 +46,29 @@ enter_needs pack s job c e place done =
 
 pub create_needs : (pack : Pack) (s : State) (job : Job) (place : Place) → create_answer pack s job place ≡ Done
     → (is_claimed s place ≡ false) × (exceeds_room pack s (1 + growth (entry_count s place.ppn)) ≡ false)
+    × (exceeds_left s place.ppn (1 + growth (entry_count s place.ppn)) ≡ false)
 create_needs pack s job place h =
     let a = passed (not (may_create (directory_digit_at s job place))) (Refused 2) _ (λ x. cc) h in
     let b = passed (is_claimed s place) (Refused 3) _ (λ x. cc) a.1 in
     let d = passed (exceeds_limits pack s place.ppn (1 + growth (entry_count s place.ppn))) (Refused 0o14) _ (λ x. cc)
     b.1 in
-    (b.0, (or_false (exceeds_room pack s (1 + growth (entry_count s place.ppn))) _ d.0).0)
+    let both = or_false (exceeds_room pack s (1 + growth (entry_count s place.ppn))) _ d.0 in
+    (b.0, both.0, both.1)
 
 pub supersede_needs : (pack : Pack) (s : State) (job : Job) (place : Place) → supersede_answer pack s job place ≡ Done
-    → (is_claimed s place ≡ false) × (has_no_room pack s ≡ false)
+    → (is_claimed s place ≡ false) × (has_no_room pack s ≡ false) × (exceeds_left s place.ppn 1 ≡ false)
 supersede_needs pack s job place h =
     let a = passed (not (may_look (directory_digit_at s job place)) || not (may_supersede (digit_at s job place)))
     (Refused 2) _ (λ x. cc) h in
     let b = passed (is_claimed s place) (Refused 3) _ (λ x. cc) a.1 in
     let d = passed (exceeds_limits pack s place.ppn 1) (Refused 0o14) _ (λ x. cc) b.1 in
-    (b.0, (or_false (has_no_room pack s) _ d.0).0)
+    let both = or_false (has_no_room pack s) _ d.0 in
+    (b.0, both.0, both.1)
 
 pub update_needs : (pack : Pack) (s : State) (job : Job) (place : Place) → update_answer pack s job place ≡ Done
     → (is_absent s place ≡ false) × (is_claimed s place ≡ false)
     × (exceeds_room pack s (present_cost (file_at s.files place)) ≡ false)
+    × (exceeds_left s place.ppn (present_cost (file_at s.files place)) ≡ false)
 update_needs pack s job place h =
     let n = passed (is_absent s place) (Refused 0) _ (λ x. cc) h in
     let a = passed (not (may_look (directory_digit_at s job place)) || not (may_append (digit_at s job place)))
@@ -72,7 +76,8 @@ update_needs pack s job place h =
     let b = passed (is_claimed s place) (Refused 3) _ (λ x. cc) a.1 in
     let d = passed (exceeds_limits pack s place.ppn (present_cost (file_at s.files place))) (Refused 0o14) _ (λ x. cc)
     b.1 in
-    (n.0, b.0, (or_false (exceeds_room pack s (present_cost (file_at s.files place))) _ d.0).0)
+    let both = or_false (exceeds_room pack s (present_cost (file_at s.files place))) _ d.0 in
+    (n.0, b.0, both.0, both.1)
 
 pub by_presence : (absent : Bool) (new old : Reply) → (if absent then new else old) ≡ Done
     → ((absent ≡ true) × (new ≡ Done)) ⊎ ((absent ≡ false) × (old ≡ Done))

@@ -12,7 +12,7 @@ use Rattle.meaning.specs.Sessions.{list}
 use Rattle.meaning.specs.Step.{step}
 use Rattle.meaning.specs.Lines.{Bytes, TooLong, lines}
 use Rattle.meaning.specs.Texts.{Spoken, both_said, silent, prints, day_text, entry_text, listing, row_text, table}
-use Rattle.meaning.specs.Plans.{Plan, Ask, Show, Say, each, fetches, finds, lists, counts, copies_blocks, types_runs}
+use Rattle.meaning.specs.Plans.{Plan, Ask, Show, Say, each, fetches, finds, lists, counts, copies_runs, types_runs}
 use Rattle.meaning.specs.Plans.{begins}
 use Rattle.meaning.specs.Transcripts.{login_said, core_words}
 use Rattle.meaning.specs.Scripts.{words_given}
@@ -86,7 +86,7 @@ session : (talk small hello (LoginLine ten_twenty ∷ CopyLine bar_spec foo_spec
       refused = true;
       broke = false;
     }
-unfolding empty insert get remove entries size dump_list areas_from each fetches copies_blocks types_runs
+unfolding empty insert get remove entries size dump_list areas_from each fetches copies_runs types_runs
     entry_text listing digits conduct
 session = refl
 
@@ -100,7 +100,7 @@ types : (talk small hello (LoginLine ten_twenty ∷ TypeLine foo_spec ∷ TypeLi
       refused = true;
       broke = false;
     }
-unfolding empty insert get remove entries size dump_list areas_from each fetches copies_blocks types_runs
+unfolding empty insert get remove entries size dump_list areas_from each fetches copies_runs types_runs
     entry_text listing digits conduct
 types = refl
 
@@ -113,14 +113,14 @@ names_change : (talk small hello (LoginLine ten_twenty ∷ MakeLine ten_twenty 0
     ∷ codes "?No such directory" ∷ codes "OK" ∷ codes "OK" ∷ codes "?File not found"
     ∷ codes "?Protection failure" ∷ codes "BAR    TXT     1  <155>   4-Jan-1975"
     ∷ codes "Total 1 blocks in 1 files [10,20]" ∷ []) true
-unfolding empty insert get remove entries size dump_list areas_from each fetches copies_blocks types_runs
+unfolding empty insert get remove entries size dump_list areas_from each fetches copies_runs types_runs
     entry_text listing digits conduct
 names_change = refl
 
 -- An empty directory.
 no_files : (talk small fresh (LoginLine ten_twenty ∷ DirectoryLine None ∷ [])).0
     ≡ two_lines (codes "Job 1 [10,20]" ∷ codes "No files [10,20]" ∷ []) false
-unfolding empty insert get remove entries size dump_list areas_from each fetches copies_blocks types_runs
+unfolding empty insert get remove entries size dump_list areas_from each fetches copies_runs types_runs
     entry_text listing digits conduct
 no_files = refl
 
@@ -130,7 +130,7 @@ copies_all : (copied : Spoken × State) → copied
     → (copied.0 ≡ two_lines (codes "Job 1 [10,20]" ∷ codes "OK" ∷ codes "BAR    TXT     3  <057>   1-Jan-1964"
     ∷ codes "FOO    TXT     3  <057>   1-Jan-1964" ∷ codes "Total 6 blocks in 2 files [10,20]" ∷ []) false)
     × (room small copied.1 ≡ pos 39)
-unfolding empty insert get remove entries size dump_list areas_from each fetches copies_blocks types_runs
+unfolding empty insert get remove entries size dump_list areas_from each fetches copies_runs types_runs
     entry_text listing digits conduct
 copies_all copied e = (ap (λ (c : Spoken × State). c.0) e, ap (λ (c : Spoken × State). room small c.1) e)
 
@@ -139,9 +139,28 @@ no_room : (copied : Spoken × State) → copied
     → (copied.0 ≡ two_lines (codes "Job 1 [10,20]" ∷ codes "?No room" ∷ codes "FOO    TXT    24  <057>   1-Jan-1964"
     ∷ codes "Total 24 blocks in 1 files [10,20]" ∷ []) true)
     × (room small copied.1 ≡ pos 22)
-unfolding empty insert get remove entries size dump_list areas_from each fetches copies_blocks types_runs
+unfolding empty insert get remove entries size dump_list areas_from each fetches copies_runs types_runs
     entry_text listing digits conduct
 no_room copied e = (ap (λ (c : Spoken × State). c.0) e, ap (λ (c : Spoken × State). room small c.1) e)
+
+-- So has one of eighteen blocks, sixteen of which go at once; where sixteen find no room, the line is refused.
+copies_by_runs : (copied : Spoken × State) → copied
+    ≡ talk small (foo_of 0o057 2300) (LoginLine ten_twenty ∷ CopyLine bar_spec foo_spec ∷ DirectoryLine None ∷ [])
+    → (copied.0 ≡ two_lines (codes "Job 1 [10,20]" ∷ codes "OK" ∷ codes "BAR    TXT    18  <057>   1-Jan-1964"
+    ∷ codes "FOO    TXT    18  <057>   1-Jan-1964" ∷ codes "Total 36 blocks in 2 files [10,20]" ∷ []) false)
+    × (room small copied.1 ≡ pos 9)
+unfolding empty insert get remove entries size dump_list areas_from each fetches copies_runs types_runs
+    entry_text listing digits conduct
+copies_by_runs copied e = (ap (λ (c : Spoken × State). c.0) e, ap (λ (c : Spoken × State). room small c.1) e)
+
+no_room_for_run : (copied : Spoken × State) → copied
+    ≡ talk small (foo_of 0o057 3840) (LoginLine ten_twenty ∷ CopyLine bar_spec foo_spec ∷ DirectoryLine None ∷ [])
+    → (copied.0 ≡ two_lines (codes "Job 1 [10,20]" ∷ codes "?No room" ∷ codes "FOO    TXT    30  <057>   1-Jan-1964"
+    ∷ codes "Total 30 blocks in 1 files [10,20]" ∷ []) true)
+    × (room small copied.1 ≡ pos 16)
+unfolding empty insert get remove entries size dump_list areas_from each fetches copies_runs types_runs
+    entry_text listing digits conduct
+no_room_for_run copied e = (ap (λ (c : Spoken × State). c.0) e, ap (λ (c : Spoken × State). room small c.1) e)
 
 -- The words of a last block are counted where no reply says how many there are: 44 of 300, and all of 256.
 abbrev logged_in : State → State

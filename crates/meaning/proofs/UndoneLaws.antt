@@ -198,7 +198,7 @@ stopped_sides job ch (Some c) e reply =
 refused_sides : (job : Job) (e : ℕ) (reply : Reply) → SameSides (refused_at job e reply) job
 refused_sides job e reply = refused_by (λ j. SameSides j job) job e reply (λ core. (refl, refl))
 
-undone_sides : (job : Job) (call : Call) (reply : Reply) → SameSides (job_undone job call reply) job
+pub undone_sides : (job : Job) (call : Call) (reply : Reply) → SameSides (job_undone job call reply) job
 undone_sides job (Open ch a) reply = (refl, refl)
 undone_sides job (Inbuf ch k) reply = (refl, refl)
 undone_sides job (Outbuf ch k) reply = (refl, refl)

@@ -199,10 +199,20 @@ until_end moment next = Ask (takes moment) (if_end moment next)
 abbrev pub ok : Spoken
 ok = prints (line (codes "OK"))
 
-unfoldable pub copies_blocks : Moment → ℕ → Plan → Plan
-copies_blocks moment zero next = next
-copies_blocks moment (suc more) next = each moment (takes moment ∷ asks_out moment ∷ [])
-    (copies_blocks moment more next)
+-- how many blocks an IN or an OUT moves, as long as that many whole ones are left
+abbrev pub blocks_at_once : ℕ
+blocks_at_once = 16
+
+-- INs, each followed by an OUT of the words that it moved
+unfoldable pub copies_runs : Moment → ℕ → Plan → Plan
+copies_runs moment zero next = next
+copies_runs moment (suc more) next = each moment (takes moment ∷ asks_out moment ∷ []) (copies_runs moment more next)
+
+-- whole blocks: by runs, and those that make none one by one
+abbrev pub copies_blocks : Moment → ℕ → Plan → Plan
+copies_blocks moment blocks next = each moment (lists (blocks_at_once * 128))
+    (copies_runs moment (blocks / blocks_at_once) (each moment (lists 128)
+    (copies_runs moment (blocks % blocks_at_once) next)))
 
 abbrev pub copies_last : Moment → ℕ → ℕ → Plan → Plan
 copies_last moment n size next = sizes moment n size
@@ -223,10 +233,6 @@ abbrev pub shows : ℕ → Plan
 shows owner = Show owner (λ answer. Say (list_said Columns owner answer))
 
 -- Typing: the words of whole blocks, then those of the last.
-
--- how many blocks an IN of a file that is read moves, as long as so many whole ones are left
-abbrev pub blocks_at_once : ℕ
-blocks_at_once = 16
 
 -- so many INs, each of which moves as many words
 unfoldable pub types_runs : Moment → ℕ → ℕ → (List ℕ → Plan) → Plan

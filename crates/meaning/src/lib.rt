@@ -48,9 +48,9 @@ pub use laws::{
     versions_fit_their_cost,
 };
 pub use machine::{
-    jobs_are_apart, moments_go_on, readers_keep_versions, reading_holds_still,
-    reading_takes_no_room, renames_move_one_version, room_is_not_overdrawn, runs_go_on,
-    runs_tell_no_serials, serials_are_not_seen, splices_put_words, states_are_sound,
+    jobs_are_apart, moments_go_on, quotas_are_not_overdrawn, readers_keep_versions,
+    reading_holds_still, reading_takes_no_room, renames_move_one_version, room_is_not_overdrawn,
+    runs_go_on, runs_tell_no_serials, serials_are_not_seen, splices_put_words, states_are_sound,
     undone_changes_nothing,
 };
 pub use maps::{list_laws, map_laws, sum_laws};

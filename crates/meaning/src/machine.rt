@@ -3,19 +3,21 @@ ghost use Rattle.std.specs.Prelude.{true, false, Some, None};
 ghost use Rattle.words36.specs.declared.moment.Moment.{Moment};
 ghost use Rattle.meaning.specs.declared.call.Event.{Event};
 ghost use Rattle.meaning.specs.declared.call.Event.TheVariants.{Call as Calls};
-ghost use Rattle.meaning.specs.declared.call.Call.TheVariants.{Lookup, Rename, In, DeleteDir};
+ghost use Rattle.meaning.specs.declared.call.Call.TheVariants.{Lookup, Rename, In, DeleteDir, Quota};
 ghost use Rattle.meaning.specs.declared.call.Reply.{Reply};
 ghost use Rattle.meaning.specs.declared.call.Reply.TheVariants.{Done, Refused, Failed};
 ghost use Rattle.blockdisk.specs.Disk.{Contents, MayLeave, LeavesOnly};
+ghost use Rattle.meaning.specs.Charges.{charge, quota_of, is_limited};
 ghost use Rattle.meaning.specs.Crashes.{StandsForState, StandsForEither, RunsOn};
-ghost use Rattle.meaning.specs.Files.{File, Files, Place};
+ghost use Rattle.meaning.specs.Files.{File, Files, Directory, Place};
 ghost use Rattle.meaning.specs.Holding.{SpareAll, FoundBy, MovesWordsOf};
 ghost use Rattle.meaning.specs.Jobs.{Channel, Input, Job, State, channel_at, job_at};
 ghost use Rattle.meaning.specs.Looking.{place_at};
+ghost use Rattle.meaning.specs.Maps.{get};
 ghost use Rattle.meaning.specs.Published.{Version, file_at, with_protection, without_serials};
 ghost use Rattle.meaning.specs.Renaming.{deletes_at, protection_at};
 ghost use Rattle.meaning.specs.Room.{Pack, booked, room};
-ghost use Rattle.meaning.specs.Runs.{Service, Serving, Broken, Answers, IsFresh, IsStart, AnswersAll, StepsAll};
+ghost use Rattle.meaning.specs.Runs.{Service, Serving, Broken, Answers, IsFresh, IsStart, AnswersAll, Steps, StepsAll};
 ghost use Rattle.meaning.specs.Sessions.{list};
 ghost use Rattle.meaning.specs.Sound.{holds_at, IsSound};
 ghost use Rattle.meaning.specs.Splices.{splice, length_after, block_start};
@@ -92,6 +94,17 @@ pub fn room_is_not_overdrawn()
     ensures { (pack : Pack) (serial : ℕ) (s : State) (event : Event) → IsFresh s serial → IsSound s
         → (step pack serial s event).0 ≡ Done
         → booked s < booked (step pack serial s event).1 → (k : ℕ) × (room pack (step pack serial s event).1 ≡ pos k) }
+{}
+
+/// No call but QUOTA takes a directory above its quota: what is charged stays within the quota that there was, and no
+/// other call changes a quota.
+pub fn quotas_are_not_overdrawn()
+    ensures within { (pack : Pack) (s t : State) (event : Event) (reply : Reply) (ppn : ℕ) → IsSound s
+        → Steps pack s event reply t → is_limited s ppn ≡ true → charge s ppn ≤ quota_of s ppn
+        → charge t ppn ≤ quota_of s ppn }
+    ensures quota { (pack : Pack) (s t : State) (event : Event) (reply : Reply) (ppn : ℕ) (d new : Directory Version)
+        → ((n e : ℕ) (moment : Moment) → event ≢ Calls n (Quota e) moment) → Steps pack s event reply t
+        → get s.files ppn ≡ Some d → get t.files ppn ≡ Some new → new.quota ≡ d.quota }
 {}
 
 /// Who reads a version keeps it where others rename, delete and remove: a RENAME closes the input side of its

@@ -1,25 +1,55 @@
-use Rattle.std.proofs.Common.{◌∷◌, [], arith}
+use Rattle.std.proofs.Common.{◌*◌, ◌/◌, ◌%◌}
 use Rattle.std.proofs.lemmas.Result.{err_from_is_err_and}
-use Rattle.commands.proofs.CopyingLaws.{blocks_none, blocks_more, blocks_fail, blocks_all}
+use Rattle.meaning.specs.Plans.{copies_blocks, copies_runs, lists, blocks_at_once}
+use Rattle.commands.proofs.LedLaws.{led_on}
+use Rattle.commands.proofs.CopyingLaws.{led_each, runs_behind, singles_behind}
 use Rattle.commands.proofs.copying.copy_blocks.Goals as goal
-
-pub loop-init : goal.loop-init
-loop-init g c next = blocks_none g.S.FileService.machine g.met.S.FileService.stands _ c.args.moment c.args.count next
-
-pub loop-preserved : goal.loop-preserved
-loop-preserved g c = blocks_more g.S.FileService.machine _ _ _ c.args.moment c.args.count c.loop.counter
-    (c.takes.result ∷ c.puts.result ∷ []) (λ i. c.takes.ensures i ∷ c.puts.ensures i
-    ∷ []) c.loop-test.true c.loop.invariant
-    (c.in_ok-ask_all.ensures c.args.moment)
 
 pub returns-in_err-ask_all : goal.returns-in_err-ask_all
 returns-in_err-ask_all g c =
     let p = err_from_is_err_and c.from_residual.result c.from_residual.ensures.1 in
-    rw (p.1, p.2) (blocks_fail g.S.FileService.machine _ _ _ c.args.moment c.args.count c.loop.counter
-    (c.takes.result ∷ c.puts.result ∷ []) (λ i. c.takes.ensures i ∷ c.puts.ensures i
-    ∷ []) c.loop-test.true c.loop.invariant
-    c.in_err-ask_all.field-0.0 (c.in_err-ask_all.ensures c.args.moment))
+    rw (p.1, p.2) (λ next. led_each g.S.FileService.machine _ _ c.args.moment c.lists.result
+    (lists (blocks_at_once * 128)) (runs_behind c.args.moment c.args.count next) _ c.lists.ensures
+    (c.in_err-ask_all.ensures c.args.moment (runs_behind c.args.moment c.args.count next)))
+
+pub returns-in_err-copy_runs : goal.returns-in_err-copy_runs
+returns-in_err-copy_runs g c =
+    let p = err_from_is_err_and c.from_residual-in_err-copy_runs.result c.from_residual-in_err-copy_runs.ensures.1 in
+    rw (p.1, p.2) (λ next. led_on g.S.FileService.machine _ _ _ (copies_blocks c.args.moment c.args.count next)
+    (runs_behind c.args.moment c.args.count next) _
+    (led_each g.S.FileService.machine _ _ c.args.moment c.lists.result (lists (blocks_at_once * 128))
+    (runs_behind c.args.moment c.args.count next) _ c.lists.ensures
+    (c.in_ok-ask_all.ensures c.args.moment (runs_behind c.args.moment c.args.count next)))
+    (c.in_err-copy_runs.ensures (singles_behind c.args.moment c.args.count next)))
+
+pub returns-in_err-ask_all-2 : goal.returns-in_err-ask_all-2
+returns-in_err-ask_all-2 g c =
+    let p = err_from_is_err_and c.from_residual-in_err-ask_all-2.result c.from_residual-in_err-ask_all-2.ensures.1 in
+    rw (p.1, p.2) (λ next. led_on g.S.FileService.machine _ _ _ (copies_blocks c.args.moment c.args.count next)
+    (singles_behind c.args.moment c.args.count next) _
+    (led_on g.S.FileService.machine _ _ _ (copies_blocks c.args.moment c.args.count next)
+    (runs_behind c.args.moment c.args.count next) _
+    (led_each g.S.FileService.machine _ _ c.args.moment c.lists.result (lists (blocks_at_once * 128))
+    (runs_behind c.args.moment c.args.count next) _ c.lists.ensures
+    (c.in_ok-ask_all.ensures c.args.moment (runs_behind c.args.moment c.args.count next)))
+    (c.in_ok-copy_runs.ensures (singles_behind c.args.moment c.args.count next)))
+    (led_each g.S.FileService.machine _ _ c.args.moment c.lists-2.result (lists 128)
+    (copies_runs c.args.moment (c.args.count % blocks_at_once) next) _ c.lists-2.ensures
+    (c.in_err-ask_all-2.ensures c.args.moment (copies_runs c.args.moment (c.args.count % blocks_at_once) next))))
 
 pub returns : goal.returns
-returns g c = blocks_all g.S.FileService.machine _ _ c.args.moment c.args.count c.loop.counter
-    (omega arith) c.loop.invariant
+returns g c next =
+    led_on g.S.FileService.machine _ _ _ (copies_blocks c.args.moment c.args.count next)
+    (singles_behind c.args.moment c.args.count next) _
+    (led_on g.S.FileService.machine _ _ _ (copies_blocks c.args.moment c.args.count next)
+    (runs_behind c.args.moment c.args.count next) _
+    (led_each g.S.FileService.machine _ _ c.args.moment c.lists.result (lists (blocks_at_once * 128))
+    (runs_behind c.args.moment c.args.count next) _ c.lists.ensures
+    (c.in_ok-ask_all.ensures c.args.moment (runs_behind c.args.moment c.args.count next)))
+    (c.in_ok-copy_runs.ensures (singles_behind c.args.moment c.args.count next)))
+    (led_on g.S.FileService.machine _ _ _ (singles_behind c.args.moment c.args.count next)
+    (copies_runs c.args.moment (c.args.count % blocks_at_once) next) _
+    (led_each g.S.FileService.machine _ _ c.args.moment c.lists-2.result (lists 128)
+    (copies_runs c.args.moment (c.args.count % blocks_at_once) next) _ c.lists-2.ensures
+    (c.in_ok-ask_all-2.ensures c.args.moment (copies_runs c.args.moment (c.args.count % blocks_at_once) next)))
+    (c.copy_runs-2.ensures next))
