@@ -120,12 +120,12 @@ first_good core h bytes there fits small job =
 
 -- The header then names the first buffer, and its ring isn't in use.
 
-at_header : (core : List ℕ) (h size : ℕ) → h + 3 ≤ length core → first_free < length core
+pub at_header : (core : List ℕ) (h size : ℕ) → h + 3 ≤ length core → first_free < length core
     → slice_index (ringed core h size) h ≡ join 0o400000 (buffer_at (base core) 0)
 at_header core h size there job =
     read_ringed core h size h (omega arith) job ∙ grind (arith, nat_tests)
 
-join_right : (l a : ℕ) → a < 2 ^ 18 → right (join l a) ≡ a
+pub join_right : (l a : ℕ) → a < 2 ^ 18 → right (join l a) ≡ a
 join_right l a low = grind (arith, common_steps)
 
 join_marked : (a : ℕ) → is_marked (join 0o400000 a) ≡ true

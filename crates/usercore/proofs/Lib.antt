@@ -1,3 +1,4 @@
 pub mod WriteLaws
 pub mod ListLaws
 pub mod FirstRings
+pub mod AreaLaws

@@ -2,3 +2,4 @@ pub mod CoreWords
 pub mod ByteSizes
 pub mod Steps
 pub mod FirstRings
+pub mod Areas

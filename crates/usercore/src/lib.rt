@@ -13,6 +13,8 @@
 //! 5. `ring_check` says beforehand whether an IN, an OUT or a CLOSE can be done, and which words it hands to
 //!    the file. (`words`, `none`) A step that can't be done changes nothing, nor does its setup. (`kept`)
 //! 6. Memory is taken by `Core::new` alone.
+//! 7. `setup_areas`, `in_areas` and `out_areas` tell beforehand which words a setup, an IN and an OUT may change. No
+//!    other word changes. (`set_up`, `filled`, `emptied`)
 //!
 //! Headers, buffers, byte pointers and command words are those of the TOPS-10 Monitor Calls Manual. The sizes of
 //! a core, the order of the writes, how many command words are looked at and how many words they may name are
@@ -25,7 +27,9 @@ mod buffer;
 mod byte_size;
 mod command_list;
 mod error;
+mod laws;
 mod moves;
+mod ring_areas;
 mod ring_check;
 mod ring_parts;
 mod ring_words;
@@ -36,6 +40,8 @@ pub use area::Area;
 pub use byte_size::ByteSize;
 pub use command_list::MAX_COMMANDS;
 pub use error::CoreError;
+pub use laws::steps_change_their_areas;
 pub use moves::word_count;
+pub use ring_areas::HEADER_WORDS;
 pub use ring_check::RingStep;
-pub use user_core::{Core, LARGEST_CORE, SMALLEST_CORE};
+pub use user_core::{Core, FIRST_FREE, LARGEST_CORE, SMALLEST_CORE};

@@ -112,7 +112,7 @@ impl Core {
 }
 
 /// How many buffers a number asks for.
-fn buffers_of(buffers: u32) -> usize
+pub(crate) fn buffers_of(buffers: u32) -> usize
     ensures value { result ≡ buffers_of buffers }
     ensures fits { result < 2 ^ 32 }
 {

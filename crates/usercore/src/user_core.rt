@@ -16,7 +16,7 @@ pub const SMALLEST_CORE: u32 = 0o1000;
 pub const LARGEST_CORE: u32 = 0o400000;
 
 /// The address of the job word whose right half says where the next ring of buffers goes.
-pub(crate) const FIRST_FREE: u32 = 0o121;
+pub const FIRST_FREE: u32 = 0o121;
 
 /// The address of the first word of a job's first ring.
 const RINGS_BEGIN: u32 = 0o140;

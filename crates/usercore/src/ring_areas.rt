@@ -1,0 +1,83 @@
+ghost use Rattle.std.specs.Prelude.{◌≡◌, ◌≤◌};
+ghost use Rattle.meaning.specs.Rings.{buffers_of};
+ghost use Rattle.usercore.specs.Areas.{setup_areas, step_areas, in_areas, out_areas};
+
+use crate::buffer::BUFFER_WORDS;
+use crate::rings::buffers_of;
+use crate::user_core::FIRST_FREE;
+use crate::{Area, Core};
+
+/// How many words the header of a ring has.
+pub const HEADER_WORDS: usize = 3;
+
+/// Which words the steps of a ring may change.
+impl Core {
+    /// What a setup of so many buffers, where 0 means 2, may change: the job word that says where rings go, the
+    /// buffers, and the header.
+    pub fn setup_areas(&self, header: u32, buffers: u32) -> [Area; 3]
+        ensures { result ≡ setup_areas self.now header (buffers_of buffers) }
+    {
+        self.ring_areas(header as usize, buffers_of(buffers))
+    }
+
+    /// What an IN may change: the header, the word of the buffer that was the current one, and the buffer that is
+    /// filled. Where the header names no buffer, it is what a setup of two may change.
+    pub fn in_areas(&self, header: u32) -> [Area; 3]
+        ensures { result ≡ in_areas self.now header }
+    {
+        self.step_areas(header as usize, 1)
+    }
+
+    /// What an OUT may change: the header, the word and the count of the buffer that was the current one, and the
+    /// buffer that is emptied. Where the header names no buffer, it is what a setup of two may change.
+    pub fn out_areas(&self, header: u32) -> [Area; 3]
+        ensures { result ≡ out_areas self.now header }
+    {
+        self.step_areas(header as usize, 2)
+    }
+
+    /// What a step may change that writes so many words of the buffer that was the current one.
+    fn step_areas(&self, header: usize, left: usize) -> [Area; 3]
+        ensures { result ≡ step_areas self.now header left }
+    {
+        let current = self.current(header);
+        if current == 0 {
+            return self.ring_areas(header, 2);
+        }
+        [
+            Area {
+                first: header,
+                count: HEADER_WORDS,
+            },
+            Area {
+                first: current,
+                count: left,
+            },
+            Area {
+                first: self.target(header).saturating_sub(1),
+                count: BUFFER_WORDS,
+            },
+        ]
+    }
+
+    /// What a setup of so many buffers may change.
+    fn ring_areas(&self, header: usize, buffers: usize) -> [Area; 3]
+        requires { buffers ≤ 0xffffffff }
+        ensures { result ≡ setup_areas self.now header buffers }
+    {
+        [
+            Area {
+                first: FIRST_FREE as usize,
+                count: 1,
+            },
+            Area {
+                first: self.base(),
+                count: buffers * BUFFER_WORDS,
+            },
+            Area {
+                first: header,
+                count: HEADER_WORDS,
+            },
+        ]
+    }
+}
