@@ -1,11 +1,11 @@
 -- What a record says of the order that it spells.
-use Rattle.std.proofs.Common.{◌≡◌, ◌*◌, ◌/◌, ◌<◌, ℕ, List, [], ◌∷◌, length, All, sym, ap, refl, ◌∙◌, subst}
+use Rattle.std.proofs.Common.{◌≡◌, ◌+◌, ◌≤◌, ◌*◌, ◌/◌, ◌<◌, ℕ, List, [], ◌∷◌, length, All, sym, ap, refl, ◌∙◌, subst}
 use Rattle.std.proofs.Common.{zero, suc, ⊎_elim, get_or, arith}
 use Rattle.words36.specs.Words.{IsWord, IsPpn}
 use Rattle.words36.specs.Blocks.{number_at, block_bytes, IsFirstBadWord}
 use Rattle.words36.specs.declared.moment.Moment.{Moment}
 use Rattle.meaning.specs.declared.call.Call.{Call}
-use Rattle.wire.specs.Records.{IsOrder, record_of, opcode, channel_named, number_named, moment_number}
+use Rattle.wire.specs.Records.{IsOrder, most_words, record_of, opcode, channel_named, number_named, moment_number}
 use Rattle.wire.proofs.Words.{words_in, words_read, good_or_bad, numbers_of, no_bad}
 use Rattle.wire.specs.declared.header.Header.{Header}
 use Rattle.wire.specs.declared.order.Order.{Order}
@@ -110,6 +110,7 @@ pub record IsDeposit (h : Header) (body : List ℕ) (order : Order) : Type 0 whe
   pub channel : h.channel ≡ 0
   pub detail : h.detail ≡ 0
   pub long : length body ≡ 8 * h.count
+  pub inside : h.number + h.count ≤ most_words
   pub good : (place : ℕ) → IsFirstBadWord (length body / 8) body place → ⊥
 
 pub deposit_parts : (order : Order) (h : Header) (body words : List ℕ) → IsOrder h body order words → h.kind ≡ 2
@@ -122,6 +123,7 @@ deposit_parts (Deposit job address count) h body words is kind = record {
   detail = sym (ap (λ (x : Header). x.detail) is.record_is);
   long = (numbers_of body words is.words_fit.0 is.body_is).long
       ∙ ap (λ (n : ℕ). 8 * n) (is.words_fit.1 ∙ ap (λ (x : Header). x.count) is.record_is);
+  inside = subst (λ (x : Header). x.number + x.count ≤ most_words) is.record_is is.words_fit.2;
   good = λ place. no_bad body words place is.words_fit.0 is.body_is;
 }
 deposit_parts (Examine job address count) h body words is kind = let r = is.record_is in cc
@@ -129,10 +131,10 @@ deposit_parts (Calls job call moment) h body words is kind = let r = is.record_i
 deposit_parts Room h body words is kind = let r = is.record_is in cc
 
 pub deposit_made : (h : Header) (body : List ℕ) → ((j : ℕ) → get_or body j 0 < 256) → h.kind ≡ 2 → h.code ≡ 0
-    → h.channel ≡ 0 → h.detail ≡ 0 → length body ≡ 8 * h.count
+    → h.channel ≡ 0 → h.detail ≡ 0 → length body ≡ 8 * h.count → h.number + h.count ≤ most_words
     → ((place : ℕ) → IsFirstBadWord (length body / 8) body place → ⊥)
     → IsOrder h body (Deposit h.job h.number h.count) (words_in body h.count)
-deposit_made h body small kind code channel detail long good =
+deposit_made h body small kind code channel detail long inside good =
     let count : length body / 8 ≡ h.count = omega arith in
     let fits = ⊎_elim (λ all. all) (λ bad. absurd (good bad.0 bad.1)) (good_or_bad body (length body / 8)) in
     let read = words_read body h.count small long (λ k less. fits k (omega (arith, less, count))) in record {
@@ -145,6 +147,6 @@ deposit_made h body small kind code channel detail long good =
         detail = sym detail i;
         count = h.count;
       };
-      words_fit = (read.each, read.long);
+      words_fit = (read.each, read.long, inside);
       body_is = read.bytes_are;
     }

@@ -86,7 +86,7 @@ no_words k d inside = absurd (none k inside)
 all_words : (order : Order) (words : List ℕ) → HasWords order words → All IsWord words
 all_words (Login job ppn core) words fit = subst (All IsWord) (sym fit.1) (one_word ppn fit.0.word)
 all_words (Deposit job address count) words fit = fit.0
-all_words (Examine job address count) words fit = subst (All IsWord) (sym fit) no_words
+all_words (Examine job address count) words fit = subst (All IsWord) (sym fit.0) no_words
 all_words (Calls job call moment) words fit = subst (All IsWord) (sym fit) no_words
 all_words Room words fit = subst (All IsWord) (sym fit) no_words
 

@@ -1,6 +1,6 @@
 -- Orders and answers as programs send and get them: a record of 16 bytes, and words of eight bytes behind it. A number
 -- has its highest byte first, as a word of an image has.
-use Rattle.std.specs.Prelude.{◌≡◌, ℕ, ◌+◌, ◌*◌, ◌/◌, ◌%◌, ◌^◌, ◌<◌, List, [], ◌∷◌, ◌++◌, length, All}
+use Rattle.std.specs.Prelude.{◌≡◌, ℕ, ◌+◌, ◌*◌, ◌/◌, ◌%◌, ◌^◌, ◌<◌, ◌≤◌, List, [], ◌∷◌, ◌++◌, length, All}
 use Rattle.std.specs.Int.{bytes_high_first}
 use Rattle.words36.specs.Words.{IsWord, IsPpn}
 use Rattle.words36.specs.Blocks.{block_bytes}
@@ -112,11 +112,15 @@ record_of (Calls job call moment) = record {
 }
 record_of Room = record { kind = 5; code = 0; job = 0; channel = 0; number = 0; detail = 0; count = 0 }
 
--- the words that are behind it
+-- how many words a core has at most
+abbrev pub most_words : ℕ
+most_words = 2 ^ 18
+
+-- The words that are behind it. Words that are put or asked for lie in what a core may be.
 abbrev pub HasWords : Order → List ℕ → Type 0
 HasWords (Login job ppn core) words = IsPpn ppn × (words ≡ ppn ∷ [])
-HasWords (Deposit job address count) words = All IsWord words × (length words ≡ count)
-HasWords (Examine job address count) words = words ≡ []
+HasWords (Deposit job address count) words = All IsWord words × (length words ≡ count) × (address + count ≤ most_words)
+HasWords (Examine job address count) words = (words ≡ []) × (address + count ≤ most_words)
 HasWords (Calls job call moment) words = words ≡ []
 HasWords Room words = words ≡ []
 

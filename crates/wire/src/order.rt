@@ -1,7 +1,7 @@
-ghost use Rattle.std.specs.Prelude.{◌≡◌, ◌+◌, ◌*◌, ◌<◌, ◌≤◌, ◌^◌, ◌↔◌, ℕ, List, IfSome, IsSome, Some, Bool, IsTrue, length, All};
+ghost use Rattle.std.specs.Prelude.{◌≡◌, ◌+◌, ◌*◌, ◌<◌, ◌≤◌, ◌^◌, ◌↔◌, ℕ, List, IfSome, IsSome, Some, Bool, IsTrue, length, All, []};
 ghost use Rattle.words36.specs.Words.{IsWord};
 ghost use Rattle.words36.specs.Blocks.{number_at, block_bytes};
-ghost use Rattle.wire.specs.Records.{IsOrder, record_of, HasWords, moment_number};
+ghost use Rattle.wire.specs.Records.{IsOrder, record_of, HasWords, moment_number, most_words};
 ghost use Rattle.wire.specs.declared.order.Order as orders;
 
 use crate::Header;
@@ -43,6 +43,13 @@ fn moment_of(detail: u32) -> Option<Moment>
     Moment::new(detail / 65_536, detail % 65_536).ok()
 }
 
+/// Whether so many words from an address on lie in what a core may be.
+fn lies_in_core(address: u32, count: u32) -> bool
+    ensures { IsTrue result ↔ (address + count ≤ most_words) }
+{
+    u64::from(address) + u64::from(count) <= 1 << 18
+}
+
 /// The job that logs in by a record, with the word behind it.
 fn login_of(header: &Header, body: &[u8]) -> Option<Order>
     requires { header.now.kind ≡ 1 }
@@ -74,10 +81,26 @@ fn deposit_of(header: &Header, body: &[u8]) -> Option<Order>
     if u64::from(header.count) * 8 != body.len() as u64 {
         return None;
     }
+    if !lies_in_core(header.number, header.count) {
+        return None;
+    }
     match first_bad_word(body) {
         Some(_) => None,
         None => Some(Order::Deposit(header.job, header.number, header.count)),
     }
+}
+
+/// The words that a record asks for.
+fn examine_of(header: &Header) -> Option<Order>
+    requires kind { header.now.kind ≡ 3 }
+    requires count { header.now.count ≡ 0 }
+    ensures is { IfSome result (λ order. (record_of order ≡ header.now) × HasWords order []) }
+    ensures all { (order : orders.Order) → record_of order ≡ header.now → HasWords order [] → result ≡ Some order }
+{
+    if header.code != 0 || header.channel != 0 || !lies_in_core(header.number, header.detail) {
+        return None;
+    }
+    Some(Order::Examine(header.job, header.number, header.detail))
 }
 
 /// The call that a record orders.
@@ -94,16 +117,15 @@ fn call_order(header: &Header) -> Option<Order>
 
 /// What a record orders that has no words behind it.
 fn plain_order(header: &Header) -> Option<Order>
-    ensures is { IfSome result (λ order. record_of order ≡ header.now) }
-    ensures all { (order : orders.Order) → record_of order ≡ header.now → 2 < header.now.kind → result ≡ Some order }
+    ensures is { IfSome result (λ order. (record_of order ≡ header.now) × HasWords order []) }
+    ensures all { (order : orders.Order) → record_of order ≡ header.now → HasWords order [] → 2 < header.now.kind
+        → result ≡ Some order }
 {
     if header.count != 0 {
         return None;
     }
     match header.kind {
-        3 if header.code == 0 && header.channel == 0 => {
-            Some(Order::Examine(header.job, header.number, header.detail))
-        }
+        3 => examine_of(header),
         4 => call_order(header),
         5
             if header.code == 0
