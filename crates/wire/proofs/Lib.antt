@@ -1,0 +1,4 @@
+pub mod Moments
+pub mod Orders
+pub mod Words
+pub mod Spellings

@@ -1,0 +1,14 @@
+ghost use Rattle.std.specs.Prelude.{◌≡◌, ◌<◌, ◌^◌, ℕ, List};
+ghost use Rattle.wire.specs.Records.{IsOrder, FitsRecord, answer_record, record_bytes};
+ghost use Rattle.wire.specs.declared.answer.Answer as answers;
+ghost use Rattle.wire.specs.declared.header.Header as headers;
+ghost use Rattle.wire.specs.declared.order.Order as orders;
+
+/// Bytes are at most one record; a record with the bytes behind it is at most one order, with the same words; and an
+/// answer's record is no other's.
+pub fn records_have_one_reading()
+    ensures records { (h k : headers.Header) → FitsRecord h → FitsRecord k → record_bytes h ≡ record_bytes k → h ≡ k }
+    ensures orders { (h : headers.Header) (body : List ℕ) (a b : orders.Order) (words others : List ℕ)
+        → IsOrder h body a words → IsOrder h body b others → (a ≡ b) × (words ≡ others) }
+    ensures answers { (a b : answers.Answer) (n m : ℕ) → answer_record a n ≡ answer_record b m → (a ≡ b) × (n ≡ m) }
+{}
