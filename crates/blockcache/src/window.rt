@@ -1,6 +1,7 @@
-ghost use Rattle.std.specs.Prelude.{◌≡◌, ◌+◌, ◌<◌, ◌≤◌, ℕ, [], option_copied, Some, None, Ok, Err, IfOk, IfErr, IfSome, IfNone, OnOk, OnErr, length};
-ghost use Rattle.blockdisk.specs.Disk.{HoldRun};
-ghost use Rattle.blockcache.specs.Window.{AreRead, Stretch, apart, asked_count, asked_end, asked_first, cleared, end_of, first_of, words_at};
+ghost use Rattle.std.specs.Prelude.{◌≡◌, ◌+◌, ◌<◌, ◌≤◌, ℕ, [], Some, None, Ok, Err, IfOk, IfErr, IfSome, IfNone};
+ghost use Rattle.std.specs.Prelude.{length, option_copied};
+ghost use Rattle.blockcache.specs.Window.{AreRead, apart, asked_count, asked_end, asked_first, cleared, first_of};
+ghost use Rattle.blockcache.specs.Window.{words_at};
 
 use blockdisk::{Disk, Fault};
 use std::alloc::Global;
