@@ -1,5 +1,6 @@
 -- A read that asks no device.
-use Rattle.std.proofs.Common.{◌≡◌, ◌∷◌, [], ℕ, Option, List, Some, None, Ok, Err, Result, IfSome, length, slice_set, refl, ap, ◌∙◌}
+use Rattle.std.proofs.Common.{◌≡◌, ◌∷◌, ◌∙◌, [], ℕ, Option, List, Some, None, Ok, Err, Result, IfSome}
+use Rattle.std.proofs.Common.{length, slice_set, refl, ap}
 use Rattle.blockdisk.specs.Calls.{IsRead}
 use Rattle.blockdisk.specs.Disk.{DiskState, MayLeave}
 use Rattle.blockdisk.specs.Laws.{passes_start, same_disk_start}

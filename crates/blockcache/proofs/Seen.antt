@@ -1,5 +1,6 @@
 -- What two windows keep is what the disk holds.
-use Rattle.std.proofs.Common.{◌≡◌, ◌∙◌, ◌⊎◌, ◌+◌, ◌-◌, ◌<◌, ◌≤◌, ℕ, true, false, List, [], Option, Some, None, IsSome, length}
+use Rattle.std.proofs.Common.{◌≡◌, ◌∙◌, ◌⊎◌, ◌+◌, ◌-◌, ◌<◌, ◌≤◌, ℕ, true, false, List, [], Option, Some, None}
+use Rattle.std.proofs.Common.{IsSome, length}
 use Rattle.std.proofs.Common.{slice_get, nat_lt, ap, sym, subst, refl, ⊎_elim, inl, inr, arith}
 use Rattle.std.proofs.lemmas.Bool.{cases_lt}
 use Rattle.std.proofs.lemmas.Bool.Decides.{nat_tests}

@@ -1,6 +1,7 @@
 -- Blocks that were read together because they are neighbours, and which of them are read for one that is asked for.
 use Rattle.std.specs.Prelude.{◌≡◌, ◌⊎◌, ◌+◌, ◌-◌, ◌*◌, ◌≤◌, ℕ, if◌then◌else◌, nat_lt, nat_le}
-use Rattle.std.specs.Prelude.{List, [], Option, Some, None, Result, IfOk, IfSome, IsSome, OnOk, OnErr, IsErrOf, length, min, max, slice_get}
+use Rattle.std.specs.Prelude.{List, [], Option, Some, None, Result, IfOk, IfSome, IsSome, OnOk, OnErr, IsErrOf}
+use Rattle.std.specs.Prelude.{length, min, max, slice_get}
 use Rattle.blockdisk.specs.Disk.{Contents, DiskState, Keeps, SameDisk, HoldRun, one_more}
 use Rattle.blockdisk.specs.declared.fault.Fault.{Fault}
 use Rattle.blockdisk.specs.declared.fault.Fault.TheVariants.{Device, Damaged}
@@ -26,11 +27,11 @@ cleared w = record { first = w.first; blocks = [] }
 abbrev pub apart : ℕ → ℕ → Stretch → Stretch
 apart first count w = if nat_lt first (end_of w) then (if nat_lt w.first (first + count) then cleared w else w) else w
 
--- How many blocks are read for block n: twice as many as the time before, up to 64, if it is less than 64 blocks away
+-- How many blocks are read for block n: twice as many as the time before, up to 128, if it is less than 128 blocks away
 -- from those; else 2.
 abbrev pub asked_count : ℕ → Stretch → ℕ
-asked_count n w = if nat_lt (n + 64) w.first then 2 else if nat_le (end_of w + 64) n then 2
-    else min (max (2 * length w.blocks) 2) 64
+asked_count n w = if nat_lt (n + 128) w.first then 2 else if nat_le (end_of w + 128) n then 2
+    else min (max (2 * length w.blocks) 2) 128
 
 -- The first of so many blocks that are read for block n: the one at `end`, if that many from there on reach block n;
 -- else block n is the last of them.

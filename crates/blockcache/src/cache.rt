@@ -1,4 +1,5 @@
-ghost use Rattle.std.specs.Prelude.{◌≡◌, ◌+◌, ◌<◌, ◌≤◌, ◌^◌, ℕ, List, Some, None, Ok, IfOk, IfErr, OnOk, OnErr, IfSome, IsSome, IsErrOf};
+ghost use Rattle.std.specs.Prelude.{◌≡◌, ◌+◌, ◌<◌, ◌≤◌, ◌^◌, ℕ, List, Some, None, Ok, IfOk, IfErr, OnOk, OnErr};
+ghost use Rattle.std.specs.Prelude.{IfSome, IsSome, IsErrOf};
 ghost use Rattle.std.specs.Prelude.{[], ◌∷◌, Contains, IfNone, get_or, length, nat_eq};
 ghost use Rattle.std.specs.NonZero.{non_zero_usize_get};
 ghost use Rattle.std.specs.Map.{lookup};
@@ -17,9 +18,10 @@ use std::num::NonZeroUsize;
 use words36::Block;
 
 /// A disk some of whose blocks are kept in memory: those that were read or written last, each by itself, as many as it
-/// has room for. Writes go through to the disk under it at once.
+/// has room for; and neighbours of those that were read, in two windows. Writes go through to the disk under it at
+/// once.
 ///
-/// A block for which no memory is found is not kept, and nobody is told: it is read again when it is wanted.
+/// Blocks for which no memory is found are not kept, and nobody is told: they are read again when they are wanted.
 #[derive(Drop)]
 pub struct Cached<D: Disk> {
     inner: D,
@@ -30,7 +32,8 @@ pub struct Cached<D: Disk> {
 }
 
 impl<D: Disk> Cached<D> {
-    /// The same disk, with room for so many blocks. None is kept yet, and the disk isn't asked.
+    /// The same disk, with room for so many blocks; windows find theirs as they grow. None is kept yet, and the disk
+    /// isn't asked.
     ///
     /// # Errors
     ///
@@ -186,7 +189,8 @@ impl<D: Disk> Disk for Cached<D> {
         Ok(None)
     }
 
-    /// The disk is asked, also of blocks that are kept, which are as it holds them; and nothing is kept of the others.
+    /// The disk is asked for the blocks from the first on that is in no window, also for those that are kept by
+    /// themselves, which are as it holds them; and nothing is kept of the others.
     fn verify(&mut self, first: u32, end: u32) -> Result<Option<u32>, Fault>
         requires { end ≤ (D.state self.old.inner).size }
         ensures verifies { IsVerify first end (D.state self.old.inner) (D.state self.new.inner) result }

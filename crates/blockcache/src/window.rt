@@ -1,20 +1,18 @@
-ghost use Rattle.std.specs.Prelude.{◌≡◌, ◌+◌, ◌<◌, ◌≤◌, ℕ, [], option_copied, Some, None, Ok, Err, IfOk, IfErr, IfSome, IfNone, OnOk, OnErr, length};
-ghost use Rattle.blockdisk.specs.Disk.{HoldRun};
-ghost use Rattle.blockcache.specs.Window.{AreRead, Stretch, apart, asked_count, asked_end, asked_first, cleared, end_of, first_of, words_at};
+ghost use Rattle.std.specs.Prelude.{◌≡◌, ◌+◌, ◌<◌, ◌≤◌, ℕ, [], Some, None, Ok, Err, IfOk, IfErr, IfSome, IfNone};
+ghost use Rattle.std.specs.Prelude.{length, option_copied};
+ghost use Rattle.blockcache.specs.Window.{AreRead, apart, asked_count, asked_end, asked_first, cleared, first_of};
+ghost use Rattle.blockcache.specs.Window.{words_at};
 
-use blockdisk::{Disk, Fault, NoMemory};
+use blockdisk::{Disk, Fault};
 use std::alloc::Global;
 use std::marker::Model;
 use words36::{BLOCK_WORDS, Block, Word};
 
-/// How many blocks are read for one at most.
-const MOST_BLOCKS: usize = 64;
+/// How many blocks are read for one at most. One that is as far from those that were read before is not near.
+const MOST_BLOCKS: usize = 128;
 
-/// How many blocks are read for one that is far from those that were read before.
+/// How many blocks are read for one that is not near those that were read before.
 const FEW_BLOCKS: usize = 2;
-
-/// A block as far as this from those that were read before is far.
-const FAR_BLOCKS: usize = 64;
 
 /// Neighbouring blocks that are kept as they were read.
 #[derive(Drop)]
@@ -116,10 +114,10 @@ impl Window {
         ensures { result ≡ asked_count n self.now }
     {
         let (n, first) = (n as usize, self.first as usize);
-        if n + FAR_BLOCKS < first {
+        if n + MOST_BLOCKS < first {
             return FEW_BLOCKS;
         }
-        if first + self.blocks.len() + FAR_BLOCKS <= n {
+        if first + self.blocks.len() + MOST_BLOCKS <= n {
             return FEW_BLOCKS;
         }
         (2 * self.blocks.len()).max(FEW_BLOCKS).min(MOST_BLOCKS)

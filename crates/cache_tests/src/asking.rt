@@ -41,6 +41,24 @@ pub(crate) fn disk(rt: &impl Abort, alloc: Global) -> Result<MemDisk, NoMemory> 
     Ok(disk)
 }
 
+/// A disk in memory of 400 blocks, each filled with its number, but for one that may be damaged.
+pub(crate) fn numbered(
+    rt: &impl Abort,
+    alloc: Global,
+    damaged: Option<u32>,
+) -> Result<MemDisk, NoMemory> {
+    let mut disk = MemDisk::new(alloc, 400, 16)?;
+    for n in 0..400 {
+        assert!(rt; n < disk.blocks());
+        disk.load(n, &filled(u64::from(n)));
+    }
+    if let Some(n) = damaged {
+        assert!(rt; n < disk.blocks());
+        disk.damage(n);
+    }
+    Ok(disk)
+}
+
 /// A read of a block is answered so.
 fn expect_read<D: Disk>(rt: &impl Abort, disk: &mut D, n: u32, wanted: Answer) {
     assert!(rt; n < disk.blocks());
@@ -73,7 +91,7 @@ fn expect_verified<D: Disk>(rt: &impl Abort, disk: &mut D, first: u32, end: u32,
 /// A read of three neighbours is answered so: the number that fills the last, or the damaged block.
 fn expect_run_read<D: Disk>(rt: &impl Abort, disk: &mut D, first: u32, wanted: Answer) {
     let mut places = [filled(0); 3];
-    assert!(rt; first < 100 && first + 3 <= disk.blocks());
+    assert!(rt; first < 1000 && first + 3 <= disk.blocks());
     match (disk.read_run(first, &mut places), wanted) {
         (Ok(None), Ok(number)) => assert!(rt; places[2] == filled(number)),
         (Ok(Some(bad)), Ok(number)) => assert_eq!(rt; u64::from(bad), number),
@@ -95,7 +113,7 @@ pub(crate) fn expect_calls<D: Disk>(rt: &impl Abort, disk: &mut D, calls: &[(Ask
             Asked::Verify(first, end) => expect_verified(rt, disk, first, end, wanted),
             Asked::ReadRun(first) => expect_run_read(rt, disk, first, wanted),
             Asked::WriteRun(first, number) => {
-                assert!(rt; first < 100 && first + 3 <= disk.blocks());
+                assert!(rt; first < 1000 && first + 3 <= disk.blocks());
                 expect_done(rt, disk.write_run(first, &[filled(number); 3]), wanted);
             }
         }

@@ -250,7 +250,8 @@ fn damaged_blocks_of_an_image(rt: HostRuntime) -> Result<(), Fail> {
     Ok(())
 }
 
-/// Twenty neighbours of an image of forty blocks are written and read, in both forms.
+/// Twenty neighbours of an image of forty blocks are written and read, in both forms: by two calls of the file, and by
+/// one.
 #[test]
 fn runs_of_an_image(rt: HostRuntime) -> Result<(), Fail> {
     for (form, bytes) in [(Form::Wide, 40960), (Form::Packed, 23040)] {
@@ -261,6 +262,8 @@ fn runs_of_an_image(rt: HostRuntime) -> Result<(), Fail> {
             Ok(disk) => disk,
             Err(_refused) => panic!(rt; "the file is an image"),
         };
+        expect_run(&rt, &mut disk, 3);
+        let mut disk = disk.with_room(rt.alloc());
         expect_run(&rt, &mut disk, 3);
         expect_block(&rt, &mut disk, 2, Ok(filled(0)));
         expect_block(&rt, &mut disk, 23, Ok(filled(0)));
@@ -289,7 +292,7 @@ fn a_damaged_block_ends_a_run(rt: HostRuntime) -> Result<(), Fail> {
     bytes[17 * 1024 + 1019] = 0x10;
     let file = MemFile::new(rt.alloc(), bytes.as_slice(), 1);
     drop(bytes);
-    let mut disk = disk_over(&rt, file?);
+    let mut disk = disk_over(&rt, file?).with_room(rt.alloc());
     assert_eq!(rt; disk.blocks(), 20);
     let mut places = [filled(9); 20];
     assert_eq!(rt; disk.read_run(0, &mut places), Ok(Some(17)));

@@ -51,10 +51,64 @@ pub(crate) fn read_blocks<F: Durable>(
     ensures reads { (size : ℕ) → IsRunRead first (image_state form size (F.state file.old))
         (image_state form size (F.state file.new)) blocks.new result }
 {
+    let mut room = [0; GROUP_BLOCKS as usize * BLOCK_BYTES];
+    read_groups(form, file, &mut room, first, blocks)
+}
+
+/// Does the same through memory that was found for the bytes of more blocks, if there is any.
+///
+/// # Errors
+///
+/// As of a disk: `Device` where the file fails.
+pub(crate) fn read_blocks_through<F: Durable>(
+    form: Form,
+    file: &mut F,
+    room: &mut Option<Vec<u8>>,
+    first: u32,
+    blocks: &mut [Block],
+) -> Result<Option<u32>, Fault>
+    requires fits { first + length blocks.old < 2 ^ 32 }
+    requires inside { (F.state file.old).honest
+        → block_length form * (first + length blocks.old) ≤ (F.state file.old).size }
+    ensures same { SameFile (F.state file.old) (F.state file.new) }
+    ensures reads { (size : ℕ) → IsRunRead first (image_state form size (F.state file.old))
+        (image_state form size (F.state file.new)) blocks.new result }
+{
+    if let Some(room) = room {
+        if room.len() >= BLOCK_BYTES {
+            return read_groups(form, file, room.as_mut_slice(), first, blocks);
+        }
+    }
+    read_blocks(form, file, first, blocks)
+}
+
+/// Does the same by as many blocks a call of the file as there is room for the bytes of.
+fn read_groups<F: Durable>(
+    form: Form,
+    file: &mut F,
+    room: &mut [u8],
+    first: u32,
+    blocks: &mut [Block],
+) -> Result<Option<u32>, Fault>
+    requires room { 1024 ≤ length room.old }
+    requires fits { first + length blocks.old < 2 ^ 32 }
+    requires inside { (F.state file.old).honest
+        → block_length form * (first + length blocks.old) ≤ (F.state file.old).size }
+    ensures same { SameFile (F.state file.old) (F.state file.new) }
+    ensures reads { (size : ℕ) → IsRunRead first (image_state form size (F.state file.old))
+        (image_state form size (F.state file.new)) blocks.new result }
+{
+    let group = room.len() / BLOCK_BYTES;
     let mut done = 0;
     while done < blocks.len() {
-        let stop = blocks.len().min(done + GROUP_BLOCKS as usize);
-        match read_group(form, file, first + done as u32, &mut blocks[done..stop]) {
+        let stop = blocks.len().min(done + group);
+        match read_group(
+            form,
+            file,
+            room,
+            first + done as u32,
+            &mut blocks[done..stop],
+        ) {
             Ok(None) => done = stop,
             Ok(Some(bad)) => return Ok(Some(bad)),
             Err(fault) => return Err(fault),
@@ -175,14 +229,15 @@ fn read_packed<F: Durable>(file: &mut F, n: u32) -> Result<Block, Fault>
     Ok(block_from_nine(&bytes))
 }
 
-/// Reads neighbouring blocks by one call.
+/// Reads neighbouring blocks by one call, through room for their bytes.
 fn read_group<F: Durable>(
     form: Form,
     file: &mut F,
+    room: &mut [u8],
     first: u32,
     blocks: &mut [Block],
 ) -> Result<Option<u32>, Fault>
-    requires few { length blocks.old ≤ 16 }
+    requires room { 1024 * length blocks.old ≤ length room.old }
     requires fits { first + length blocks.old < 2 ^ 32 }
     requires inside { (F.state file.old).honest
         → block_length form * (first + length blocks.old) ≤ (F.state file.old).size }
@@ -190,8 +245,7 @@ fn read_group<F: Durable>(
     ensures reads { (size : ℕ) → IsRunRead first (image_state form size (F.state file.old))
         (image_state form size (F.state file.new)) blocks.new result }
 {
-    let mut bytes = [0; GROUP_BLOCKS as usize * BLOCK_BYTES];
-    let group = &mut bytes[..blocks.len() * form.block_bytes() as usize];
+    let group = &mut room[..blocks.len() * form.block_bytes() as usize];
     file.read_at(place_of(form, first), group)?;
     match fill_blocks(form, group, blocks) {
         None => Ok(None),

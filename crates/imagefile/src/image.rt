@@ -14,11 +14,15 @@ ghost use Rattle.imagefile.specs.declared.form.Form.TheVariants.{Wide, Packed};
 ghost use Rattle.imagefile.specs.declared.size.ImageError.TheVariants.{BadSize};
 ghost use Rattle.imagefile.specs.declared.size.ImageError.TheVariants as ImageError;
 
-use crate::codec::{read_block, read_blocks, verify_blocks, write_block, write_blocks};
+use crate::codec::{read_block, read_blocks_through, verify_blocks, write_block, write_blocks};
 use crate::{Durable, Form, HostFile, ImageError, Supposition, block_count};
 use blockdisk::{Disk, Fault};
+use std::alloc::Global;
 use std::fs::File;
-use words36::Block;
+use words36::{BLOCK_BYTES, Block};
+
+/// How many neighbouring blocks are read by one call of the file, if there is memory for their bytes.
+const RUN_BLOCKS: usize = 128;
 
 /// A disk whose blocks lie in a file, one after the other.
 #[derive(Drop)]
@@ -26,6 +30,8 @@ pub struct ImageDisk<F: Durable> {
     file: F,
     form: Form,
     blocks: u32,
+    // For the bytes of a run that is read.
+    room: Option<Vec<u8>>,
     ghost sized: { (F.state file).honest → (F.state file).size ≡ block_length form * blocks },
 }
 
@@ -64,8 +70,33 @@ impl<F: Durable> ImageDisk<F> {
             Err(_) => return Err((ImageError::Device, file)),
         };
         match block_count(form, size) {
-            Ok(blocks) => Ok(ImageDisk { file, form, blocks }),
+            Ok(blocks) => Ok(ImageDisk {
+                file,
+                form,
+                blocks,
+                room: None,
+            }),
             Err(error) => Err((error, file)),
+        }
+    }
+
+    /// The same disk, with memory to read up to 128 neighbouring blocks by one call of the file. If there is none, it
+    /// reads up to 16, and nobody is told.
+    pub fn with_room(self, alloc: Global) -> Self
+        ensures file { file_of result ≡ file_of self }
+        ensures form { form_of result ≡ form_of self }
+        ensures blocks { blocks_of result ≡ blocks_of self }
+    {
+        let mut bytes = Vec::new(alloc);
+        let room = match bytes.resize(RUN_BLOCKS * BLOCK_BYTES, 0) {
+            Ok(()) => Some(bytes),
+            Err(_) => None,
+        };
+        ImageDisk {
+            file: self.file,
+            form: self.form,
+            blocks: self.blocks,
+            room,
         }
     }
 
@@ -148,7 +179,7 @@ impl<F: Durable> Disk for ImageDisk<F> {
 
     fn read_run(&mut self, first: u32, blocks: &mut [Block]) -> Result<Option<u32>, Fault> {
         let _size = self.blocks(); // no more than a u32 counts
-        read_blocks(self.form, &mut self.file, first, blocks)
+        read_blocks_through(self.form, &mut self.file, &mut self.room, first, blocks)
     }
 
     fn verify(&mut self, first: u32, end: u32) -> Result<Option<u32>, Fault> {

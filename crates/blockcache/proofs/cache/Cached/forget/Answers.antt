@@ -5,7 +5,8 @@ use Rattle.blockcache.proofs.Held.{held_without, gone}
 use Rattle.blockcache.proofs.cache.Cached.forget.Goals as goal
 
 pub invariant_of-self-clause-coherent : goal.invariant_of-self-clause-coherent
-invariant_of-self-clause-coherent g c = λ h. subst (λ (kept : Kept). AreHeld kept.entries (g.D.Disk.state c.args.self.now.inner).contents)
+invariant_of-self-clause-coherent g c =
+    λ h. subst (λ (kept : Kept). AreHeld kept.entries (g.D.Disk.state c.args.self.now.inner).contents)
     (sym c.pop-block.ensures.entries)
     (held_without c.args.self.now.cache (g.D.Disk.state c.args.self.now.inner).contents c.args.n
     (c.args.self.now.coherent h))

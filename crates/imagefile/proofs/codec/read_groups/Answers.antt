@@ -6,7 +6,7 @@ use Rattle.imagefile.specs.File.{FileState}
 use Rattle.imagefile.specs.Image.{image_state}
 use Rattle.imagefile.proofs.FileLaws.{same_on}
 use Rattle.imagefile.proofs.BlockReads.{length-filled, filled_before, filled_in}
-use Rattle.imagefile.proofs.codec.read_blocks.Goals as goal
+use Rattle.imagefile.proofs.codec.read_groups.Goals as goal
 
 pub loop-done-preserved : goal.loop-done-preserved
 loop-done-preserved g c =
