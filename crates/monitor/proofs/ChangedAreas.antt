@@ -1,33 +1,17 @@
 -- Which words a call leaves: those outside its areas.
-use Rattle.std.proofs.Common.{◌≡◌, ◌≢◌, ◌⊎◌, inl, inr, ⊎_elim, ℕ, suc, ◌+◌, ◌-◌, ◌<◌, ◌≤◌, Bool, true, false, List, [], ◌∷◌}
-use Rattle.std.proofs.Common.{◌++◌, length, map, min, cond, refl, ap, sym, subst, ◌∙◌, arith, slice_index, Option, Some, None}
-use Rattle.std.proofs.Common.{◌==◌, ◌||◌, ◌&&◌, nat_lt, nat_le, if◌then◌else◌, take}
-use Rattle.std.specs.Prelude.{not, is_none, is_some}
-use Rattle.std.specs.List.{AllByRecursion, filter}
-use Rattle.std.proofs.Math.Nat.{min-le_left, min-le_right, le-min}
+use Rattle.std.proofs.Common.{◌≡◌, ◌⊎◌, inl, inr, ⊎_elim, ℕ, suc, ◌+◌, ◌-◌, ◌<◌, ◌≤◌, Bool, true, false, List, []}
+use Rattle.std.proofs.Common.{◌∷◌}
+use Rattle.std.proofs.Common.{length, min, cond, refl, sym, ◌∙◌, arith}
+use Rattle.std.proofs.Common.{◌==◌}
+use Rattle.std.specs.Prelude.{not}
+use Rattle.std.specs.List.{AllByRecursion}
+use Rattle.std.proofs.Math.Nat.{le-min}
 use Rattle.std.proofs.lemmas.Bool.{cases_lt}
 use Rattle.std.proofs.lemmas.Bool.Decides.{nat_tests}
-use Rattle.std.proofs.lemmas.List.{get_or_past, length-take}
-use Rattle.words36.specs.declared.moment.Moment.{Moment}
-use Rattle.meaning.specs.Files.{File, Files}
-use Rattle.meaning.specs.Published.{Version}
-use Rattle.meaning.specs.Cores.{after_writes, placed, with_right, first_free, lies_outside}
-use Rattle.meaning.specs.Jobs.{Input, Output, Channel, Job, State, channel_at, job_at, with_job}
-use Rattle.meaning.specs.Room.{Pack}
-use Rattle.meaning.specs.Outcomes.{settled, stopped_in, refused_at}
-use Rattle.meaning.specs.Opening as opening
-use Rattle.meaning.specs.Looking.{with_attributes}
-use Rattle.meaning.specs.Rings.{is_buffered, byte_size, setup, buffers_of, in_ready, out_ready, in_writes, out_writes}
-use Rattle.meaning.specs.Rings.{closed_header, unused_header, marked, data_words}
-use Rattle.meaning.specs.Step.{step, last_date, on_job, on_channel, of_job, of_files, call_of}
+use Rattle.std.proofs.lemmas.List.{get_or_past}
 use Rattle.meaning.specs.declared.area.Area.{Area}
-use Rattle.meaning.specs.declared.call.Call.{Call}
-use Rattle.meaning.specs.declared.call.Reply.{Reply}
-use Rattle.meaning.proofs.OutcomeLaws.{settled_by, stopped_by}
-use Rattle.meaning.proofs.SlotLaws.{slot-set_same, slot-set_other, all_append}
-use Rattle.usercore.specs.Areas.{IsOutside, ChangesWithin, words_at, setup_areas, step_areas}
-use Rattle.monitor.specs.Changed.{clipped, in_core, ChangesJob}
-use Rattle.usercore.proofs.AreaLaws.{AllMiss, Misses, writes_within, same_within, placed_miss}
+use Rattle.usercore.specs.Areas.{IsOutside, ChangesWithin, words_at}
+use Rattle.monitor.specs.Changed.{in_core}
 
 -- Areas that are cut to the core leave out no word of it.
 

@@ -1,5 +1,5 @@
 -- What the monitor tells of a call is what the machine's job has.
-use Rattle.std.proofs.Common.{◌≡◌, ℕ, List, Option, None, Some, sym, ap, ◌∙◌}
+use Rattle.std.proofs.Common.{◌≡◌, ℕ, List, Option, Some, sym, ap, ◌∙◌}
 use Rattle.std.specs.Prelude.{Bool, Result, Ok, Err, IfOk, option_map}
 use Rattle.blockdisk.specs.Disk.{DiskState}
 use Rattle.meaning.specs.Jobs as machine

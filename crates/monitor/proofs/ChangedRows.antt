@@ -1,30 +1,34 @@
 -- What a row does to its job's core: it leaves the words outside the areas that the call names.
-use Rattle.std.proofs.Common.{◌≡◌, ◌≢◌, ◌⊎◌, inl, inr, ⊎_elim, ℕ, ◌+◌, ◌*◌, ◌<◌, ◌≤◌, Bool, true, false, List, [], ◌∷◌}
-use Rattle.std.proofs.Common.{◌++◌, length, refl, ap, sym, subst, ◌∙◌, arith, slice_index, Option, Some, None, ◌==◌, ◌||◌}
+use Rattle.std.proofs.Common.{◌≡◌, ◌≢◌, ◌⊎◌, inl, inr, ℕ, ◌+◌, ◌<◌, ◌≤◌, Bool, true, false, List, [], ◌∷◌}
+use Rattle.std.proofs.Common.{◌++◌, length, refl, sym, subst, arith, slice_index, Option, Some, None, ◌==◌}
+use Rattle.std.proofs.Common.{◌||◌}
 use Rattle.std.proofs.Common.{◌&&◌, if◌then◌else◌, take}
 use Rattle.std.specs.Prelude.{not, is_none, is_some, option_map}
-use Rattle.std.specs.List.{AllByRecursion}
 use Rattle.std.proofs.lemmas.List.{length-take}
 use Rattle.words36.specs.Words.{left, join}
 use Rattle.words36.specs.declared.moment.Moment.{Moment}
-use Rattle.meaning.specs.Files.{File, Files, Place}
+use Rattle.meaning.specs.Files.{File, Files}
 use Rattle.meaning.specs.Published.{Version, file_at, attributes}
 use Rattle.meaning.specs.CommandLists.{dump_list}
 use Rattle.meaning.specs.Cores.{after_writes, dealt, with_right, first_free, rings_begin, joined, lies_outside}
-use Rattle.meaning.specs.Jobs.{Input, Output, Channel, Job, State, with_channel, cleared}
+use Rattle.meaning.specs.Jobs.{Output, Channel, Job, State, with_channel, cleared}
 use Rattle.meaning.specs.Room.{Pack}
 use Rattle.meaning.specs.Outcomes.{settled, clean, stopped_in, refused_at}
-use Rattle.meaning.specs.Opening.{open_answer, open_done, opens, header_opened, mode_at, output_header_at, input_header_at}
+use Rattle.meaning.specs.Opening.{open_answer, open_done, opens, header_opened, mode_at, output_header_at}
+use Rattle.meaning.specs.Opening.{input_header_at}
 use Rattle.meaning.specs.Opening.{found_or_not, core_or, has_no_ring, ring_made, ring_answer, sets_up, misses_headers}
-use Rattle.meaning.specs.Looking.{place_at, high_date, size_word, with_attributes, looked_up, lookup_answer, lookup_done}
+use Rattle.meaning.specs.Looking.{place_at, high_date, size_word, with_attributes, looked_up, lookup_answer}
+use Rattle.meaning.specs.Looking.{lookup_done}
 use Rattle.meaning.specs.Looking.{lookup, digit_at}
 use Rattle.meaning.specs.Entering.{output_opened, enter_answer, enter_done, enter}
-use Rattle.meaning.specs.Inputs.{lacks_header, ring_in, in_answer, in_done, areas_at, buffer_filled, reads, words_ahead}
-use Rattle.meaning.specs.Outputs.{Outgoing, ring_out, outgoing, found_answer, put_answer, out_answer, put_done, out_done}
+use Rattle.meaning.specs.Inputs.{ring_in, in_answer, in_done, areas_at, buffer_filled, reads, words_ahead}
+use Rattle.meaning.specs.Outputs.{Outgoing, ring_out, outgoing, found_answer, put_answer, out_answer, put_done}
+use Rattle.meaning.specs.Outputs.{out_done}
 use Rattle.meaning.specs.Outputs.{puts}
 use Rattle.meaning.specs.Closing.{header_closed, core_closed, keeps_output, keeps_input, discards}
-use Rattle.meaning.specs.Rings.{is_buffered, byte_size, unused_header, setup, buffers_of, in_ready, in_writes, out_ready}
-use Rattle.meaning.specs.Rings.{out_writes, closed_header, marked, pointer, data_words}
+use Rattle.meaning.specs.Rings.{is_buffered, byte_size, unused_header, buffers_of}
+use Rattle.meaning.specs.Rings.{out_ready}
+use Rattle.meaning.specs.Rings.{marked, pointer, data_words}
 use Rattle.meaning.specs.declared.area.Area.{Area}
 use Rattle.meaning.specs.declared.call.Reply.{Reply}
 use Rattle.meaning.specs.declared.call.Reply.TheVariants.{Done, Value, Refused, Stopped, NoChannel, AddressCheck, NoJob}
@@ -33,7 +37,8 @@ use Rattle.meaning.proofs.OutcomeLaws.{settled_by, stopped_by}
 use Rattle.meaning.proofs.SlotLaws.{all_append}
 use Rattle.usercore.specs.Areas.{IsOutside, ChangesWithin, words_at, setup_areas, in_areas, out_areas}
 use Rattle.monitor.specs.Changed.{header_area, areas_opened, areas_set_up, areas_filled, areas_emptied, areas_closed}
-use Rattle.usercore.proofs.AreaLaws.{AllMiss, Misses, writes_within, same_within, then_within, placed_miss, setup_within}
+use Rattle.usercore.proofs.AreaLaws.{AllMiss, Misses, writes_within, same_within, then_within, placed_miss}
+use Rattle.usercore.proofs.AreaLaws.{setup_within}
 use Rattle.usercore.proofs.AreaLaws.{in_within, out_within, dealt_within}
 
 -- one word of an area
@@ -217,7 +222,8 @@ puts_within pack s job number c a =
     lies None is = cc is
     lies (Some o) is = refl
 
-    has : (o : Option Output) → put_answer pack s c o found ≡ Done → (is_buffered c.mode && (c.output_header == 0)) ≡ false
+    has : (o : Option Output) → put_answer pack s c o found ≡ Done
+        → (is_buffered c.mode && (c.output_header == 0)) ≡ false
     has None is = cc is
     has (Some o) is = header (is_buffered c.mode && (c.output_header == 0)) (found_answer pack s c o found) is
       where
@@ -240,7 +246,8 @@ puts_within pack s job number c a =
         → ChangesWithin (if none || (not buffered || zero) then [] else out_areas job.core c.output_header) job.core
         (put_done job number c (if buffered
         then option_map (ring_out c) (out_ready job.core c.output_header (byte_size c.mode))
-        else option_map (λ areas. record { words = joined job.core areas; core = job.core }) (dump_list job.core a))).core
+        else option_map (λ areas. record { words = joined job.core areas; core = job.core })
+        (dump_list job.core a))).core
     by true b z p q = cc p
     by false false z p q = listed (dump_list job.core a)
     by false true true p q = cc q
@@ -276,7 +283,8 @@ closed_within core c bits =
     (is_some c.input && not (keeps_input bits))
   where
     by : (stays output input : Bool)
-        → ChangesWithin (if stays then [] else header_area output c.output_header ∷ header_area input c.input_header ∷ [])
+        → ChangesWithin
+        (if stays then [] else header_area output c.output_header ∷ header_area input c.input_header ∷ [])
         core (if stays then core else after_writes core (header_closed core c.output_header output
         ++ header_closed core c.input_header input))
     by true output input = same_within [] core
@@ -289,7 +297,8 @@ closed_within core c bits =
 
 pub closes_within : (job done : Job) (files were : Files Version) (number : ℕ) (c : Channel) (bits : ℕ) (answer : Reply)
     → done.core ≡ core_closed job.core c bits
-    → FilesWithin (areas_closed c bits) job (settled answer (done, files) (λ reply. (stopped_in job number c reply, were)))
+    → FilesWithin (areas_closed c bits) job
+    (settled answer (done, files) (λ reply. (stopped_in job number c reply, were)))
 closes_within job done files were number c bits answer is =
     settled_by (FilesWithin (areas_closed c bits) job) answer (done, files)
     (λ reply. (stopped_in job number c reply, were))
@@ -298,7 +307,8 @@ closes_within job done files were number c bits answer is =
 
 -- RESET
 
-pub reset_within : (core : List ℕ) → ChangesWithin (words_at first_free 1 ∷ []) core (with_right core first_free rings_begin)
+pub reset_within : (core : List ℕ)
+    → ChangesWithin (words_at first_free 1 ∷ []) core (with_right core first_free rings_begin)
 reset_within core = writes_within (words_at first_free 1 ∷ []) core
     ((first_free, join (left (slice_index core first_free)) rings_begin) ∷ [])
     (λ address out. (word_misses first_free 1 first_free address (omega arith) (omega arith) out.0, tt))

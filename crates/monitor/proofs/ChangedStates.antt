@@ -1,17 +1,16 @@
 -- What an event of a job does to the jobs: it leaves all others, and of that job's core the words outside the areas
 -- that its call names.
-use Rattle.std.proofs.Common.{◌≡◌, ◌≢◌, ℕ, ◌+◌, Bool, true, false, List, [], ◌∷◌, refl, sym, ap, subst, ◌∙◌, Option}
+use Rattle.std.proofs.Common.{◌≡◌, ℕ, ◌+◌, Bool, true, false, List, [], ◌∷◌, refl, sym, ap, subst, Option}
 use Rattle.std.proofs.Common.{Some, None, if◌then◌else◌, ⊎_elim}
 use Rattle.std.specs.Prelude.{nat_lt, nat_le}
 use Rattle.words36.specs.declared.moment.Moment.{Moment}
 use Rattle.meaning.specs.Files.{Files}
 use Rattle.meaning.specs.Published.{Version}
-use Rattle.meaning.specs.Cores.{first_free}
 use Rattle.meaning.specs.Jobs.{Channel, Job, State, channel_at, job_at, with_job}
 use Rattle.meaning.specs.Opening.{opens}
 use Rattle.meaning.specs.Room.{Pack}
-use Rattle.meaning.specs.Runs.{Serving, Steps, Answers}
-use Rattle.meaning.specs.Step.{step, last_date, on_job, on_channel, of_job, of_files, call_of}
+use Rattle.meaning.specs.Runs.{Serving, Answers}
+use Rattle.meaning.specs.Step.{step, last_date, on_job, on_channel, of_job, call_of}
 use Rattle.meaning.specs.declared.area.Area.{Area}
 use Rattle.meaning.specs.declared.call.Call.{Call}
 use Rattle.meaning.specs.declared.call.Call.TheVariants.{Open, Inbuf, Outbuf, Lookup, Enter, Rename, In, Out, Useti}
@@ -66,7 +65,8 @@ module _ (s : State) (n : ℕ) (job : Job) (there : job_at s n ≡ Some job) whe
     call_changes (Open ch a) moment = opens_state (nat_le ch 15) _ (opens job ch a) (opens_within job ch a)
     call_changes (Inbuf ch k) moment = by_channel (λ c. areas_set_up job.core c c.input_header k) _ (channel_at job ch)
         (λ c. job_put _ _ _ (sets_up_within job ch c c.input_header k))
-    call_changes (Outbuf ch k) moment = by_channel (λ c. areas_set_up job.core c c.output_header k) _ (channel_at job ch)
+    call_changes (Outbuf ch k) moment =
+        by_channel (λ c. areas_set_up job.core c c.output_header k) _ (channel_at job ch)
         (λ c. job_put _ _ _ (sets_up_within job ch c c.output_header k))
     call_changes (Lookup ch e) moment = by_channel (λ c. words_at (e + 1) 3 ∷ []) _ (channel_at job ch)
         (λ c. job_put _ _ _ (lookup_within pack s job ch c e))

@@ -1,10 +1,9 @@
 -- Which words the areas of a call have: what they name where all of it lies in core.
-use Rattle.std.proofs.Common.{◌≡◌, ◌≢◌, ℕ, ◌+◌, ◌-◌, ◌*◌, ◌<◌, ◌≤◌, Bool, true, false, List, [], ◌∷◌, length, map, min}
-use Rattle.std.proofs.Common.{refl, ap, sym, subst, ◌∙◌, arith, Option, Some, None, ◌==◌, ◌&&◌, if◌then◌else◌, cond}
+use Rattle.std.proofs.Common.{◌≡◌, ◌≢◌, ℕ, ◌+◌, ◌-◌, ◌<◌, ◌≤◌, Bool, true, false, List, [], ◌∷◌, length, min}
+use Rattle.std.proofs.Common.{refl, ap, sym, ◌∙◌, arith, Some, None, ◌==◌, ◌&&◌, if◌then◌else◌, cond}
 use Rattle.std.specs.Prelude.{not, is_none}
 use Rattle.std.specs.List.{AllByRecursion}
 use Rattle.std.proofs.Math.Nat.{min-eq_left, min-le_right}
-use Rattle.std.proofs.lemmas.Bool.{cases_lt}
 use Rattle.std.proofs.lemmas.Bool.Decides.{nat_tests}
 use Rattle.meaning.specs.Cores.{lies_outside, first_free}
 use Rattle.meaning.specs.Inputs.{areas_at, ring_in}
@@ -12,11 +11,10 @@ use Rattle.meaning.specs.Jobs.{Input, Channel, Job, channel_at}
 use Rattle.meaning.specs.Rings.{is_buffered, byte_size, base, current, target, is_good, in_is_good, in_ready, with_ring}
 use Rattle.meaning.specs.Rings.{setup}
 use Rattle.meaning.specs.declared.area.Area.{Area}
-use Rattle.meaning.specs.declared.call.Call.{Call}
 use Rattle.meaning.specs.declared.call.Call.TheVariants.{Lookup, In}
 use Rattle.usercore.specs.Areas.{words_at, in_areas, setup_areas}
-use Rattle.monitor.specs.Changed.{IsPart, clipped, in_core, on_open, areas_filled, areas_named, areas_of}
-use Rattle.usercore.proofs.AreaLaws.{passed_test, inside, ringed_from, good_some}
+use Rattle.monitor.specs.Changed.{IsPart, in_core, on_open, areas_filled, areas_of}
+use Rattle.usercore.proofs.AreaLaws.{passed_test, inside, ringed_from}
 
 some_words : (n : ℕ) → not (n == 0) ≡ true → 0 < n
 some_words n some = grind (arith, nat_tests)
@@ -110,7 +108,8 @@ module _ (job : Job) (ch : ℕ) (c : Channel) (there : channel_at job ch ≡ Som
         let second = fits job.core (target job.core h) good.1 in
         filled ∙ ap (λ b. in_core job.core (if b then setup_areas job.core h 2 else words_at h 3
         ∷ words_at (current job.core h) 1 ∷ words_at (target job.core h - 1) 0o203 ∷ [])) zero
-        ∙ all_of job.core (words_at h 3 ∷ words_at (current job.core h) 1 ∷ words_at (target job.core h - 1) 0o203 ∷ []) (
+        ∙ all_of job.core
+        (words_at h 3 ∷ words_at (current job.core h) 1 ∷ words_at (target job.core h - 1) 0o203 ∷ []) (
           (omega arith, found.1),
           ((omega arith, omega (arith, first)), ((omega arith, omega (arith, second)), tt)),
         )

@@ -1,5 +1,6 @@
 -- Which words of its own core a call of a job may change, told by the call and by the job before it.
-use Rattle.std.specs.Prelude.{◌≡◌, ◌<◌, ◌≤◌, ℕ, ◌+◌, ◌-◌, ◌==◌, ◌||◌, ◌&&◌, not, Bool, true, is_none, is_some, if◌then◌else◌, min, map}
+use Rattle.std.specs.Prelude.{◌≡◌, ◌<◌, ◌≤◌, ℕ, ◌+◌, ◌-◌, ◌==◌, ◌||◌, ◌&&◌, not, Bool, true, is_none, is_some}
+use Rattle.std.specs.Prelude.{if◌then◌else◌, min, map}
 use Rattle.std.specs.Prelude.{List, [], ◌∷◌, length, Option, Some, None}
 use Rattle.std.specs.List.{filter}
 use Rattle.meaning.specs.Closing.{keeps_output, keeps_input, discards}
@@ -67,8 +68,8 @@ abbrev pub on_open : Option Channel → (Channel → List Area) → List Area
 on_open None areas = []
 on_open (Some c) areas = areas c
 
--- A line for each call. Of a block of words at an address a refusal changes the second. ENTER tells the file's date in
--- it and in the third, LOOKUP its size in the fourth too.
+-- A line for each call. A refusal writes its code into the second word of the block that the call names. LOOKUP and
+-- ENTER write a file's date and attributes into the second and third, and LOOKUP its size into the fourth.
 abbrev pub areas_named : Job → Call → List Area
 areas_named job (Open ch a) = areas_opened job.core a
 areas_named job (Inbuf ch n) = on_open (channel_at job ch) (λ c. areas_set_up job.core c c.input_header n)
@@ -97,8 +98,8 @@ abbrev pub areas_for : Option Job → Call → List Area
 areas_for None call = []
 areas_for (Some job) call = areas_of job call
 
--- From one state to another, job n is still there, and of its core no word outside these areas was changed; all other
--- jobs are as before.
+-- From one state to another, job n stays, and of its core no word outside these areas changes; all other jobs are as
+-- before.
 pub record ChangesJob (n : ℕ) (job : Job) (areas : List Area) (s t : State) : Type 0 where
   pub after : Job
   pub there : job_at t n ≡ Some after

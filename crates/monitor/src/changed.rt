@@ -21,7 +21,7 @@ use meaning::Call;
 use std::alloc::{AllocError, Global};
 use usercore::{Area, Core, FIRST_FREE, HEADER_WORDS};
 
-/// The part of an area that lies in core.
+/// Gives the part of an area that lies in core.
 fn clipped(core: &Core, area: Area) -> Area
     ensures { result ≡ clipped core.now area }
 {
@@ -43,7 +43,7 @@ fn add_some(parts: &mut Vec<Area>, part: Area) -> Result<(), AllocError>
     Ok(())
 }
 
-/// The parts of areas that lie in core, without those that have no words.
+/// Gives the parts of areas that lie in core, without those that have no words.
 fn in_core(alloc: Global, core: &Core, areas: &[Area]) -> Result<Vec<Area>, AllocError>
     ensures { IfOk result (λ parts. parts.items ≡ in_core core.now areas.now) }
 {
@@ -54,7 +54,7 @@ fn in_core(alloc: Global, core: &Core, areas: &[Area]) -> Result<Vec<Area>, Allo
     Ok(parts)
 }
 
-/// The three words of a header, if it is one that is meant; address 0 is no header.
+/// Gives the three words of a header, if it is one that is meant; address 0 is no header.
 fn header_area(is_meant: bool, header: u32) -> Area
     ensures { result ≡ header_area is_meant header }
 {
@@ -69,7 +69,7 @@ fn header_area(is_meant: bool, header: u32) -> Area
     }
 }
 
-/// Whether the mode that the word at an address asks for has buffers.
+/// Tells whether the mode that the word at an address asks for has buffers.
 fn has_buffers(core: &Core, address: u32) -> bool
     ensures { result ≡ is_buffered (mode_at core.now address) }
 {
@@ -77,7 +77,7 @@ fn has_buffers(core: &Core, address: u32) -> bool
     mode <= 1 || mode == 0o10 || mode == 0o13 || mode == 0o14
 }
 
-/// OPEN: the headers of the rings that its three words name, in a mode with buffers.
+/// OPEN: gives the headers of the rings that its three words name, in a mode with buffers.
 fn opened(alloc: Global, core: &Core, address: u32) -> Result<Vec<Area>, AllocError>
     ensures { IfOk result (λ areas. areas.items ≡ in_core core.now (areas_opened core.now address)) }
 {
@@ -90,7 +90,7 @@ fn opened(alloc: Global, core: &Core, address: u32) -> Result<Vec<Area>, AllocEr
     in_core(alloc, core, &[output, input])
 }
 
-/// A ring of so many buffers that a channel sets up at a header.
+/// Gives what the setup of a channel's ring may change, by its header and the number of buffers.
 fn set_up(
     alloc: Global,
     core: &Core,
@@ -107,7 +107,7 @@ fn set_up(
     in_core(alloc, core, &core.setup_areas(header, buffers))
 }
 
-/// INBUF: the ring that it sets up.
+/// INBUF: gives what the setup of the input's ring may change.
 fn set_up_for_input(
     alloc: Global,
     core: &Core,
@@ -123,7 +123,7 @@ fn set_up_for_input(
     set_up(alloc, core, &open, open.input_header, buffers)
 }
 
-/// OUTBUF: the ring that it sets up.
+/// OUTBUF: gives what the setup of the output's ring may change.
 fn set_up_for_output(
     alloc: Global,
     core: &Core,
@@ -139,7 +139,7 @@ fn set_up_for_output(
     set_up(alloc, core, &open, open.output_header, buffers)
 }
 
-/// So many words from the one after an address on.
+/// Gives words in a row, from the one after an address on.
 fn following(
     alloc: Global,
     core: &Core,
@@ -152,7 +152,7 @@ fn following(
     in_core(alloc, core, &[Area { first, count }])
 }
 
-/// LOOKUP, ENTER and RENAME: so many words from the second of their four on.
+/// LOOKUP, ENTER and RENAME: gives words in a row, from the second of their four on.
 fn told(
     alloc: Global,
     core: &Core,
@@ -169,7 +169,7 @@ fn told(
     following(alloc, core, address, count)
 }
 
-/// What the command list at an address names.
+/// Gives what the command list at an address names.
 fn listed(alloc: Global, core: &Core, address: u32) -> Result<Vec<Area>, AllocError>
     ensures { IfOk result (λ areas. areas.items ≡ in_core core.now (areas_or_none (dump_list core.now address))) }
 {
@@ -179,7 +179,7 @@ fn listed(alloc: Global, core: &Core, address: u32) -> Result<Vec<Area>, AllocEr
     }
 }
 
-/// IN: the buffer that it fills, or what its command list names.
+/// IN: gives what filling a buffer may change, or what the command list names.
 fn filled(
     alloc: Global,
     core: &Core,
@@ -204,7 +204,7 @@ fn filled(
     in_core(alloc, core, &core.in_areas(open.input_header))
 }
 
-/// OUT: the buffer that it empties. In dump mode it changes no word.
+/// OUT: gives what emptying a buffer may change. In dump mode it changes no word.
 fn emptied(alloc: Global, core: &Core, channel: Option<Channel>) -> Result<Vec<Area>, AllocError>
     ensures { IfOk result (λ areas. (under : UnderKeys) → areas.items ≡ in_core core.now (on_open
         (option_map (channel_of under) channel) (λ c. areas_emptied core.now c))) }
@@ -218,7 +218,7 @@ fn emptied(alloc: Global, core: &Core, channel: Option<Channel>) -> Result<Vec<A
     in_core(alloc, core, &core.out_areas(open.output_header))
 }
 
-/// CLOSE and RELEAS: the headers of the sides that close.
+/// CLOSE and RELEAS: gives the headers of the sides that close.
 fn closed(
     alloc: Global,
     core: &Core,
@@ -241,7 +241,7 @@ fn closed(
     in_core(alloc, core, &[output, input])
 }
 
-/// The areas of its core that a call of a job may change.
+/// Gives the areas of its core that a call of a job may change: a line for each call.
 fn areas_of(alloc: Global, job: &Job, call: &Call) -> Result<Vec<Area>, AllocError>
     ensures { IfOk result (λ areas. (under : UnderKeys) → areas.items ≡ areas_of (job_of under job.now) call.now) }
 {
@@ -267,7 +267,7 @@ fn areas_of(alloc: Global, job: &Job, call: &Call) -> Result<Vec<Area>, AllocErr
     }
 }
 
-/// Those for the job of a number: none where nobody is logged in.
+/// Gives those for the job of a number: none if nobody is logged in.
 fn areas_for(alloc: Global, jobs: &Jobs, number: u32, call: &Call) -> Result<Vec<Area>, AllocError>
     ensures { IfOk result (λ areas. (under : UnderKeys) → areas.items
         ≡ areas_for (option_map (job_of under) (slot jobs.now number)) call.now) }
@@ -279,9 +279,9 @@ fn areas_for(alloc: Global, jobs: &Jobs, number: u32, call: &Call) -> Result<Vec
 }
 
 impl<D: Disk> Monitor<D> {
-    /// The areas of its core that a call of a job may change, told by the call and the core before it: no other word
+    /// Tells which areas of its own core a call of a job may change, by the call and the job before it: no other word
     /// of any core changes. Each area has words, and all of them lie in the core; areas may overlap. There are none
-    /// for a job that isn't logged in, and for a call on a channel that isn't open. The disk is left alone.
+    /// for a job that isn't logged in, nor for a call on a channel that isn't open. The disk isn't asked.
     ///
     /// # Errors
     ///

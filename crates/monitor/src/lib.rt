@@ -39,8 +39,8 @@
 //! 11. `start_after_crash` finds the files of a moment along such a list, and never a third, also where any number of
 //!    starts before it were stopped; and it refuses the disk for want of memory or a fault of the device alone.
 //!    (`found`, `refused`, `between`, `again`)
-//! 12. `changed_areas` tells beforehand which words of its own core a call of a job may change, by the call and the core
-//!    alone. No other word of any core changes. (`served`, `value`; `calls_change_their_areas`)
+//! 12. `changed_areas` tells beforehand which words of its own core a call of a job may change, by the call and the job
+//!    before it. No other word of any core changes. (`served`, `value`; `calls_change_their_areas`)
 #![tactic(auto)]
 
 mod call;
