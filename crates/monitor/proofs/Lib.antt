@@ -114,3 +114,8 @@ pub mod RenameRows
 pub mod DeletedStates
 pub mod Deletions
 pub mod RenameRefusals
+pub mod ChangedAreas
+pub mod ChangedRows
+pub mod ChangedStates
+pub mod ChangedWords
+pub mod ChangedCalls

@@ -28,3 +28,4 @@ pub mod DeleteDirRows
 pub mod QuotaRows
 pub mod Changing
 pub mod Arriving
+pub mod Changed

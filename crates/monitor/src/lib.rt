@@ -39,9 +39,13 @@
 //! 11. `start_after_crash` finds the files of a moment along such a list, and never a third, also where any number of
 //!    starts before it were stopped; and it refuses the disk for want of memory or a fault of the device alone.
 //!    (`found`, `refused`, `between`, `again`)
+//! 12. `changed_areas` tells beforehand which words of its own core a call of a job may change, by the call and the job
+//!    before it. No other word of any core changes. (`served`, `value`; `calls_change_their_areas`)
 #![tactic(auto)]
 
 mod call;
+mod changed;
+mod changed_laws;
 mod channel;
 mod close;
 mod deletedir;
@@ -81,6 +85,7 @@ mod useti;
 mod useto;
 mod words;
 
+pub use changed_laws::{areas_have_these_words, calls_change_their_areas};
 pub use channel::Channel;
 pub use holding_laws::{readers_come_and_go, readers_keep_what_is_superseded};
 pub use input::Input;
@@ -90,4 +95,5 @@ pub use monitor::Monitor;
 pub use output::{Kind, Output};
 pub use reading_laws::{what_is_read_is_booked, what_is_read_stays};
 pub use restart::start_after_crash;
+pub use usercore::Area;
 pub use volume::{Charge, VolumeError as StartError};

@@ -1,8 +1,10 @@
-//! Tests of lists of events, of quotas, of a start after a crash, and of a device that fails at a read or while a quota
-//! is set, by the calls of a monitor. What single calls come to is played by the program `rows`. There is no code here
-//! beside them.
+//! Tests of lists of events, of quotas, of the areas that calls change, of a start after a crash, and of a device that
+//! fails at a read or while a quota is set, by the calls of a monitor. What single calls come to is played by the
+//! program `rows`. There is no code here beside them.
 #![tactic(auto)]
 
+#[cfg(test)]
+mod changed_tests;
 #[cfg(test)]
 mod event_tests;
 #[cfg(test)]

@@ -78,7 +78,7 @@ pub(crate) fn owner(rt: &impl Abort) -> Ppn {
 
 /// A monitor over a disk, where that is accepted. What `Monitor::start` promises stays behind this function: the proofs
 /// of tests are short without it.
-fn start_over(alloc: Global, disk: MemDisk) -> Option<Monitor<MemDisk>> {
+pub(crate) fn start_over(alloc: Global, disk: MemDisk) -> Option<Monitor<MemDisk>> {
     Monitor::start(alloc, disk).ok()
 }
 

@@ -1,6 +1,7 @@
 -- What is written lies in the areas that are named.
 use Rattle.std.proofs.Common.{◌≡◌, ◌≢◌, ◌⊎◌, inl, inr, ⊎_elim, ℕ, zero, suc, ◌+◌, ◌-◌, ◌*◌, ◌^◌, ◌<◌, ◌≤◌, Bool, true}
-use Rattle.std.proofs.Common.{false, List, [], ◌∷◌, ◌++◌, length, refl, ap, sym, subst, ◌∙◌, arith, slice_index, slice_set}
+use Rattle.std.proofs.Common.{false, List, [], ◌∷◌, ◌++◌, length, refl, ap, sym, subst, ◌∙◌, arith, slice_index}
+use Rattle.std.proofs.Common.{slice_set}
 use Rattle.std.proofs.Common.{Option, Some, None, ◌==◌, ◌||◌, ◌&&◌, if◌then◌else◌, replicate, take, drop}
 use Rattle.std.specs.Prelude.{option_map}
 use Rattle.std.specs.List.{AllByRecursion}
@@ -10,9 +11,12 @@ use Rattle.std.proofs.lemmas.List.{get_or-set_other, length-take, length-replica
 use Rattle.words36.specs.Words.{left, right, join}
 use Rattle.meaning.specs.declared.area.Area.{Area}
 use Rattle.meaning.specs.Cores.{after_writes, placed, dealt, lies_outside}
-use Rattle.meaning.specs.Rings.{base, buffer_at, buffer_words, data_words, buffer_writes, ring_writes, setup_writes, setup}
-use Rattle.meaning.specs.Rings.{follower, pointer, bytes_in_word, with_ring, kept_if, current, target, next, is_unused, is_good, in_is_good}
-use Rattle.meaning.specs.Rings.{out_is_good, last_is_good, in_ready, out_ready, buffer_left, in_writes, put_behind, out_writes}
+use Rattle.meaning.specs.Rings.{base, buffer_at, buffer_words, data_words, buffer_writes, ring_writes, setup_writes}
+use Rattle.meaning.specs.Rings.{setup}
+use Rattle.meaning.specs.Rings.{follower, pointer, bytes_in_word, with_ring, kept_if, current, target, next, is_unused}
+use Rattle.meaning.specs.Rings.{is_good, in_is_good}
+use Rattle.meaning.specs.Rings.{out_is_good, last_is_good, in_ready, out_ready, buffer_left, in_writes, put_behind}
+use Rattle.meaning.specs.Rings.{out_writes}
 use Rattle.meaning.proofs.CoreWrites.{writes_length}
 use Rattle.meaning.proofs.SlotLaws.{all_append}
 use Rattle.usercore.specs.Areas.{IsOutside, ChangesWithin, words_at, setup_areas, step_areas}
@@ -206,7 +210,8 @@ step_within : (core ready : List ℕ) (h size count : ℕ) (ws : List (ℕ × �
     → ChangesWithin (step_areas core h count) core (after_writes ready ws)
 step_within core ready h size count ws few is some stays = by (current core h == 0) is
   where
-    by : (b : Bool) → (if b then setup core h size 2 else if lies_outside core h 3 then None else Some core) ≡ Some ready
+    by : (b : Bool)
+        → (if b then setup core h size 2 else if lies_outside core h 3 then None else Some core) ≡ Some ready
         → ChangesWithin (if b then setup_areas core h 2 else found_areas core h count) core (after_writes ready ws)
     by true e =
         let ring = ringed_from core ready h size e in

@@ -12,31 +12,31 @@ pub const HEADER_WORDS: usize = 3;
 
 /// Which words the steps of a ring may change.
 impl Core {
-    /// What a setup of so many buffers, where 0 means 2, may change: the job word that says where rings go, the
-    /// buffers, and the header.
+    /// Tells which words a setup may change, by the number of its buffers, where 0 means 2: the job word that says
+    /// where rings go, the buffers, and the header.
     pub fn setup_areas(&self, header: u32, buffers: u32) -> [Area; 3]
         ensures { result ≡ setup_areas self.now header (buffers_of buffers) }
     {
         self.ring_areas(header as usize, buffers_of(buffers))
     }
 
-    /// What an IN may change: the header, the word of the buffer that was the current one, and the buffer that is
-    /// filled. Where the header names no buffer, it is what a setup of two may change.
+    /// Tells which words an IN may change: the header, the word of the buffer that was the current one, and the buffer
+    /// that is filled; or what a setup of two may change, if the header names no buffer.
     pub fn in_areas(&self, header: u32) -> [Area; 3]
         ensures { result ≡ in_areas self.now header }
     {
         self.step_areas(header as usize, 1)
     }
 
-    /// What an OUT may change: the header, the word and the count of the buffer that was the current one, and the
-    /// buffer that is emptied. Where the header names no buffer, it is what a setup of two may change.
+    /// Tells which words an OUT may change: the header, the word and the count of the buffer that was the current one,
+    /// and the buffer that is emptied; or what a setup of two may change, if the header names no buffer.
     pub fn out_areas(&self, header: u32) -> [Area; 3]
         ensures { result ≡ out_areas self.now header }
     {
         self.step_areas(header as usize, 2)
     }
 
-    /// What a step may change that writes so many words of the buffer that was the current one.
+    /// Tells which words a step may change, by how many it writes of the buffer that was the current one.
     fn step_areas(&self, header: usize, left: usize) -> [Area; 3]
         ensures { result ≡ step_areas self.now header left }
     {
@@ -60,7 +60,7 @@ impl Core {
         ]
     }
 
-    /// What a setup of so many buffers may change.
+    /// Tells which words a setup may change, by the number of its buffers.
     fn ring_areas(&self, header: usize, buffers: usize) -> [Area; 3]
         requires { buffers ≤ 0xffffffff }
         ensures { result ≡ setup_areas self.now header buffers }

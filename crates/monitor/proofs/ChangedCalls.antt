@@ -1,0 +1,59 @@
+-- What the monitor tells of a call is what the machine's job has.
+use Rattle.std.proofs.Common.{◌≡◌, ℕ, List, Option, Some, sym, ap, ◌∙◌}
+use Rattle.std.specs.Prelude.{Bool, Result, Ok, Err, IfOk, option_map}
+use Rattle.blockdisk.specs.Disk.{DiskState}
+use Rattle.meaning.specs.Jobs as machine
+use Rattle.meaning.specs.Jobs.{State, channel_at, job_at, slot}
+use Rattle.meaning.specs.Runs.{Serving}
+use Rattle.meaning.specs.declared.area.Area.{Area}
+use Rattle.meaning.specs.declared.call.Call.{Call}
+use Rattle.volume.specs.Live.{VolumeCore}
+use Rattle.monitor.specs.Changed.{in_core, on_open, areas_of, areas_for}
+use Rattle.monitor.specs.Serving.{Serves}
+use Rattle.monitor.specs.Sides.{UnderKeys, channel_of, job_of}
+use Rattle.monitor.specs.declared.channel.Channel.{Channel}
+use Rattle.monitor.specs.declared.job.Job.{Job}
+use Rattle.monitor.proofs.Calling.{channel_is}
+use Rattle.monitor.proofs.SideLists.{slot-map}
+
+-- what is so at Ok gives something else
+pub ok_gives : {X E : Type 0} (P Q : X → Type 0) (r : Result X E) → ((x : X) → P x → Q x) → IfOk r P → IfOk r Q
+ok_gives P Q (Ok x) give is = give x is
+ok_gives P Q (Err e) give is = is
+
+-- on a channel that is open
+pub opened_there : {X E : Type 0} (items : X → List Area) (r : Result X E) (core : List ℕ) (c : Channel)
+    (channel : Option Channel) (areas : machine.Channel → List Area) → channel ≡ Some c
+    → IfOk r (λ x. (w : UnderKeys) → items x ≡ in_core core (areas (channel_of w c)))
+    → IfOk r (λ x. (w : UnderKeys) → items x ≡ in_core core (on_open (option_map (channel_of w) channel) areas))
+opened_there items r core c channel areas there is = ok_gives _ _ r
+    (λ x told w. told w ∙ ap (λ o. in_core core (on_open (option_map (channel_of w) o) areas)) (sym there)) is
+
+-- on the channel that a call names
+pub on_channel : {X E : Type 0} (items : X → List Area) (r : Result X E) (job : Job) (number : ℕ)
+    (channel : Option Channel) (areas : machine.Channel → List Area) (call named : Call)
+    → ((w : UnderKeys) → areas_of (job_of w job) named
+    ≡ in_core job.core (on_open (channel_at (job_of w job) number) areas))
+    → channel ≡ slot job.channels number → call ≡ named
+    → IfOk r (λ x. (w : UnderKeys) → items x ≡ in_core job.core (on_open (option_map (channel_of w) channel) areas))
+    → IfOk r (λ x. (w : UnderKeys) → items x ≡ areas_of (job_of w job) call)
+on_channel items r job number channel areas call named row at is told = ok_gives _ _ r
+    (λ x areas_are w. areas_are w
+    ∙ ap (λ o. in_core job.core (on_open o areas)) (sym (channel_is w job number channel (sym at)))
+    ∙ sym (row w) ∙ ap (areas_of (job_of w job)) (sym is)) told
+
+-- of a job that is logged in
+pub for_slot : {X E : Type 0} (items : X → List Area) (r : Result X E) (jobs : List (Option Job)) (n : ℕ) (job : Job)
+    (call : Call) → slot jobs n ≡ Some job → IfOk r (λ x. (w : UnderKeys) → items x ≡ areas_of (job_of w job) call)
+    → IfOk r (λ x. (w : UnderKeys) → items x ≡ areas_for (option_map (job_of w) (slot jobs n)) call)
+for_slot items r jobs n job call there told = ok_gives _ _ r
+    (λ x areas_are w. areas_are w ∙ ap (λ o. areas_for (option_map (job_of w) o) call) (sym there)) told
+
+-- of the job that the machine has
+pub for_job : (items : List Area) (jobs : List (Option Job)) (n : ℕ) (call : Call)
+    → ((w : UnderKeys) → items ≡ areas_for (option_map (job_of w) (slot jobs n)) call)
+    → (d : DiskState) (map : VolumeCore) (failed : Bool) (s : State) → Serves d map failed jobs (Serving s)
+    → items ≡ areas_for (job_at s n) call
+for_job items jobs n call told d map failed s serves =
+    told serves.1.under ∙ ap (λ o. areas_for o call) (sym (slot-map (job_of serves.1.under) jobs n)
+    ∙ ap (λ slots. slot slots n) (sym serves.1.jobs_are))

@@ -1,0 +1,7 @@
+use Rattle.monitor.specs.Changed.{areas_set_up}
+use Rattle.monitor.proofs.ChangedCalls.{opened_there}
+use Rattle.monitor.proofs.changed.set_up_for_output.Goals as goal
+
+pub returns : goal.returns
+returns c = opened_there (λ v. v.items) c.set_up.result c.args.core.now c.in-Some.open c.args.channel
+    (λ k. areas_set_up c.args.core.now k k.output_header c.args.buffers) c.in-Some.is c.set_up.ensures

@@ -1,0 +1,299 @@
+ghost use Rattle.std.specs.Prelude.{◌≡◌, ◌+◌, ◌++◌, ◌∷◌, ◌==◌, not, [], IfOk, OnOk, option_map};
+ghost use Rattle.std.specs.List.{filter};
+ghost use Rattle.meaning.specs.CommandLists.{dump_list};
+ghost use Rattle.meaning.specs.Inputs.{areas_or_none};
+ghost use Rattle.meaning.specs.Jobs.{State, job_at, slot};
+ghost use Rattle.meaning.specs.Opening.{mode_at};
+ghost use Rattle.meaning.specs.Rings.{is_buffered};
+ghost use Rattle.meaning.specs.Runs.{Serving};
+ghost use Rattle.usercore.specs.Areas.{words_at};
+ghost use Rattle.monitor.specs.Changed.{clipped, in_core, header_area, areas_opened, areas_set_up, areas_filled};
+ghost use Rattle.monitor.specs.Changed.{areas_emptied, areas_closed, on_open, areas_of, areas_for};
+ghost use Rattle.monitor.specs.Serving.{Serves};
+ghost use Rattle.monitor.specs.Sides.{UnderKeys, channel_of, job_of};
+
+use crate::channel::Channel;
+use crate::job::{Job, Jobs};
+use crate::monitor::Monitor;
+use crate::open::{lies_outside, word_at};
+use blockdisk::{Disk, NoMemory};
+use meaning::Call;
+use std::alloc::{AllocError, Global};
+use usercore::{Area, Core, FIRST_FREE, HEADER_WORDS};
+
+/// Gives the part of an area that lies in core.
+fn clipped(core: &Core, area: Area) -> Area
+    ensures { result ≡ clipped core.now area }
+{
+    let words_left = core.length().saturating_sub(area.first);
+    Area {
+        first: area.first,
+        count: area.count.min(words_left),
+    }
+}
+
+/// Adds an area to others, unless it has no words.
+fn add_some(parts: &mut Vec<Area>, part: Area) -> Result<(), AllocError>
+    ensures { OnOk result
+        (parts.new.items ≡ parts.old.items ++ filter (λ area. not (area.count == 0)) (part ∷ [])) }
+{
+    if part.count > 0 {
+        parts.push(part)?;
+    }
+    Ok(())
+}
+
+/// Gives the parts of areas that lie in core, without those that have no words.
+fn in_core(alloc: Global, core: &Core, areas: &[Area]) -> Result<Vec<Area>, AllocError>
+    ensures { IfOk result (λ parts. parts.items ≡ in_core core.now areas.now) }
+{
+    let mut parts = Vec::with_capacity(alloc, areas.len())?;
+    for area in areas {
+        add_some(&mut parts, clipped(core, *area))?;
+    }
+    Ok(parts)
+}
+
+/// Gives the three words of a header, if it is one that is meant; address 0 is no header.
+fn header_area(is_meant: bool, header: u32) -> Area
+    ensures { result ≡ header_area is_meant header }
+{
+    let first = header as usize;
+    if is_meant && header != 0 {
+        Area {
+            first,
+            count: HEADER_WORDS,
+        }
+    } else {
+        Area { first, count: 0 }
+    }
+}
+
+/// Tells whether the mode that the word at an address asks for has buffers.
+fn has_buffers(core: &Core, address: u32) -> bool
+    ensures { result ≡ is_buffered (mode_at core.now address) }
+{
+    let mode = word_at(core, address).bits() % 16;
+    mode <= 1 || mode == 0o10 || mode == 0o13 || mode == 0o14
+}
+
+/// OPEN: gives the headers of the rings that its three words name, in a mode with buffers.
+fn opened(alloc: Global, core: &Core, address: u32) -> Result<Vec<Area>, AllocError>
+    ensures { IfOk result (λ areas. areas.items ≡ in_core core.now (areas_opened core.now address)) }
+{
+    if lies_outside(core, address, 3) || !has_buffers(core, address) {
+        return Ok(Vec::new(alloc));
+    }
+    let headers = word_at(core, address + 2);
+    let output = header_area(true, headers.left().bits());
+    let input = header_area(true, headers.right().bits());
+    in_core(alloc, core, &[output, input])
+}
+
+/// Gives what the setup of a channel's ring may change, by its header and the number of buffers.
+fn set_up(
+    alloc: Global,
+    core: &Core,
+    channel: &Channel,
+    header: u32,
+    buffers: u32,
+) -> Result<Vec<Area>, AllocError>
+    ensures { IfOk result (λ areas. (under : UnderKeys) → areas.items
+        ≡ in_core core.now (areas_set_up core.now (channel_of under channel.now) header buffers)) }
+{
+    if !channel.is_buffered() || header == 0 {
+        return Ok(Vec::new(alloc));
+    }
+    in_core(alloc, core, &core.setup_areas(header, buffers))
+}
+
+/// INBUF: gives what the setup of the input's ring may change.
+fn set_up_for_input(
+    alloc: Global,
+    core: &Core,
+    channel: Option<Channel>,
+    buffers: u32,
+) -> Result<Vec<Area>, AllocError>
+    ensures { IfOk result (λ areas. (under : UnderKeys) → areas.items ≡ in_core core.now (on_open
+        (option_map (channel_of under) channel) (λ c. areas_set_up core.now c c.input_header buffers))) }
+{
+    let Some(open) = channel else {
+        return Ok(Vec::new(alloc));
+    };
+    set_up(alloc, core, &open, open.input_header, buffers)
+}
+
+/// OUTBUF: gives what the setup of the output's ring may change.
+fn set_up_for_output(
+    alloc: Global,
+    core: &Core,
+    channel: Option<Channel>,
+    buffers: u32,
+) -> Result<Vec<Area>, AllocError>
+    ensures { IfOk result (λ areas. (under : UnderKeys) → areas.items ≡ in_core core.now (on_open
+        (option_map (channel_of under) channel) (λ c. areas_set_up core.now c c.output_header buffers))) }
+{
+    let Some(open) = channel else {
+        return Ok(Vec::new(alloc));
+    };
+    set_up(alloc, core, &open, open.output_header, buffers)
+}
+
+/// Gives words in a row, from the one after an address on.
+fn following(
+    alloc: Global,
+    core: &Core,
+    address: u32,
+    count: usize,
+) -> Result<Vec<Area>, AllocError>
+    ensures { IfOk result (λ areas. areas.items ≡ in_core core.now (words_at (address + 1) count ∷ [])) }
+{
+    let first = address as usize + 1;
+    in_core(alloc, core, &[Area { first, count }])
+}
+
+/// LOOKUP, ENTER and RENAME: gives words in a row, from the second of their four on.
+fn told(
+    alloc: Global,
+    core: &Core,
+    channel: Option<Channel>,
+    address: u32,
+    count: usize,
+) -> Result<Vec<Area>, AllocError>
+    ensures { IfOk result (λ areas. (under : UnderKeys) → areas.items ≡ in_core core.now (on_open
+        (option_map (channel_of under) channel) (λ c. words_at (address + 1) count ∷ []))) }
+{
+    if channel.is_none() {
+        return Ok(Vec::new(alloc));
+    }
+    following(alloc, core, address, count)
+}
+
+/// Gives what the command list at an address names.
+fn listed(alloc: Global, core: &Core, address: u32) -> Result<Vec<Area>, AllocError>
+    ensures { IfOk result (λ areas. areas.items ≡ in_core core.now (areas_or_none (dump_list core.now address))) }
+{
+    match core.dump_list(address) {
+        Ok(areas) => in_core(alloc, core, areas.as_slice()),
+        Err(_) => Ok(Vec::new(alloc)),
+    }
+}
+
+/// IN: gives what filling a buffer may change, or what the command list names.
+fn filled(
+    alloc: Global,
+    core: &Core,
+    channel: Option<Channel>,
+    address: u32,
+) -> Result<Vec<Area>, AllocError>
+    ensures { IfOk result (λ areas. (under : UnderKeys) → areas.items ≡ in_core core.now (on_open
+        (option_map (channel_of under) channel) (λ c. areas_filled core.now c address))) }
+{
+    let Some(open) = channel else {
+        return Ok(Vec::new(alloc));
+    };
+    if open.input.is_none() {
+        return Ok(Vec::new(alloc));
+    }
+    if !open.is_buffered() {
+        return listed(alloc, core, address);
+    }
+    if open.input_header == 0 {
+        return Ok(Vec::new(alloc));
+    }
+    in_core(alloc, core, &core.in_areas(open.input_header))
+}
+
+/// OUT: gives what emptying a buffer may change. In dump mode it changes no word.
+fn emptied(alloc: Global, core: &Core, channel: Option<Channel>) -> Result<Vec<Area>, AllocError>
+    ensures { IfOk result (λ areas. (under : UnderKeys) → areas.items ≡ in_core core.now (on_open
+        (option_map (channel_of under) channel) (λ c. areas_emptied core.now c))) }
+{
+    let Some(open) = channel else {
+        return Ok(Vec::new(alloc));
+    };
+    if open.output.is_none() || !open.is_buffered() || open.output_header == 0 {
+        return Ok(Vec::new(alloc));
+    }
+    in_core(alloc, core, &core.out_areas(open.output_header))
+}
+
+/// CLOSE and RELEAS: gives the headers of the sides that close.
+fn closed(
+    alloc: Global,
+    core: &Core,
+    channel: Option<Channel>,
+    bits: u32,
+) -> Result<Vec<Area>, AllocError>
+    ensures { IfOk result (λ areas. (under : UnderKeys) → areas.items ≡ in_core core.now (on_open
+        (option_map (channel_of under) channel) (λ c. areas_closed c bits))) }
+{
+    let Some(open) = channel else {
+        return Ok(Vec::new(alloc));
+    };
+    if !open.is_buffered() || bits / 0o40 % 2 == 1 {
+        return Ok(Vec::new(alloc));
+    }
+    let closes_output = open.output.is_some() && bits % 2 != 1;
+    let closes_input = open.input.is_some() && bits / 2 % 2 != 1;
+    let output = header_area(closes_output, open.output_header);
+    let input = header_area(closes_input, open.input_header);
+    in_core(alloc, core, &[output, input])
+}
+
+/// Gives the areas of its core that a call of a job may change: a line for each call.
+fn areas_of(alloc: Global, job: &Job, call: &Call) -> Result<Vec<Area>, AllocError>
+    ensures { IfOk result (λ areas. (under : UnderKeys) → areas.items ≡ areas_of (job_of under job.now) call.now) }
+{
+    let core = &job.core;
+    match *call {
+        Call::Open(_, address) => opened(alloc, core, address),
+        Call::Inbuf(number, buffers) => set_up_for_input(alloc, core, job.channel(number), buffers),
+        Call::Outbuf(number, buffers) => {
+            set_up_for_output(alloc, core, job.channel(number), buffers)
+        }
+        Call::Lookup(number, address) => told(alloc, core, job.channel(number), address, 3),
+        Call::Enter(number, address) => told(alloc, core, job.channel(number), address, 2),
+        Call::Rename(number, address) => told(alloc, core, job.channel(number), address, 1),
+        Call::In(number, address) => filled(alloc, core, job.channel(number), address),
+        Call::Out(number, _) => emptied(alloc, core, job.channel(number)),
+        Call::Close(number, bits) => closed(alloc, core, job.channel(number), bits),
+        Call::Releas(number) => closed(alloc, core, job.channel(number), 0),
+        Call::Reset => following(alloc, core, FIRST_FREE - 1, 1),
+        Call::MakeDir(address) => following(alloc, core, address, 1),
+        Call::DeleteDir(address) => following(alloc, core, address, 1),
+        Call::Quota(address) => following(alloc, core, address, 1),
+        Call::Useti(..) | Call::Useto(..) | Call::Getsts(_) => Ok(Vec::new(alloc)),
+    }
+}
+
+/// Gives those for the job of a number: none if nobody is logged in.
+fn areas_for(alloc: Global, jobs: &Jobs, number: u32, call: &Call) -> Result<Vec<Area>, AllocError>
+    ensures { IfOk result (λ areas. (under : UnderKeys) → areas.items
+        ≡ areas_for (option_map (job_of under) (slot jobs.now number)) call.now) }
+{
+    match jobs.job(number) {
+        Some(job) => areas_of(alloc, job, call),
+        None => Ok(Vec::new(alloc)),
+    }
+}
+
+impl<D: Disk> Monitor<D> {
+    /// Tells which areas of its own core a call of a job may change, by the call and the job before it: no other word
+    /// of any core changes. Each area has words, and all of them lie in the core; areas may overlap. There are none
+    /// for a job that isn't logged in, nor for a call on a channel that isn't open. The disk isn't asked.
+    ///
+    /// # Errors
+    ///
+    /// `NoMemory` if the list finds no room.
+    pub fn changed_areas(&self, alloc: Global, job: u32, call: &Call) -> Result<Vec<Area>, NoMemory>
+        ensures served { (s : State)
+            → Serves (D.state self.now.disk) self.now.map self.now.failed self.now.jobs (Serving s)
+            → IfOk result (λ areas. areas.items ≡ areas_for (job_at s job) call.now) }
+        // On every disk they are told by the job's record, whatever is under its keys.
+        ensures value { IfOk result (λ areas. (under : UnderKeys) → areas.items
+            ≡ areas_for (option_map (job_of under) (slot self.now.jobs job)) call.now) }
+    {
+        Ok(areas_for(alloc, &self.jobs, job, call)?)
+    }
+}

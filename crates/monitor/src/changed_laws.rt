@@ -1,0 +1,48 @@
+ghost use Rattle.std.specs.Prelude.{◌≡◌, ◌≤◌, ◌+◌, ◌-◌, ◌∷◌, ℕ, true, List, [], Some, length};
+ghost use Rattle.std.specs.List.{AllByRecursion};
+ghost use Rattle.words36.specs.declared.moment.Moment.{Moment};
+ghost use Rattle.meaning.specs.Cores.{first_free};
+ghost use Rattle.meaning.specs.Inputs.{ring_in};
+ghost use Rattle.meaning.specs.Jobs.{Input, Channel, Job, State, channel_at, job_at};
+ghost use Rattle.meaning.specs.Rings.{is_buffered, base, current, target};
+ghost use Rattle.meaning.specs.Room.{Pack};
+ghost use Rattle.meaning.specs.Runs.{Serving, Answers};
+ghost use Rattle.meaning.specs.Step.{step};
+ghost use Rattle.meaning.specs.declared.call.Call.{Call};
+ghost use Rattle.meaning.specs.declared.call.Call.TheVariants.{Lookup, In};
+ghost use Rattle.meaning.specs.declared.call.Event.TheVariants.{Call as Calls};
+ghost use Rattle.meaning.specs.declared.call.Reply.{Reply};
+ghost use Rattle.usercore.specs.Areas.{words_at};
+ghost use Rattle.monitor.specs.Changed.{IsPart, ChangesJob, areas_of};
+
+/// A call changes no words of cores but those of its own job's that lie in its areas; nor does the service in a run,
+/// where memory may be wanting.
+pub fn calls_change_their_areas()
+    ensures stepped { (s : State) (n : ℕ) (job : Job) → job_at s n ≡ Some job
+        → (pack : Pack) (serial : ℕ) (call : Call) (moment : Moment)
+        → ChangesJob n job (areas_of job call) s (step pack serial s (Calls n call moment)).1 }
+    ensures answered { (s : State) (n : ℕ) (job : Job) → job_at s n ≡ Some job
+        → (pack : Pack) (call : Call) (moment : Moment) (reply : Reply) (t : State)
+        → Answers pack (Serving s) (Calls n call moment) reply (Serving t)
+        → ChangesJob n job (areas_of job call) s t }
+{}
+
+/// The areas of a call are parts of core, and these words: of a LOOKUP, the last three of its four; of an IN from a
+/// ring, the header's, the current buffer's own, and the next buffer's; or, where a ring of two is set up first, the
+/// job word that says where rings go, both buffers' and the header's.
+pub fn areas_have_these_words()
+    ensures parts { (job : Job) (call : Call) → AllByRecursion (IsPart job.core) (areas_of job call) }
+    ensures looked_up { (job : Job) (number : ℕ) (c : Channel) → channel_at job number ≡ Some c
+        → (e : ℕ) → e + 4 ≤ length job.core → areas_of job (Lookup number e) ≡ words_at (e + 1) 3 ∷ [] }
+    ensures next { (job : Job) (number : ℕ) (c : Channel) → channel_at job number ≡ Some c
+        → (a : ℕ) (i : Input) → c.input ≡ Some i → is_buffered c.mode ≡ true
+        → (ready : List ℕ) → ring_in job c ≡ Some ready → (c.input_header ≡ 0 → ⊥)
+        → (current job.core c.input_header ≡ 0 → ⊥) → areas_of job (In number a)
+        ≡ words_at c.input_header 3 ∷ words_at (current job.core c.input_header) 1
+        ∷ words_at (target job.core c.input_header - 1) 0o203 ∷ [] }
+    ensures first { (job : Job) (number : ℕ) (c : Channel) → channel_at job number ≡ Some c
+        → (a : ℕ) (i : Input) → c.input ≡ Some i → is_buffered c.mode ≡ true
+        → (ready : List ℕ) → ring_in job c ≡ Some ready → (c.input_header ≡ 0 → ⊥)
+        → current job.core c.input_header ≡ 0 → areas_of job (In number a)
+        ≡ words_at first_free 1 ∷ words_at (base job.core) 0o406 ∷ words_at c.input_header 3 ∷ [] }
+{}
