@@ -5,4 +5,4 @@ use Rattle.commands.proofs.copying.copy_runs.Given as goal
 
 abbrev pub invariant-loop : goal.invariant-loop
 invariant-loop g l = (next : Plan) → Led g.S.FileService.machine l.fn.service l.service
-    (copies_runs l.moment l.runs next) (copies_runs l.moment (l.runs - l.runser) next)
+    (copies_runs l.moment l.runs next) (copies_runs l.moment (l.runs - l.counter) next)
