@@ -318,7 +318,7 @@ fn each_allocation_refused(rt: HostRuntime) {
         (Asked::Write(100, 7), Ok(0)),
         (Asked::Read(100), Ok(7)),
     ];
-    let under = [(Asked::Read(100), Ok(7))];
+    let under = [(Asked::Read(101), Ok(101))]; // also if the cache isn't made
     let fuse = (1000, Failing::All);
     let made = expect_answers(&rt, rt.alloc(), Some(103), fuse, &calls, &under);
     if let Err(error) = made {

@@ -188,6 +188,16 @@ pub(crate) fn open_disk<H: Host>(
     }
 }
 
+/// The same disk, with memory to read more neighbouring blocks by one call of its file, if there is any.
+fn with_room(alloc: Global, disk: ImageDisk<HostFile>) -> ImageDisk<HostFile>
+    ensures began { (form : Forms) (u : Unseen) → BeganAs form u (⟦<ImageDisk<HostFile> as Disk>⟧.state disk)
+        → BeganAs form u (⟦<ImageDisk<HostFile> as Disk>⟧.state result) }
+    ensures counted { (⟦<ImageDisk<HostFile> as Disk>⟧.state result).failures
+        ≡ (⟦<ImageDisk<HostFile> as Disk>⟧.state disk).failures }
+{
+    disk.with_room(alloc)
+}
+
 /// The same disk, with room to keep blocks of it in memory.
 ///
 /// # Errors
@@ -230,6 +240,7 @@ pub(crate) fn open_image<H: Host>(
         (unseen_in leave.supposed) denied.0 denied.1) }
 {
     let disk = open_disk(host, path, form, access, leave)?;
+    let disk = with_room(alloc, disk);
     keep_blocks(alloc, disk)
 }
 
