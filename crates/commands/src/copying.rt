@@ -11,7 +11,9 @@ use crate::answer::Tally;
 use crate::asking::{ask_all, examine};
 use crate::concluding::conclude;
 use crate::reading::{blocks_said, find_end, last_count};
-use crate::requests::{RUN_BLOCKS, RUN_WORDS, SIZE_WORD, closes, finds, goes_to, lists, puts, takes, writes};
+use crate::requests::{
+    RUN_BLOCKS, RUN_WORDS, SIZE_WORD, closes, finds, goes_to, lists, puts, takes, writes,
+};
 use crate::service::FileService;
 use meaning::{Reply, Spec};
 use std::alloc::{AllocError, Global};

@@ -1,4 +1,4 @@
-use Rattle.std.proofs.Common.{◌*◌, ◌/◌, ◌%◌}
+use Rattle.std.proofs.Common.{◌*◌, ◌%◌}
 use Rattle.std.proofs.lemmas.Result.{err_from_is_err_and}
 use Rattle.meaning.specs.Plans.{copies_blocks, copies_runs, lists, blocks_at_once}
 use Rattle.commands.proofs.LedLaws.{led_on}
