@@ -11,7 +11,7 @@ use Rattle.meaning.specs.declared.call.Call.TheVariants.{Useto, Close, Releas, G
 use Rattle.meaning.specs.declared.call.Reply.TheVariants.{Done, Value, Refused, Stopped, NoChannel, AddressCheck, NoJob}
 use Rattle.meaning.specs.declared.call.Reply.TheVariants.{NoMemory, Device, Failed, DateRange}
 use Rattle.wire.specs.declared.answer.Answer.{Answer}
-use Rattle.wire.specs.declared.answer.Answer.TheVariants.{Wrong, Reply as Replies}
+use Rattle.wire.specs.declared.answer.Answer.TheVariants.{Wrong, Reply as Replies, Room as HasRoom}
 use Rattle.wire.specs.declared.header.Header.{Header}
 use Rattle.wire.specs.declared.order.Order.{Order}
 use Rattle.wire.specs.declared.order.Order.TheVariants.{Login, Deposit, Examine, Call as Calls, Room}
@@ -145,6 +145,7 @@ answer_kind (Replies NoMemory) = 8
 answer_kind (Replies Device) = 9
 answer_kind (Replies Failed) = 10
 answer_kind (Replies DateRange) = 11
+answer_kind (HasRoom blocks) = 12
 
 -- the number that it tells, 0 if it tells none
 abbrev pub answer_value : Answer → ℕ
@@ -160,6 +161,7 @@ answer_value (Replies NoMemory) = 0
 answer_value (Replies Device) = 0
 answer_value (Replies Failed) = 0
 answer_value (Replies DateRange) = 0
+answer_value (HasRoom blocks) = blocks
 
 -- the record of an answer, with the number of groups of eight bytes behind it: the value takes bytes 4 to 11
 abbrev pub answer_record : Answer → ℕ → Header

@@ -1,15 +1,19 @@
-ghost use Rattle.std.specs.Prelude.{◌≡◌};
-ghost use Rattle.wire.specs.Records.{answer_record, answer_kind, answer_value};
+ghost use Rattle.std.specs.Prelude.{◌≡◌, ◌++◌, IfOk, length};
+ghost use Rattle.words36.specs.Blocks.{block_bytes};
+ghost use Rattle.wire.specs.Records.{answer_record, answer_kind, answer_value, record_bytes};
 
 use crate::Header;
 use meaning::Reply;
+use std::alloc::{AllocError, Global};
 
 /// What a program is answered.
 #[derive(Clone, Copy, Debug, PartialEq, Eq)]
 pub enum Answer {
     /// The reply to an order.
     Reply(Reply),
-    /// The record and the words behind it are no order, and nothing was done.
+    /// How many blocks there is room for.
+    Room(u64),
+    /// The record and the bytes behind it are no order, and nothing was done.
     Wrong,
 }
 
@@ -30,6 +34,7 @@ fn kind_of(answer: &Answer) -> u8
         Answer::Reply(Reply::Device) => 9,
         Answer::Reply(Reply::Failed) => 10,
         Answer::Reply(Reply::DateRange) => 11,
+        Answer::Room(_) => 12,
     }
 }
 
@@ -41,12 +46,13 @@ fn value_of(answer: &Answer) -> u64
         Answer::Reply(Reply::Value(word)) => word.bits(),
         Answer::Reply(Reply::Refused(code)) => u64::from(*code),
         Answer::Reply(Reply::Stopped(status)) => u64::from(*status),
+        Answer::Room(blocks) => *blocks,
         _ => 0,
     }
 }
 
 /// The record of an answer, behind which so many groups of eight bytes follow.
-pub fn answer_header(answer: &Answer, count: u32) -> Header
+fn answer_header(answer: &Answer, count: u32) -> Header
     ensures { result ≡ answer_record answer.now count }
 {
     let value = value_of(answer);
@@ -59,4 +65,26 @@ pub fn answer_header(answer: &Answer, count: u32) -> Header
         detail: (value % 0x1_0000_0000) as u32,
         count,
     }
+}
+
+/// The bytes of an answer: its record, and groups of eight bytes behind it.
+///
+/// # Errors
+///
+/// `AllocError` if they find no room, or are more than a record can count.
+pub fn answer_bytes(
+    alloc: Global,
+    answer: &Answer,
+    groups: &[u64],
+) -> Result<Vec<u8>, AllocError>
+    ensures { IfOk result (λ bytes. bytes.items
+        ≡ record_bytes (answer_record answer.now (length groups.now)) ++ block_bytes groups.now) }
+{
+    let count = u32::try_from(groups.len()).map_err(|_| AllocError)?;
+    let mut bytes = Vec::new(alloc);
+    bytes.extend_from_slice(&answer_header(answer, count).to_bytes())?;
+    for group in groups {
+        bytes.extend_from_slice(&group.to_be_bytes())?;
+    }
+    Ok(bytes)
 }

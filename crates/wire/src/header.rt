@@ -1,8 +1,6 @@
 ghost use Rattle.std.specs.Prelude.{◌≡◌};
 ghost use Rattle.wire.specs.Records.{record_bytes};
 
-use byteorder::{BigEndian, ByteOrder};
-
 /// How many bytes a record has.
 pub const HEADER_BYTES: usize = 16;
 

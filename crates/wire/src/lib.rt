@@ -8,7 +8,7 @@
 //!    (`answer_record`)
 //! 4. Nothing that is written has two readings. (`records_have_one_reading`)
 //!
-//! Nothing here takes memory.
+//! Memory is taken for the bytes of an answer alone.
 #![tactic(auto)]
 
 mod answer;
@@ -17,7 +17,7 @@ mod header;
 mod laws;
 mod order;
 
-pub use answer::{Answer, answer_header};
+pub use answer::{Answer, answer_bytes};
 pub use header::{HEADER_BYTES, Header};
 pub use laws::records_have_one_reading;
 pub use order::{Order, order_of, word_at};
