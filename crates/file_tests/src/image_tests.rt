@@ -256,7 +256,7 @@ fn damaged_blocks_of_an_image(rt: HostRuntime) -> Result<(), Fail> {
 fn runs_of_an_image(rt: HostRuntime) -> Result<(), Fail> {
     for (form, bytes) in [(Form::Wide, 40960), (Form::Packed, 23040)] {
         let zeros = vec![in rt.alloc(); 0; bytes]?;
-        let file = MemFile::new(rt.alloc(), zeros.as_slice(), 20);
+        let file = MemFile::new(rt.alloc(), zeros.as_slice(), 80);
         drop(zeros);
         let mut disk = match ImageDisk::of_form(file?, form) {
             Ok(disk) => disk,
