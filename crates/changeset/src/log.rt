@@ -1,4 +1,4 @@
-ghost use Rattle.std.specs.Prelude.{ℕ, List, ◌≡◌, ◌⊎◌, ◌+◌, ◌<◌, ◌≤◌, ◌^◌, ◌↔◌, IsTrue, IfOk, OnOk, IsErrOf, Some};
+ghost use Rattle.std.specs.Prelude.{ℕ, List, [], ◌≡◌, ◌⊎◌, ◌+◌, ◌<◌, ◌≤◌, ◌^◌, ◌↔◌, IsTrue, IfOk, OnOk, IsErrOf, Some};
 ghost use Rattle.std.specs.Prelude.{length};
 ghost use Rattle.std.specs.List.{AllByRecursion};
 ghost use Rattle.blockdisk.specs.Disk.{Near, Modifies, LeavesOnly, NoneOpen, SameDisk, one_more};
@@ -99,19 +99,24 @@ fn write_images<D: Disk>(disk: &mut D, puts: &[Put]) -> Result<(), Fault>
     Ok(())
 }
 
-/// The puts of the log.
+/// Puts the puts of the log into a list that is empty: 37 blocks are many for a stack, and a result would be copied.
 ///
 /// # Errors
 ///
 /// `BadLog` where the log isn't good, `Device` where the device failed.
-pub fn read_log<D: Disk>(disk: &mut D, size: u32) -> Result<ArrayVec<Put, MAX_PUTS>, LogError>
+pub fn read_log<D: Disk>(
+    disk: &mut D,
+    size: u32,
+    puts: &mut ArrayVec<Put, MAX_PUTS>,
+) -> Result<(), LogError>
     requires size { size ≡ (D.state disk.old).size }
     requires volume { IsVolumeSize size }
-    ensures log { (D.state disk.new).honest → IfOk result (λ puts. IsLog size (D.state disk.old).contents puts.items) }
+    requires empty { puts.old.items ≡ [] }
+    ensures log { (D.state disk.new).honest → OnOk result (IsLog size (D.state disk.old).contents puts.new.items) }
     ensures bad { (D.state disk.new).honest → IsErrOf result BadLog → (puts : List Put)
         → IsLog size (D.state disk.old).contents puts → ⊥ }
-    ensures distinct { IfOk result (λ puts. AreDistinct puts.items) }
-    ensures in_range { IfOk result (λ puts. AllByRecursion (IsTarget size) (targets puts.items)) }
+    ensures distinct { OnOk result (AreDistinct puts.new.items) }
+    ensures in_range { OnOk result (AllByRecursion (IsTarget size) (targets puts.new.items)) }
     ensures reads { (D.state disk.new).honest → OnlyReads (D.state disk.old) (D.state disk.new) }
     ensures same { SameDisk (D.state disk.old) (D.state disk.new) }
     ensures many { IsErrOf result TooMany → ⊥ }
@@ -123,14 +128,13 @@ pub fn read_log<D: Disk>(disk: &mut D, size: u32) -> Result<ArrayVec<Put, MAX_PU
     if count == 0 || count > log_images(size) as u64 {
         return Err(LogError::BadLog);
     }
-    let mut puts = ArrayVec::new();
     for i in 0..count as u32 {
         puts.push(read_put(disk, size, &header, i, puts.as_slice())?);
     }
     if header_of(puts.as_slice()) != header {
         return Err(LogError::BadLog); // not LOG, or words behind the last target
     }
-    Ok(puts)
+    Ok(())
 }
 
 /// The put at this place of the log, behind those before.

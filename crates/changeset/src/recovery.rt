@@ -1,4 +1,4 @@
-ghost use Rattle.std.specs.Prelude.{ℕ, List, ◌≡◌, ◌⊎◌, ◌<◌, ◌≤◌, IfOk, OnOk, IsErrOf, Some, None, IfSome, IfNone};
+ghost use Rattle.std.specs.Prelude.{ℕ, List, [], Ok, true, false, ◌≡◌, ◌⊎◌, ◌<◌, ◌≤◌, IfOk, OnOk, IsErrOf, Some, None, IfSome, IfNone};
 ghost use Rattle.std.specs.List.{AllByRecursion};
 ghost use Rattle.blockdisk.specs.Disk.{MayLeave, Still, NoneOpen, SameDisk, LeavesOnly, one_more};
 ghost use Rattle.changeset.specs.Crashes.{SettlesLike, SettlesLikeBefore, IsLost, ArePending, IsRecovered, SyncsFirst};
@@ -81,30 +81,28 @@ fn recover_synced<D: Disk>(disk: &mut D) -> Result<(), LogError>
     ensures failed { IsErrOf result Device → (D.state disk.new).failures ≡ one_more (D.state disk.old).failures }
     ensures served { (IsErrOf result Device → ⊥) → (D.state disk.new).failures ≡ (D.state disk.old).failures }
 {
-    match pending_puts(disk)? {
-        Some(puts) => {
-            redo(disk, puts.as_slice())?;
-            Ok(())
-        }
-        None => Ok(()),
+    let mut puts = ArrayVec::new();
+    if find_pending(disk, &mut puts)? {
+        redo(disk, puts.as_slice())?;
     }
+    Ok(())
 }
 
-/// The puts of the log, where the gate is open.
+/// Whether the gate is open; the puts of the log then, in a list that is empty before.
 ///
 /// # Errors
 ///
 /// `BadLog` where the gate is open and the log isn't good, `Device` where the device failed.
-fn pending_puts<D: Disk>(disk: &mut D) -> Result<Option<ArrayVec<Put, MAX_PUTS>>, LogError>
-    ensures closed { (D.state disk.new).honest
-        → IfOk result (λ found. IfNone found (IsGateOpen (D.state disk.old).size (D.state disk.old).contents → ⊥)) }
-    ensures pending { (D.state disk.new).honest
-        → IfOk result (λ found.
-        IfSome found (λ puts. ArePending (D.state disk.old).size (D.state disk.old).contents puts.items)) }
-    ensures volume { IfOk result (λ found. IfSome found (λ puts. IsVolumeSize (D.state disk.old).size)) }
-    ensures distinct { IfOk result (λ found. IfSome found (λ puts. AreDistinct puts.items)) }
-    ensures in_range { IfOk result
-        (λ found. IfSome found (λ puts. AllByRecursion (IsTarget (D.state disk.old).size) (targets puts.items))) }
+fn find_pending<D: Disk>(disk: &mut D, puts: &mut ArrayVec<Put, MAX_PUTS>) -> Result<bool, LogError>
+    requires { puts.old.items ≡ [] }
+    ensures closed { (D.state disk.new).honest → (result ≡ Ok false)
+        → IsGateOpen (D.state disk.old).size (D.state disk.old).contents → ⊥ }
+    ensures pending { (D.state disk.new).honest → (result ≡ Ok true)
+        → ArePending (D.state disk.old).size (D.state disk.old).contents puts.new.items }
+    ensures volume { (result ≡ Ok true) → IsVolumeSize (D.state disk.old).size }
+    ensures distinct { (result ≡ Ok true) → AreDistinct puts.new.items }
+    ensures in_range { (result ≡ Ok true)
+        → AllByRecursion (IsTarget (D.state disk.old).size) (targets puts.new.items) }
     ensures bad { (D.state disk.new).honest → IsErrOf result BadLog
         → IsLost (D.state disk.old).size (D.state disk.old).contents }
     ensures reads { (D.state disk.new).honest → OnlyReads (D.state disk.old) (D.state disk.new) }
@@ -115,7 +113,8 @@ fn pending_puts<D: Disk>(disk: &mut D) -> Result<Option<ArrayVec<Put, MAX_PUTS>>
 {
     let size = disk.blocks();
     if !is_volume_size(size) || !has_open_words(disk)? {
-        return Ok(None);
+        return Ok(false);
     }
-    Ok(Some(read_log(disk, size)?))
+    read_log(disk, size, puts)?;
+    Ok(true)
 }
