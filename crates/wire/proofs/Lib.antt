@@ -2,3 +2,4 @@ pub mod Moments
 pub mod Orders
 pub mod Words
 pub mod Spellings
+pub mod Fronts

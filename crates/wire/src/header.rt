@@ -1,5 +1,5 @@
 ghost use Rattle.std.specs.Prelude.{◌≡◌};
-ghost use Rattle.wire.specs.Records.{record_bytes};
+ghost use Rattle.wire.specs.Records.{record_bytes, FitsRecord};
 
 /// How many bytes a record has.
 pub const HEADER_BYTES: usize = 16;
@@ -26,7 +26,8 @@ pub struct Header {
 impl Header {
     /// The record of these bytes.
     pub fn from_bytes(bytes: &[u8; HEADER_BYTES]) -> Header
-        ensures { record_bytes result ≡ bytes.now }
+        ensures spelled { record_bytes result ≡ bytes.now }
+        ensures fits { FitsRecord result }
     {
         Header {
             kind: bytes[0],

@@ -13,11 +13,13 @@
 
 mod answer;
 mod calls;
+mod front;
 mod header;
 mod laws;
 mod order;
 
 pub use answer::{Answer, answer_bytes};
+pub use front::{Front, front_of};
 pub use header::{HEADER_BYTES, Header};
 pub use laws::records_have_one_reading;
 pub use order::{Order, order_of, word_at};

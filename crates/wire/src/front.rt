@@ -1,0 +1,39 @@
+ghost use Rattle.std.specs.Prelude.{◌≡◌};
+ghost use Rattle.wire.specs.Frames.{BeginsWith};
+
+use crate::header::{HEADER_BYTES, Header};
+
+/// How many words may follow a record: as many as a core has at most.
+const MOST_WORDS: u32 = 1 << 18;
+
+/// What bytes begin with.
+#[derive(Clone, Copy, Debug)]
+pub enum Front<'a> {
+    /// A whole record, with the bytes behind it.
+    Whole(Header, &'a [u8]),
+    /// No whole record.
+    Part,
+    /// A record that says that more words follow than a core may have.
+    TooLong,
+}
+
+/// What bytes begin with.
+pub fn front_of(bytes: &[u8]) -> Front<'_>
+    ensures { BeginsWith bytes.now result }
+{
+    if bytes.len() < HEADER_BYTES {
+        return Front::Part;
+    }
+    let (first, rest) = bytes.split_at(HEADER_BYTES);
+    let mut record = [0; HEADER_BYTES];
+    record.copy_from_slice(first);
+    let header = Header::from_bytes(&record);
+    if header.count > MOST_WORDS {
+        return Front::TooLong;
+    }
+    let size = 8 * header.count as usize;
+    if rest.len() < size {
+        return Front::Part;
+    }
+    Front::Whole(header, &rest[..size])
+}
