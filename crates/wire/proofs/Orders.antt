@@ -43,7 +43,7 @@ one_word w fits (suc k) d inside = absurd (none k inside)
     none : (k : ℕ) → suc k < 1 → ⊥
     none k inside = omega arith
 
--- A login, and the word behind it.
+-- A login, and the word after it.
 pub record IsLogin (h : Header) (body : List ℕ) (order : Order) : Type 0 where
   pub owner : ℕ
   pub ppn : IsPpn owner
@@ -103,7 +103,7 @@ login_made h body owner small kind ppn code channel detail count long number =
     one : (body : List ℕ) → block_bytes (words_in body 1) ≡ body → block_bytes (number_at body 0 ∷ []) ≡ body
     one body is = is
 
--- A deposit, and the words behind it.
+-- A deposit, and the words after it.
 pub record IsDeposit (h : Header) (body : List ℕ) (order : Order) : Type 0 where
   pub is : order ≡ Deposit h.job h.number h.count
   pub code : h.code ≡ 0

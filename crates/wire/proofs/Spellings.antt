@@ -82,7 +82,7 @@ no_words k d inside = absurd (none k inside)
     none : (k : ℕ) → k < 0 → ⊥
     none k inside = omega (arith, inside)
 
--- the words behind an order are words
+-- the words after an order are words
 all_words : (order : Order) (words : List ℕ) → HasWords order words → All IsWord words
 all_words (Login job ppn core) words fit = subst (All IsWord) (sym fit.1) (one_word ppn fit.0.word)
 all_words (Deposit job address count) words fit = fit.0

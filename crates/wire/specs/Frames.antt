@@ -1,11 +1,11 @@
--- Records in a row, each with the words that it says are behind it.
+-- Records in a row, each followed by the words that it announces.
 use Rattle.std.specs.Prelude.{◌≡◌, ◌*◌, ◌<◌, ◌≤◌, ℕ, List, ◌++◌, length, flat_map}
 use Rattle.wire.specs.Records.{record_bytes, most_words, FitsRecord}
 use Rattle.wire.specs.declared.header.Header.{Header}
 use Rattle.wire.specs.declared.front.Front.{Front}
 use Rattle.wire.specs.declared.front.Front.TheVariants.{Whole, Part, TooLong}
 
--- a record and the bytes behind it
+-- a record and the bytes after it
 pub record Framed : Type 0 where
   pub header : Header
   pub body : List ℕ
@@ -16,7 +16,7 @@ frame_bytes f = record_bytes f.header ++ f.body
 abbrev pub frames_bytes : List Framed → List ℕ
 frames_bytes frames = flat_map frame_bytes frames
 
--- It has as many words behind it as it says, and these are no more than a core may have.
+-- It is followed by the words that it announces, and they are no more than 18 bits can address.
 pub record IsFrame (f : Framed) : Type 0 where
   pub fits : FitsRecord f.header
   pub long : length f.body ≡ 8 * f.header.count
@@ -26,7 +26,7 @@ pub record IsFrame (f : Framed) : Type 0 where
 abbrev pub IsPart : List ℕ → Type 0
 IsPart bytes = (f : Framed) (more : List ℕ) → IsFrame f → bytes ≡ frame_bytes f ++ more → ⊥
 
--- they say that more words follow than a core may have
+-- they announce more words than 18 bits can address
 abbrev pub IsTooLong : List ℕ → Type 0
 IsTooLong bytes =
     (header : Header) × FitsRecord header × (more : List ℕ) × (bytes ≡ record_bytes header ++ more)

@@ -1,5 +1,5 @@
--- Orders and answers as programs send and get them: a record of 16 bytes, and words of eight bytes behind it. A number
--- has its highest byte first, as a word of an image has.
+-- Orders and answers as programs send and get them: a record of 16 bytes, which words of eight bytes follow. A number
+-- has its highest byte first, as in an image.
 use Rattle.std.specs.Prelude.{◌≡◌, ℕ, ◌+◌, ◌*◌, ◌/◌, ◌%◌, ◌^◌, ◌<◌, ◌≤◌, List, [], ◌∷◌, ◌++◌, length, All}
 use Rattle.std.specs.Int.{bytes_high_first}
 use Rattle.words36.specs.Words.{IsWord, IsPpn}
@@ -112,11 +112,11 @@ record_of (Calls job call moment) = record {
 }
 record_of Room = record { kind = 5; code = 0; job = 0; channel = 0; number = 0; detail = 0; count = 0 }
 
--- how many words a core has at most
+-- the number of addresses that 18 bits have
 abbrev pub most_words : ℕ
 most_words = 2 ^ 18
 
--- The words that are behind it. Words that are put or asked for lie in what a core may be.
+-- The words that follow it. Words that are deposited or examined lie below address 2^18.
 abbrev pub HasWords : Order → List ℕ → Type 0
 HasWords (Login job ppn core) words = IsPpn ppn × (words ≡ ppn ∷ [])
 HasWords (Deposit job address count) words = All IsWord words × (length words ≡ count) × (address + count ≤ most_words)
@@ -124,7 +124,7 @@ HasWords (Examine job address count) words = (words ≡ []) × (address + count 
 HasWords (Calls job call moment) words = words ≡ []
 HasWords Room words = words ≡ []
 
--- A record and the bytes behind it spell an order, with these words.
+-- A record and the bytes after it spell an order, with these words.
 pub record IsOrder (header : Header) (body : List ℕ) (order : Order) (words : List ℕ) : Type 0 where
   pub record_is : record_of order ≡ header
   pub words_fit : HasWords order words
@@ -147,7 +147,7 @@ answer_kind (Replies Failed) = 10
 answer_kind (Replies DateRange) = 11
 answer_kind (HasRoom blocks) = 12
 
--- the number that it tells, 0 if it tells none
+-- the number in it, 0 if it has none
 abbrev pub answer_value : Answer → ℕ
 answer_value Wrong = 0
 answer_value (Replies Done) = 0
@@ -163,7 +163,7 @@ answer_value (Replies Failed) = 0
 answer_value (Replies DateRange) = 0
 answer_value (HasRoom blocks) = blocks
 
--- the record of an answer, with the number of groups of eight bytes behind it: the value takes bytes 4 to 11
+-- the record of an answer that `count` groups of eight bytes follow: the value takes bytes 4 to 11
 abbrev pub answer_record : Answer → ℕ → Header
 answer_record answer count = record {
   kind = answer_kind answer;

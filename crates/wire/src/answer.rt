@@ -11,13 +11,13 @@ use std::alloc::{AllocError, Global};
 pub enum Answer {
     /// The reply to an order.
     Reply(Reply),
-    /// How many blocks there is room for.
+    /// The number of blocks that there is room for.
     Room(u64),
-    /// The record and the bytes behind it are no order, and nothing was done.
+    /// The record and the bytes after it are no order, and nothing was done.
     Wrong,
 }
 
-/// The kind of an answer.
+/// Gives the kind of an answer.
 fn kind_of(answer: &Answer) -> u8
     ensures { result ≡ answer_kind answer.now }
 {
@@ -38,7 +38,7 @@ fn kind_of(answer: &Answer) -> u8
     }
 }
 
-/// The number that an answer tells, 0 if it tells none.
+/// Gives the number in an answer, 0 if it has none.
 fn value_of(answer: &Answer) -> u64
     ensures { result ≡ answer_value answer.now }
 {
@@ -51,7 +51,7 @@ fn value_of(answer: &Answer) -> u64
     }
 }
 
-/// The record of an answer, behind which so many groups of eight bytes follow.
+/// Gives the record of an answer that `count` groups of eight bytes follow.
 fn answer_header(answer: &Answer, count: u32) -> Header
     ensures { result ≡ answer_record answer.now count }
 {
@@ -67,16 +67,12 @@ fn answer_header(answer: &Answer, count: u32) -> Header
     }
 }
 
-/// The bytes of an answer: its record, and groups of eight bytes behind it.
+/// Gives the bytes of an answer: its record, and the groups of eight bytes that follow it.
 ///
 /// # Errors
 ///
 /// `AllocError` if they find no room, or are more than a record can count.
-pub fn answer_bytes(
-    alloc: Global,
-    answer: &Answer,
-    groups: &[u64],
-) -> Result<Vec<u8>, AllocError>
+pub fn answer_bytes(alloc: Global, answer: &Answer, groups: &[u64]) -> Result<Vec<u8>, AllocError>
     ensures { IfOk result (λ bytes. bytes.items
         ≡ record_bytes (answer_record answer.now (length groups.now)) ++ block_bytes groups.now) }
 {

@@ -4,7 +4,7 @@ ghost use Rattle.wire.specs.Records.{opcode, channel_named, number_named};
 
 use meaning::Call;
 
-/// The call on a channel with this operation code.
+/// Gives the call on a channel with this operation code.
 fn channel_call(code: u8, channel: u32, number: u32) -> Option<Call>
     ensures is { IfSome result (λ call. (opcode call ≡ code) × (channel_named call ≡ channel)
         × (number_named call ≡ number)) }
@@ -29,7 +29,7 @@ fn channel_call(code: u8, channel: u32, number: u32) -> Option<Call>
     }
 }
 
-/// The call with this operation code, on a channel, with the number that it names. A part that a call doesn't have is 0.
+/// Gives the call with this operation code, channel and number. A part that a call doesn't have is 0.
 pub fn call_of(code: u8, channel: u8, number: u32) -> Option<Call>
     ensures is { IfSome result (λ call. (opcode call ≡ code) × (channel_named call ≡ channel)
         × (number_named call ≡ number)) }

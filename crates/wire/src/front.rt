@@ -3,22 +3,22 @@ ghost use Rattle.wire.specs.Frames.{BeginsWith};
 
 use crate::header::{HEADER_BYTES, Header};
 
-/// How many words may follow a record: as many as a core has at most.
+/// The most words that may follow a record: as many as the largest address has.
 const MOST_WORDS: u32 = 1 << 18;
 
 /// What bytes begin with.
 #[derive(Clone, Copy, Debug)]
 pub enum Front<'a> {
-    /// A whole record, with the bytes behind it.
+    /// A whole record, and the bytes of the words that follow it.
     Whole(Header, &'a [u8]),
     /// No whole record.
     Part,
-    /// A record that says that more words follow than a core may have.
+    /// A record that announces more words than a core can have.
     TooLong,
 }
 
-/// What bytes begin with.
-pub fn front_of(bytes: &[u8]) -> Front<'_>
+/// Splits the first record, with the words that follow it, from bytes.
+pub fn split_record(bytes: &[u8]) -> Front<'_>
     ensures { BeginsWith bytes.now result }
 {
     if bytes.len() < HEADER_BYTES {

@@ -1,7 +1,7 @@
 ghost use Rattle.std.specs.Prelude.{◌≡◌};
 ghost use Rattle.wire.specs.Records.{record_bytes, FitsRecord};
 
-/// How many bytes a record has.
+/// The number of bytes of a record.
 pub const HEADER_BYTES: usize = 16;
 
 /// The parts of a record. Its numbers have their highest byte first, as words of an image have.
@@ -17,14 +17,14 @@ pub struct Header {
     pub channel: u8,
     /// Bytes 4 to 7: an address, or another number that a call names.
     pub number: u32,
-    /// Bytes 8 to 11: how many words are asked for, or a date and a minute.
+    /// Bytes 8 to 11: the number of words to examine, or a date and a minute.
     pub detail: u32,
-    /// Bytes 12 to 15: how many words of eight bytes follow.
+    /// Bytes 12 to 15: the number of words of eight bytes that follow.
     pub count: u32,
 }
 
 impl Header {
-    /// The record of these bytes.
+    /// Parses the record of these bytes.
     pub fn from_bytes(bytes: &[u8; HEADER_BYTES]) -> Header
         ensures spelled { record_bytes result ≡ bytes.now }
         ensures fits { FitsRecord result }
@@ -40,7 +40,7 @@ impl Header {
         }
     }
 
-    /// Its bytes.
+    /// Gives the bytes of the record.
     pub fn to_bytes(self) -> [u8; HEADER_BYTES]
         ensures { result ≡ record_bytes self }
     {

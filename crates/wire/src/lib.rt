@@ -1,12 +1,13 @@
-//! Orders and answers as programs send and get them: records of 16 bytes, with words of eight bytes behind them. What the
+//! Orders and answers as programs send and get them: records of 16 bytes, which words of eight bytes follow. What the
 //! layer keeps:
 //!
 //! 1. Every 16 bytes are one record, and every record is 16 bytes: what is written is read back. (`record_bytes`)
-//! 2. `order_of` answers an order exactly if a record and the bytes behind it spell one, and none exactly if they spell
-//!    none. (`IsOrder`)
-//! 3. The record of an answer tells which answer it is, its number, and how many groups of eight bytes follow it.
+//! 2. `parse_order` gives an order exactly if a record and the bytes after it spell one. (`IsOrder`)
+//! 3. `split_record` gives the record that bytes begin with, and the bytes that follow it, if all are there.
+//!    (`BeginsWith`)
+//! 4. The record of an answer has its kind, its number, and the number of groups of eight bytes that follow.
 //!    (`answer_record`)
-//! 4. Nothing that is written has two readings. (`records_have_one_reading`)
+//! 5. Nothing that is written has two readings. (`records_have_one_reading`)
 //!
 //! Memory is taken for the bytes of an answer alone.
 #![tactic(auto)]
@@ -19,7 +20,7 @@ mod laws;
 mod order;
 
 pub use answer::{Answer, answer_bytes};
-pub use front::{Front, front_of};
+pub use front::{Front, split_record};
 pub use header::{HEADER_BYTES, Header};
 pub use laws::records_have_one_reading;
-pub use order::{Order, order_of, word_at};
+pub use order::{Order, parse_order, word_at};

@@ -9,22 +9,22 @@ use crate::calls::call_of;
 use meaning::Call;
 use words36::{Moment, Ppn, Word, first_bad_word};
 
-/// What a program orders.
+/// An order of a program.
 #[derive(Clone, Copy, Debug, PartialEq, Eq)]
 pub enum Order {
-    /// A job logs in: its number, its project-programmer number, and how many words its core has.
+    /// A job logs in: its number, its project-programmer number, and the number of words of its core.
     Login(u8, Ppn, u32),
-    /// The words behind the record are put into a job's core: its number, the address of the first, and how many.
+    /// The words after the record go into a job's core: the job's number, the first address, and the number of words.
     Deposit(u8, u32, u32),
-    /// Words of a job's core are asked for: its number, the address of the first, and how many.
+    /// Words of a job's core are read: the job's number, the first address, and the number of words.
     Examine(u8, u32, u32),
     /// A job makes a call, at a moment.
     Call(u8, Call, Moment),
-    /// It is asked how many blocks there is room for.
+    /// The number of blocks that there is room for is read.
     Room,
 }
 
-/// The word at a place of bytes, counted from 0 in words of eight bytes. None if the number there has more than 36 bits.
+/// Gives the word at a place, counted from 0 in words of eight bytes. None if the number there has more than 36 bits.
 pub fn word_at(bytes: &[u8], place: usize) -> Option<Word>
     requires { 8 * place + 8 ≤ length bytes.now }
     ensures value { IfSome result (λ word. word ≡ number_at bytes.now place) }
@@ -35,7 +35,7 @@ pub fn word_at(bytes: &[u8], place: usize) -> Option<Word>
     Word::new(u64::from_be_bytes(group))
 }
 
-/// The moment of a date in the left 16 bits and a minute in the right ones.
+/// Gives the moment of a date in the left 16 bits and a minute in the right ones.
 fn moment_of(detail: u32) -> Option<Moment>
     ensures is { IfSome result (λ moment. moment_number moment ≡ detail) }
     ensures all { (moment : Moment) → moment_number moment ≡ detail → result ≡ Some moment }
@@ -43,15 +43,15 @@ fn moment_of(detail: u32) -> Option<Moment>
     Moment::new(detail / 65_536, detail % 65_536).ok()
 }
 
-/// Whether so many words from an address on lie in what a core may be.
+/// Tells whether `count` words from an address lie below address 2^18.
 fn lies_in_core(address: u32, count: u32) -> bool
     ensures { IsTrue result ↔ (address + count ≤ most_words) }
 {
     u64::from(address) + u64::from(count) <= 1 << 18
 }
 
-/// The job that logs in by a record, with the word behind it.
-fn login_of(header: &Header, body: &[u8]) -> Option<Order>
+/// Parses a login, whose project-programmer number follows its record.
+fn parse_login(header: &Header, body: &[u8]) -> Option<Order>
     requires { header.now.kind ≡ 1 }
     ensures is { IfSome result (λ order. (words : List ℕ) × IsOrder header.now body.now order words) }
     ensures all { (order : orders.Order) (words : List ℕ) → IsOrder header.now body.now order words
@@ -68,8 +68,8 @@ fn login_of(header: &Header, body: &[u8]) -> Option<Order>
     is_plain.then_some(Order::Login(header.job, owner, header.number))
 }
 
-/// The deposit that a record orders, if the bytes behind it are words.
-fn deposit_of(header: &Header, body: &[u8]) -> Option<Order>
+/// Parses a deposit, whose words follow its record.
+fn parse_deposit(header: &Header, body: &[u8]) -> Option<Order>
     requires { header.now.kind ≡ 2 }
     ensures is { IfSome result (λ order. (words : List ℕ) × IsOrder header.now body.now order words) }
     ensures all { (order : orders.Order) (words : List ℕ) → IsOrder header.now body.now order words
@@ -90,8 +90,8 @@ fn deposit_of(header: &Header, body: &[u8]) -> Option<Order>
     }
 }
 
-/// The words that a record asks for.
-fn examine_of(header: &Header) -> Option<Order>
+/// Parses an order to read words.
+fn parse_examine(header: &Header) -> Option<Order>
     requires kind { header.now.kind ≡ 3 }
     requires count { header.now.count ≡ 0 }
     ensures is { IfSome result (λ order. (record_of order ≡ header.now) × HasWords order []) }
@@ -103,8 +103,8 @@ fn examine_of(header: &Header) -> Option<Order>
     Some(Order::Examine(header.job, header.number, header.detail))
 }
 
-/// The call that a record orders.
-fn call_order(header: &Header) -> Option<Order>
+/// Parses a call.
+fn parse_call(header: &Header) -> Option<Order>
     requires kind { header.now.kind ≡ 4 }
     requires count { header.now.count ≡ 0 }
     ensures is { IfSome result (λ order. record_of order ≡ header.now) }
@@ -115,8 +115,8 @@ fn call_order(header: &Header) -> Option<Order>
     Some(Order::Call(header.job, call, moment))
 }
 
-/// What a record orders that has no words behind it.
-fn plain_order(header: &Header) -> Option<Order>
+/// Parses an order that no words follow.
+fn parse_plain(header: &Header) -> Option<Order>
     ensures is { IfSome result (λ order. (record_of order ≡ header.now) × HasWords order []) }
     ensures all { (order : orders.Order) → record_of order ≡ header.now → HasWords order [] → 2 < header.now.kind
         → result ≡ Some order }
@@ -125,8 +125,8 @@ fn plain_order(header: &Header) -> Option<Order>
         return None;
     }
     match header.kind {
-        3 => examine_of(header),
-        4 => call_order(header),
+        3 => parse_examine(header),
+        4 => parse_call(header),
         5
             if header.code == 0
                 && header.job == 0
@@ -137,16 +137,16 @@ fn plain_order(header: &Header) -> Option<Order>
     }
 }
 
-/// What a record and the bytes behind it order, or none if they spell no order.
-pub fn order_of(header: &Header, body: &[u8]) -> Option<Order>
+/// Parses an order from its record and the bytes after it. None if they spell no order.
+pub fn parse_order(header: &Header, body: &[u8]) -> Option<Order>
     ensures is { IfSome result (λ order. (words : List ℕ) × IsOrder header.now body.now order words) }
     ensures all { (order : orders.Order) (words : List ℕ) → IsOrder header.now body.now order words
         → result ≡ Some order }
 {
     match header.kind {
-        1 => login_of(header, body),
-        2 => deposit_of(header, body),
-        _ if body.is_empty() => plain_order(header),
+        1 => parse_login(header, body),
+        2 => parse_deposit(header, body),
+        _ if body.is_empty() => parse_plain(header),
         _ => None,
     }
 }

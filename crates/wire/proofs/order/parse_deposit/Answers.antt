@@ -1,6 +1,6 @@
 use Rattle.std.proofs.Common.{rules, arith}
 use Rattle.wire.proofs.Orders.{deposit_parts, deposit_made}
-use Rattle.wire.proofs.order.deposit_of.Goals as goal
+use Rattle.wire.proofs.order.parse_deposit.Goals as goal
 
 pub returns-in-None-clause-is : goal.returns-in-None-clause-is
 returns-in-None-clause-is c =

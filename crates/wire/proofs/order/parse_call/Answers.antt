@@ -1,6 +1,6 @@
 use Rattle.std.proofs.Common.{rules}
 use Rattle.wire.proofs.Orders.{call_parts}
-use Rattle.wire.proofs.order.call_order.Goals as goal
+use Rattle.wire.proofs.order.parse_call.Goals as goal
 
 pub returns-in_err-moment-clause-all : goal.returns-in_err-moment-clause-all
 returns-in_err-moment-clause-all c order is =

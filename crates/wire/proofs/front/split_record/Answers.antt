@@ -1,6 +1,6 @@
 use Rattle.std.proofs.Common.{arith, ◌*◌}
 use Rattle.wire.proofs.Fronts.{front_is, whole_is, is_frame}
-use Rattle.wire.proofs.front.front_of.Goals as goal
+use Rattle.wire.proofs.front.split_record.Goals as goal
 
 pub returns-then-header-gt-MOST_WORDS : goal.returns-then-header-gt-MOST_WORDS
 returns-then-header-gt-MOST_WORDS c = (
@@ -17,8 +17,7 @@ pub returns : goal.returns
 returns c =
     let front = front_is c.args.bytes.now c.split_at.result.0.now c.split_at.result.1.now c.copy_from_slice.new.self
     c.from_bytes-header.result c.split_at.ensures.front c.split_at.ensures.back c.copy_from_slice.ensures.after
-    c.from_bytes-header.ensures.spelled in
-    (
+    c.from_bytes-header.ensures.spelled in (
       is_frame c.from_bytes-header.result c.split_at.result.1.now c.from_bytes-header.ensures.fits (omega arith)
           (omega arith),
       (

@@ -1,6 +1,6 @@
 use Rattle.std.proofs.Common.{rules, arith}
 use Rattle.wire.proofs.Orders.{login_parts, login_made}
-use Rattle.wire.proofs.order.login_of.Goals as goal
+use Rattle.wire.proofs.order.parse_login.Goals as goal
 
 pub returns-in_err-word_at-clause-all : goal.returns-in_err-word_at-clause-all
 returns-in_err-word_at-clause-all c order words is =
