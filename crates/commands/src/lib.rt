@@ -74,7 +74,7 @@ mod tables;
 mod text;
 mod typing;
 
-pub use answer::Tally;
+pub use answer::{Tally, is_broken};
 pub use dates::date_named;
 pub use error::SessionError;
 pub use laws::{
@@ -82,11 +82,12 @@ pub use laws::{
     served_texts_are_functions,
 };
 pub use meaning::{Encoding, Style};
-pub use monitor::{Monitor, StartError};
+pub use monitor::{Area, Monitor, StartError};
 pub use monitored::{check, get, list, put, script, session};
 pub use names::{file_named, owner_named};
 pub use reason::{Misfit, Reason, RefusedLines};
 pub use restart::start_after_acts;
+pub use service::FileService;
 pub use stream::write_text;
 pub use text::refusal;
 pub use volume::Volume;

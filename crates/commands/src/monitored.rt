@@ -10,9 +10,9 @@ use crate::errands::{read_in, write_lists, write_out, write_refusal};
 use crate::run::{converse, play, print};
 use crate::service::FileService;
 use crate::{SessionError, text};
-use blockdisk::Disk;
-use meaning::{Encoding, Entry, Event, Reply, Spec, Style};
-use monitor::Monitor;
+use blockdisk::{Disk, NoMemory};
+use meaning::{Call, Encoding, Entry, Event, Reply, Spec, Style};
+use monitor::{Area, Monitor};
 use std::alloc::Global;
 use std::io::{Read, Write};
 use words36::{FileName, Moment, Ppn, Word};
@@ -38,6 +38,14 @@ impl<D: Disk> FileService for Monitor<D> {
 
     fn list(&mut self, alloc: Global, job: u32, owner: Ppn) -> Result<Vec<Entry>, Reply> {
         Monitor::list(self, alloc, job, owner)
+    }
+
+    fn changed_areas(&self, alloc: Global, job: u32, call: &Call) -> Result<Vec<Area>, NoMemory> {
+        Monitor::changed_areas(self, alloc, job, call)
+    }
+
+    fn room(&self) -> u64 {
+        u64::try_from(Monitor::room(self)).unwrap_or(0)
     }
 }
 

@@ -1,12 +1,18 @@
 ghost use Rattle.std.specs.Prelude.{◌≡◌, IfSome, IsTrue, IsFalse, MatchResult, Ok, Err, length};
-ghost use Rattle.meaning.specs.Jobs.{State};
+ghost use Rattle.std.specs.Int.{saturate_unsigned, w64};
+ghost use Rattle.std.specs.List.{AllByRecursion};
+ghost use Rattle.meaning.specs.Jobs.{State, job_at};
 ghost use Rattle.meaning.specs.Plans.{deposits};
+ghost use Rattle.meaning.specs.Room.{room};
 ghost use Rattle.meaning.specs.Runs.{Serving};
+ghost use Rattle.monitor.specs.Changed.{IsInside, areas_for};
 ghost use Rattle.monitor.specs.Moments.{StandsNow};
 ghost use Rattle.commands.specs.Asking.{HasDone};
 ghost use Rattle.commands.specs.Machines.{Machine, AreShown, IsAnswered, IsListed};
 
-use meaning::{Entry, Event, Reply};
+use blockdisk::NoMemory;
+use meaning::{Call, Entry, Event, Reply};
+use monitor::Area;
 use std::alloc::Global;
 use words36::{Ppn, Word};
 
@@ -36,6 +42,22 @@ pub trait FileService {
         ensures { MatchResult result
             (λ entries. IsListed (machine self.old) (machine self.new) job owner (Ok entries.items))
             (λ reply. IsListed (machine self.old) (machine self.new) job owner (Err reply)) };
+
+    /// Tells which areas of its core a call of a job may change, by the call and the job before it: no other word of any
+    /// core changes. All lie below address 2^17. Nothing is asked of the disk.
+    ///
+    /// # Errors
+    ///
+    /// `NoMemory` if the list finds no room.
+    fn changed_areas(&self, alloc: Global, job: u32, call: &Call) -> Result<Vec<Area>, NoMemory>
+        ensures named { (s : State) → (machine self.now).serves (Serving s)
+            → IfOk result (λ areas. areas.items ≡ areas_for (job_at s job) call.now) }
+        ensures inside { IfOk result (λ areas. AllByRecursion IsInside areas.items) };
+
+    /// The number of blocks that are left when all is booked, and 0 if more are booked than there are.
+    fn room(&self) -> u64
+        ensures { (machine self.now).honest → (s : State) → (machine self.now).serves (Serving s)
+            → result ≡ saturate_unsigned w64 (room (machine self.now).pack s) };
 
     /// All that a crash may leave stands for the files of the state that it serves from.
     ghost stands: { (service : Self) → (machine service).honest → (s : State) → (machine service).serves (Serving s)

@@ -28,6 +28,10 @@ in_core core areas = filter (λ area. not (area.count == 0)) (map (clipped core)
 abbrev pub IsPart : List ℕ → Area → Type 0
 IsPart core area = (0 < area.count) × (area.first + area.count ≤ length core)
 
+-- an area below address 2^17, as each core's are
+abbrev pub IsInside : Area → Type 0
+IsInside area = area.first + area.count ≤ 0o400000
+
 -- What a call names.
 
 -- the three words of a header, if it is one that is meant; address 0 is no header

@@ -1,5 +1,5 @@
 ghost use Rattle.std.specs.Prelude.{◌≡◌, ◌+◌, ◌++◌, ◌∷◌, ◌==◌, not, [], IfOk, OnOk, option_map};
-ghost use Rattle.std.specs.List.{filter};
+ghost use Rattle.std.specs.List.{AllByRecursion, filter};
 ghost use Rattle.meaning.specs.CommandLists.{dump_list};
 ghost use Rattle.meaning.specs.Inputs.{areas_or_none};
 ghost use Rattle.meaning.specs.Jobs.{State, job_at, slot};
@@ -7,8 +7,8 @@ ghost use Rattle.meaning.specs.Opening.{mode_at};
 ghost use Rattle.meaning.specs.Rings.{is_buffered};
 ghost use Rattle.meaning.specs.Runs.{Serving};
 ghost use Rattle.usercore.specs.Areas.{words_at};
-ghost use Rattle.monitor.specs.Changed.{clipped, in_core, header_area, areas_opened, areas_set_up, areas_filled};
-ghost use Rattle.monitor.specs.Changed.{areas_emptied, areas_closed, on_open, areas_of, areas_for};
+ghost use Rattle.monitor.specs.Changed.{IsInside, clipped, in_core, header_area, areas_opened, areas_set_up};
+ghost use Rattle.monitor.specs.Changed.{areas_filled, areas_emptied, areas_closed, on_open, areas_of, areas_for};
 ghost use Rattle.monitor.specs.Serving.{Serves};
 ghost use Rattle.monitor.specs.Sides.{UnderKeys, channel_of, job_of};
 
@@ -293,6 +293,7 @@ impl<D: Disk> Monitor<D> {
         // On every disk they are told by the job's record, whatever is under its keys.
         ensures value { IfOk result (λ areas. (under : UnderKeys) → areas.items
             ≡ areas_for (option_map (job_of under) (slot self.now.jobs job)) call.now) }
+        ensures inside { IfOk result (λ areas. AllByRecursion IsInside areas.items) }
     {
         Ok(areas_for(alloc, &self.jobs, job, call)?)
     }

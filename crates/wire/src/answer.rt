@@ -1,10 +1,10 @@
-ghost use Rattle.std.specs.Prelude.{◌≡◌, ◌++◌, IfOk, length};
+ghost use Rattle.std.specs.Prelude.{◌≡◌, ◌+◌, ◌*◌, ◌^◌, ◌<◌, ◌≤◌, ◌++◌, IsOk, OnOk, length, vec_len, vec_capacity};
 ghost use Rattle.words36.specs.Blocks.{block_bytes};
 ghost use Rattle.wire.specs.Records.{answer_record, answer_kind, answer_value, record_bytes};
 
 use crate::Header;
 use meaning::Reply;
-use std::alloc::{AllocError, Global};
+use std::alloc::AllocError;
 
 /// What a program is answered.
 #[derive(Clone, Copy, Debug, PartialEq, Eq)]
@@ -67,20 +67,26 @@ fn answer_header(answer: &Answer, count: u32) -> Header
     }
 }
 
-/// Gives the bytes of an answer: its record, and the groups of eight bytes that follow it.
+/// Appends an answer to bytes: its record, and the groups of eight bytes that follow it.
 ///
 /// # Errors
 ///
-/// `AllocError` if they find no room, or are more than a record can count.
-pub fn answer_bytes(alloc: Global, answer: &Answer, groups: &[u64]) -> Result<Vec<u8>, AllocError>
-    ensures { IfOk result (λ bytes. bytes.items
-        ≡ record_bytes (answer_record answer.now (length groups.now)) ++ block_bytes groups.now) }
+/// `AllocError` if they find no room, or are more than a record can count. A beginning of them may be appended then.
+pub fn push_answer(
+    bytes: &mut Vec<u8>,
+    answer: &Answer,
+    groups: &[u64],
+) -> Result<(), AllocError>
+    ensures ok { OnOk result (bytes.new.items ≡ bytes.old.items
+        ++ record_bytes (answer_record answer.now (length groups.now)) ++ block_bytes groups.now) }
+    // With room for all of them it doesn't fail.
+    ensures succeeds { length groups.now < 2 ^ 32
+        → vec_len bytes.old + (16 + 8 * length groups.now) ≤ vec_capacity bytes.old → IsOk result }
 {
     let count = u32::try_from(groups.len()).map_err(|_| AllocError)?;
-    let mut bytes = Vec::new(alloc);
     bytes.extend_from_slice(&answer_header(answer, count).to_bytes())?;
     for group in groups {
         bytes.extend_from_slice(&group.to_be_bytes())?;
     }
-    Ok(bytes)
+    Ok(())
 }

@@ -19,7 +19,7 @@ mod header;
 mod laws;
 mod order;
 
-pub use answer::{Answer, answer_bytes};
+pub use answer::{Answer, push_answer};
 pub use front::{Front, split_record};
 pub use header::{HEADER_BYTES, Header};
 pub use laws::records_have_one_reading;

@@ -1,0 +1,65 @@
+ghost use Rattle.std.specs.Prelude.{◌≡◌, ◌+◌, ◌*◌, ◌^◌, ◌<◌, ◌≤◌, [], length, OnOk, IfOk, IfSome, vec_len, vec_capacity};
+ghost use Rattle.std.specs.List.{AllByRecursion, range_with_len};
+ghost use Rattle.meaning.specs.Jobs.{State, job_at};
+ghost use Rattle.meaning.specs.Runs.{Serving};
+ghost use Rattle.meaning.specs.declared.area.Area.{Area as Areas};
+ghost use Rattle.exchange.specs.Turns.{addresses};
+ghost use Rattle.exchange.specs.Exchanges.{IsLow, AreTold};
+
+use commands::FileService;
+use std::alloc::{AllocError, Global};
+use usercore::Area;
+use wire::{HEADER_BYTES, Order};
+
+/// Gives the areas of core that the answer to an order tells: of a call, those that it may change.
+pub(crate) fn areas_told<S: FileService>(
+    alloc: Global,
+    service: &S,
+    order: &Order,
+) -> Result<Vec<Area>, AllocError>
+    ensures told { IfOk result (λ areas. AreTold (S.machine service.now) order.now areas.items) }
+    ensures inside { IfOk result (λ areas. AllByRecursion IsLow areas.items) }
+{
+    match *order {
+        Order::Call(job, call, _) => service
+            .changed_areas(alloc, job.into(), &call)
+            .map_err(|_| AllocError),
+        Order::Examine(_, first, count) => {
+            let mut areas = Vec::new(alloc);
+            areas.push(Area { first: first as usize, count: count as usize })?;
+            Ok(areas)
+        }
+        Order::Login(..) | Order::Deposit(..) | Order::Room => Ok(Vec::new(alloc)),
+    }
+}
+
+/// Gives the number of words in areas, if it is below 2^32.
+fn words_in(areas: &[Area]) -> Option<u32>
+    ensures { IfSome result (λ words. words ≡ length (addresses areas.now)) }
+{
+    let mut words = 0u32;
+    for area in areas {
+        words = words.checked_add(u32::try_from(area.count).ok()?)?;
+    }
+    Some(words)
+}
+
+/// Takes the memory for an answer that tells the words of these areas: gives a list with room for them, and the answers
+/// that wait have room for its bytes.
+pub(crate) fn answer_room(
+    alloc: Global,
+    areas: &[Area],
+    answers: &mut Vec<u8>,
+) -> Result<Vec<u64>, AllocError>
+    ensures empty { IfOk result (λ groups. groups.items ≡ []) }
+    ensures groups { IfOk result (λ groups. length (addresses areas.now) ≤ vec_capacity groups) }
+    ensures few { IfOk result (λ groups. length (addresses areas.now) < 2 ^ 32) }
+    ensures bytes { IfOk result (λ groups.
+        vec_len answers.old + (16 + 8 * length (addresses areas.now)) ≤ vec_capacity answers.new) }
+    ensures kept { answers.new.items ≡ answers.old.items }
+{
+    let words = words_in(areas).ok_or(AllocError)? as usize;
+    let groups = Vec::with_capacity(alloc, words)?;
+    answers.reserve(HEADER_BYTES + 8 * words)?;
+    Ok(groups)
+}

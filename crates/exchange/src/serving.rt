@@ -1,0 +1,97 @@
+ghost use Rattle.std.specs.Prelude.{◌≡◌, ◌<◌, ◌++◌, ℕ, List, [], length, OnOk, IfOk, IfErr};
+ghost use Rattle.exchange.specs.Exchanges.{Exchange, HasClosed, HasTaken, BreaksOff};
+
+use crate::streaming::{flush, serve_whole};
+use crate::turns::refuse;
+use commands::{FileService, SessionError, Tally};
+use std::alloc::Global;
+use std::io::{Read, Write};
+use wire::{Front, split_record};
+
+/// The number of bytes that are read at a time.
+const PIECE_BYTES: usize = 8192;
+
+/// What of an exchange waits: bytes that are no whole record yet, and answers that aren't written; and what was counted.
+pub struct Waiting {
+    held: Vec<u8>,
+    answers: Vec<u8>,
+    tally: Tally,
+}
+
+/// Takes bytes of the input, and answers each record that is whole by now.
+fn take_piece<S: FileService, W: Write>(
+    alloc: Global,
+    service: &mut S,
+    writer: &mut W,
+    waiting: &mut Waiting,
+    piece: &[u8],
+) -> Result<(), SessionError>
+    requires piece { 0 < length piece.now }
+    requires written { waiting.old.answers.items ≡ [] }
+    ensures ok { OnOk result (HasTaken S.machine service.old service.new (W.contents writer.old)
+        (W.contents writer.new) waiting.old waiting.new piece.now) }
+    ensures err { IfErr result (λ error. BreaksOff S.machine service.old service.new (W.contents writer.old)
+        (W.contents writer.new) [] error (waiting.old.held.items ++ piece.now)) }
+{
+    if waiting.held.extend_from_slice(piece).is_err() {
+        return Err(SessionError::NoMemory);
+    }
+    let Waiting { held, answers, tally } = waiting;
+    let place = serve_whole(alloc, service, writer, held, answers, tally)?;
+    flush(writer, answers)?;
+    held.drain(..place);
+    Ok(())
+}
+
+/// Answers what is left of the input.
+fn finish<W: Write>(writer: &mut W, waiting: &mut Waiting) -> Result<Tally, SessionError>
+    requires { waiting.old.answers.items ≡ [] }
+    ensures { HasClosed (W.contents writer.old) (W.contents writer.new) waiting.old.held.items waiting.old.tally result }
+{
+    if !waiting.held.is_empty() {
+        if refuse(&mut waiting.answers, &mut waiting.tally).is_err() {
+            return Err(SessionError::NoMemory);
+        }
+        flush(writer, &mut waiting.answers)?;
+    }
+    Ok(waiting.tally)
+}
+
+/// Serves the orders of a reader until its end, or up to a record that announces more words than a core can have, and
+/// writes the answers. Records are answered before more is read, so that a program may wait for each answer. The tally
+/// tells whether a record was no order, and whether a reply was Device or Failed.
+///
+/// # Errors
+///
+/// `Read` or `Write` if the reader or the writer failed, `NoMemory` if a record or its answer found no room: nothing was
+/// done for that one.
+pub fn serve_wire<R: Read, W: Write, S: FileService>(
+    alloc: Global,
+    reader: &mut R,
+    writer: &mut W,
+    service: &mut S,
+) -> Result<Tally, SessionError>
+    ensures { Exchange (R.remaining reader.old) (R.remaining reader.new) (W.contents writer.old) (W.contents writer.new)
+        S.machine service.old service.new result }
+{
+    let mut waiting = Waiting {
+        held: Vec::new(alloc),
+        answers: Vec::new(alloc),
+        tally: Tally::none(),
+    };
+    let mut piece = [0u8; PIECE_BYTES];
+    for _ in 0..u64::MAX {
+        match split_record(&waiting.held) {
+            Front::Part => {}
+            Front::Whole(..) | Front::TooLong => return finish(writer, &mut waiting),
+        }
+        let Ok(count) = reader.read(&mut piece) else {
+            return Err(SessionError::Read);
+        };
+        if count == 0 {
+            return finish(writer, &mut waiting);
+        }
+        take_piece(alloc, service, writer, &mut waiting, &piece[..count])?;
+    }
+    Err(SessionError::Read)
+}
