@@ -72,6 +72,9 @@ run_app = formed (dated (with_rule (new_app (codes "run")) (wanted (codes "IMAGE
 unfoldable pub calls_app : App
 calls_app = formed (dated (with_rule (new_app (codes "calls")) (wanted (codes "IMAGE"))))
 
+unfoldable pub wire_app : App
+wire_app = formed (with_rule (new_app (codes "wire")) (wanted (codes "IMAGE")))
+
 -- with an option that says nothing but that it is there
 abbrev pub flag : Text → Rule
 flag id = record (new_rule id) { long = Some id; action = Some SetTrue }
@@ -104,7 +107,8 @@ migrate_app = formed (with_rule (new_app (codes "migrate")) (wanted (codes "IMAG
 -- the subcommands: those that make an image and serve an input on it, that bring a file in and out, that look, and
 -- those that convert and migrate
 unfoldable pub serving : App → App
-serving app = with_subcommand (with_subcommand (with_subcommand app init_app.top) run_app.top) calls_app.top
+serving app = with_subcommand (with_subcommand (with_subcommand (with_subcommand app init_app.top) run_app.top)
+    calls_app.top) wire_app.top
 
 unfoldable pub filing : App → App
 filing app = with_subcommand (with_subcommand app put_app.top) get_app.top

@@ -5,7 +5,7 @@ ghost use Rattle.clap.specs.Words.{app_of, with_subcommand};
 ghost use Rattle.clap.specs.declared.builder.command.Command.TheViews.{out-Command as fields_of};
 ghost use Rattle.arguments.specs.CommandLine.{calls_app, check_app, command_line, convert_app, converting};
 ghost use Rattle.arguments.specs.CommandLine.{filing, get_app, init_app, list_app, looking, migrate_app, put_app};
-ghost use Rattle.arguments.specs.CommandLine.{run_app, serving, versioned};
+ghost use Rattle.arguments.specs.CommandLine.{run_app, serving, versioned, wire_app};
 
 use crate::arguments::{
     about, dated, filed, formed, laid_out, place, shown, sized, tsv, wanted, with_argument,
@@ -115,6 +115,23 @@ fn calls_command<'a>(alloc: Global) -> Result<Command<'a>, AllocError>
     formed(alloc, dated(alloc, command)?)
 }
 
+#[tactic(auto, unfolding(crate::specs::CommandLine::wire_app))]
+fn wire_command<'a>(alloc: Global) -> Result<Command<'a>, AllocError>
+    ensures app { IfOk result (λ c. app_of c ≡ wire_app) }
+    ensures local { IfOk result (λ c. (fields_of c).has_globals ≡ false) }
+{
+    let command = about(
+        Command::new(alloc, "wire"),
+        "Serve an emulator: orders and answers as records of bytes",
+    );
+    let command = shown(
+        command,
+        "Example:\n  printf '\\5%15s' '' | tr ' ' '\\0' | filser wire DISK.IMG | od -t x1",
+    );
+    let command = with_argument(command, wanted(alloc, "IMAGE", "The image file"))?;
+    formed(alloc, command)
+}
+
 #[tactic(auto, unfolding(crate::specs::CommandLine::put_app))]
 fn put_command<'a>(alloc: Global) -> Result<Command<'a>, AllocError>
     ensures app { IfOk result (λ c. app_of c ≡ put_app) }
@@ -214,7 +231,8 @@ fn with_serving<'a>(alloc: Global, command: Command<'a>) -> Result<Command<'a>, 
 {
     let command = with_one(command, init_command(alloc)?)?;
     let command = with_one(command, run_command(alloc)?)?;
-    with_one(command, calls_command(alloc)?)
+    let command = with_one(command, calls_command(alloc)?)?;
+    with_one(command, wire_command(alloc)?)
 }
 
 /// Adds those that bring a file in and out.

@@ -12,6 +12,7 @@ use wire::{Front, split_record};
 const PIECE_BYTES: usize = 8192;
 
 /// What of an exchange waits: bytes that are no whole record yet, and answers that aren't written; and what was counted.
+#[derive(Drop)]
 pub struct Waiting {
     held: Vec<u8>,
     answers: Vec<u8>,
@@ -36,10 +37,16 @@ fn take_piece<S: FileService, W: Write>(
     if waiting.held.extend_from_slice(piece).is_err() {
         return Err(SessionError::NoMemory);
     }
-    let Waiting { held, answers, tally } = waiting;
-    let place = serve_whole(alloc, service, writer, held, answers, tally)?;
-    flush(writer, answers)?;
-    held.drain(..place);
+    let place = serve_whole(
+        alloc,
+        service,
+        writer,
+        &waiting.held,
+        &mut waiting.answers,
+        &mut waiting.tally,
+    )?;
+    flush(writer, &mut waiting.answers)?;
+    waiting.held.drain(..place);
     Ok(())
 }
 

@@ -21,7 +21,7 @@ use Rattle.filser.specs.declared.error.WrongArgument.{WrongArgument}
 use Rattle.filser.specs.declared.error.WrongArgument.TheVariants.{Owner, Name, Date}
 use Rattle.filser.specs.declared.task.NamedFile.{NamedFile}
 use Rattle.filser.specs.declared.task.Task.{Task}
-use Rattle.filser.specs.declared.task.Task.TheVariants.{Run, Calls, Put, Get, List as ListAll, Check}
+use Rattle.filser.specs.declared.task.Task.TheVariants.{Run, Calls, Wire, Put, Get, List as ListAll, Check}
 
 -- the text of an argument
 abbrev pub HasText : List Row → Text → Text → Type 0
@@ -62,6 +62,7 @@ IsStyle rows style = (style ≡ Table) ↔ HasText rows (codes "tsv") (codes "tr
 abbrev pub task_name : Task → Text
 task_name (Run at) = codes "run"
 task_name (Calls at) = codes "calls"
+task_name Wire = codes "wire"
 task_name (Put file at) = codes "put"
 task_name (Get file at) = codes "get"
 task_name (ListAll place style) = codes "list"
@@ -85,6 +86,7 @@ IsAt rows at = HasDate rows at.date × HasNumber rows (codes "minute") 0 1439 at
 abbrev pub HasTask : List Row → Task → Type 0
 HasTask rows (Run at) = IsAt rows at
 HasTask rows (Calls at) = IsAt rows at
+HasTask rows Wire = Unit
 HasTask rows (Put file at) = IsNamedFile rows file × IsAt rows at
 HasTask rows (Get file at) = IsNamedFile rows file × IsAt rows at
 HasTask rows (ListAll place style) = IsListedPlace rows place × IsStyle rows style

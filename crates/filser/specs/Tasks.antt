@@ -8,9 +8,10 @@ use Rattle.commands.specs.Errands.{Checked, Delivery, Errand, Survey}
 use Rattle.commands.specs.Sessions.{Session, Script}
 use Rattle.commands.specs.declared.answer.Tally.{Tally}
 use Rattle.commands.specs.declared.error.SessionError.{SessionError}
+use Rattle.exchange.specs.Exchanges.{Exchange}
 use Rattle.filser.specs.ServedDisks.{machine_over}
 use Rattle.filser.specs.declared.task.Task.{Task}
-use Rattle.filser.specs.declared.task.Task.TheVariants.{Run, Calls, Put, Get, List as ListAll, Check}
+use Rattle.filser.specs.declared.task.Task.TheVariants.{Run, Calls, Wire, Put, Get, List as ListAll, Check}
 
 -- date 0, minute 0
 abbrev pub IsFirstMoment : Moment → Type 0
@@ -24,6 +25,8 @@ Attends state (Run at) source left sink full first last result =
     Session source left sink full (machine_over state) first last at result
 Attends state (Calls at) source left sink full first last result =
     Script source left sink full (machine_over state) first last at result
+Attends state Wire source left sink full first last result =
+    Exchange source left sink full (machine_over state) first last result
 Attends state (Put file at) source left sink full first last result =
     Delivery source left sink full (machine_over state) first last file.encoding
     (keeps at file.owner file.encoding (own_file file.name)) result

@@ -138,6 +138,7 @@ fn task(name: &str, matches: &ArgMatches) -> Option<Task>
     match name {
         "run" => Some(Task::Run(moment(matches)?)),
         "calls" => Some(Task::Calls(moment(matches)?)),
+        "wire" => Some(Task::Wire),
         "put" => Some(Task::Put(named(matches)?, moment(matches)?)),
         "get" => Some(Task::Get(named(matches)?, moment(matches)?)),
         "list" => Some(Task::List(place(matches)?, style(matches))),

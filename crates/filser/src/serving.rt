@@ -16,6 +16,7 @@ use crate::reasons::{tell_ending, tell_late_date};
 use crate::{Disks, Host, ImageDisks, OpeningLeave, Refusal, Run, Seen, Status, Task};
 use blockdisk::{Disk, MemDisk};
 use commands::{Monitor, SessionError, Tally, Volume, check, get, list, put, script, session};
+use exchange::serve_wire;
 use imagefile::Form;
 use std::alloc::Global;
 use std::io::{Read, Write};
@@ -85,6 +86,7 @@ fn attend<D: Disk, R: Read, W: Write>(
     match task {
         Task::Run(at) => session(alloc, reader, writer, monitor, at),
         Task::Calls(at) => script(alloc, reader, writer, monitor, at),
+        Task::Wire => serve_wire(alloc, reader, writer, monitor),
         Task::Put(file, at) => put(
             alloc,
             reader,

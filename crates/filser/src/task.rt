@@ -20,6 +20,8 @@ pub enum Task {
     Run(Moment),
     /// `calls`: serve the input as a call script.
     Calls(Moment),
+    /// `wire`: serve the orders of the input.
+    Wire,
     /// `put`: make a file of the input.
     Put(NamedFile, Moment),
     /// `get`: print a file.
@@ -35,15 +37,15 @@ impl Task {
     pub fn moment(&self) -> Option<Moment> {
         match self {
             Task::Run(at) | Task::Calls(at) | Task::Put(_, at) | Task::Get(_, at) => Some(*at),
-            Task::List(_, _) | Task::Check => None,
+            Task::Wire | Task::List(_, _) | Task::Check => None,
         }
     }
 
-    /// What the file of the image is for: it is only read if no line of the input can change a file.
+    /// What the file of the image is for: it is only read if nothing in the input can change a file.
     pub fn access(&self) -> Access {
         match self {
             Task::Get(_, _) | Task::List(_, _) | Task::Check => Access::Read,
-            Task::Run(_) | Task::Calls(_) | Task::Put(_, _) => Access::Write,
+            Task::Run(_) | Task::Calls(_) | Task::Wire | Task::Put(_, _) => Access::Write,
         }
     }
 }
