@@ -8,7 +8,7 @@ loop-group-init c = record {
   items = c.in_ok-extend_from_slice.ensures.items
       ∙ ap (λ bytes. c.args.bytes.now.items ++ bytes)
       (c.to_bytes.ensures ∙ ap record_bytes (c.answer_header.ensures
-      ∙ ap (answer_record c.args.answer.now) c.in_ok-count.ensures.variant))
+      ∙ ap (answer_record c.args.answer.now) c.in-Ok.ensures.1))
       ∙ sym (append-nil _);
   len = omega (arith, c.in_ok-extend_from_slice.ensures.len);
   capacity = c.extend_from_slice.ensures.capacity;
