@@ -61,6 +61,7 @@ pub(crate) fn obey<S: FileService>(
     areas: &[Area],
     groups: &mut Vec<u64>,
 ) -> Answer
+    requires spelled { (header : Headers) × (words : List ℕ) × IsOrder header body.now order.now words }
     requires empty { groups.old.items ≡ [] }
     requires room { length (addresses areas.now) ≤ vec_capacity groups.old }
     requires inside { AllByRecursion IsLow areas.now }

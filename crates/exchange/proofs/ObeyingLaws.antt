@@ -1,0 +1,110 @@
+-- What obeys an order.
+use Rattle.std.proofs.Common.{◌≡◌, ℕ, List, [], ◌∷◌, ◌++◌, map, refl, sym, ap, subst, ◌∙◌, append-nil}
+use Rattle.std.specs.Int.{saturate_unsigned, w64}
+use Rattle.std.specs.List.{range_with_len}
+use Rattle.words36.specs.declared.moment.Moment.{Moment}
+use Rattle.meaning.specs.Jobs.{State, job_at}
+use Rattle.meaning.specs.Plans.{Act, Asks}
+use Rattle.meaning.specs.Room.{room}
+use Rattle.meaning.specs.Runs.{Serving}
+use Rattle.meaning.specs.declared.area.Area.{Area}
+use Rattle.meaning.specs.declared.call.Call.{Call}
+use Rattle.meaning.specs.declared.call.Event.TheVariants.{Login as Logins, Call as CallEvents}
+use Rattle.meaning.specs.declared.call.Reply.{Reply}
+use Rattle.commands.specs.Machines.{Machine, AlwaysStands, IsAnswered, GoesBy}
+use Rattle.commands.proofs.GoingLaws.{goes_nowhere, goes_on, goes_answered}
+use Rattle.wire.specs.Frames.{Framed}
+use Rattle.wire.specs.declared.answer.Answer.{Answer}
+use Rattle.wire.specs.declared.answer.Answer.TheVariants.{Reply as Replies, Room as HasRoom}
+use Rattle.wire.specs.declared.order.Order.{Order}
+use Rattle.wire.specs.declared.order.Order.TheVariants.{Login, Deposit, Examine, Call as Calls, Room}
+use Rattle.exchange.specs.Turns.{AreRead, addresses, group}
+use Rattle.exchange.specs.Exchanges.{HasRead, HasWritten, HasObeyed, AreTold}
+
+module _ {S : Type 0} (machine : S → Machine) where
+  abbrev Obeyed : S → S → Framed → Order → List ℕ → List Area → Answer → List ℕ → Type 0
+  Obeyed a b frame order words areas answer groups = HasObeyed machine a b frame order words areas answer groups
+
+  pub obeyed_deposit : (a b : S) (frame : Framed) (order : Order) (words : List ℕ) (areas : List Area)
+      (groups : List ℕ) (job first count : ℕ) (reply : Reply) → order ≡ Deposit job first count → groups ≡ []
+      → HasWritten machine a b job first words reply
+      → HasObeyed machine a b frame order words areas (Replies reply) groups
+  obeyed_deposit a b frame order words areas groups job first count reply is none p = subst
+      (λ (o : Order). HasObeyed machine a b frame o words areas (Replies reply) groups) (sym is) (record {
+        acts = p.acts;
+        goes = p.goes;
+        obeyed = (reply, p.written, refl, none);
+        tells = λ honest s serves. tt;
+      })
+
+  pub obeyed_examine : (a b : S) (frame : Framed) (order : Order) (words : List ℕ) (areas : List Area)
+      (before groups : List ℕ) (job first count : ℕ) (reply : Reply) → order ≡ Examine job first count
+      → before ≡ [] → AreTold (machine a) order areas → HasRead machine a b job (addresses areas) before groups reply
+      → HasObeyed machine a b frame order words areas (Replies reply) groups
+  obeyed_examine a b frame order words areas before groups job first count reply is none told p =
+      let are = subst (λ (o : Order). AreTold (machine a) o areas) is told in
+      let places : addresses areas ≡ range_with_len first count
+      = ap addresses are ∙ append-nil (range_with_len first count) in
+      subst (λ (o : Order). HasObeyed machine a b frame o words areas (Replies reply) groups) (sym is) (record {
+        acts = p.acts;
+        goes = p.goes;
+        obeyed = (
+          reply,
+          p.told,
+          subst (λ (l : List ℕ). AreRead job l p.told p.acts reply) places p.read,
+          refl,
+          p.groups ∙ ap (λ l. l ++ map group p.told) none,
+        );
+        tells = λ honest s serves. tt;
+      })
+
+  module _ (stands : AlwaysStands machine) where
+    pub obeyed_login : (a b : S) (frame : Framed) (order : Order) (words : List ℕ) (areas : List Area)
+        (groups : List ℕ) (job ppn core : ℕ) (reply : Reply) → order ≡ Login job ppn core → groups ≡ []
+        → IsAnswered (machine a) (machine b) (Logins job ppn core) reply
+        → HasObeyed machine a b frame order words areas (Replies reply) groups
+    obeyed_login a b frame order words areas groups job ppn core reply is none answered = subst
+        (λ (o : Order). HasObeyed machine a b frame o words areas (Replies reply) groups) (sym is) (record {
+          acts = Asks (Logins job ppn core) reply ∷ [];
+          goes = goes_answered machine stands a b (Logins job ppn core) reply answered;
+          obeyed = (reply, refl, refl, none);
+          tells = λ honest s serves. tt;
+        })
+
+    pub obeyed_call : (a b c : S) (frame : Framed) (order : Order) (words : List ℕ) (areas : List Area)
+        (before groups : List ℕ) (job : ℕ) (call : Call) (moment : Moment) (reply end : Reply)
+        → order ≡ Calls job call moment → before ≡ [] → AreTold (machine a) order areas
+        → IsAnswered (machine a) (machine b) (CallEvents job call moment) reply
+        → HasRead machine b c job (addresses areas) before groups end
+        → HasObeyed machine a c frame order words areas (Replies reply) groups
+    obeyed_call a b c frame order words areas before groups job call moment reply end is none told answered p =
+        let are = subst (λ (o : Order). AreTold (machine a) o areas) is told in
+        subst (λ (o : Order). HasObeyed machine a c frame o words areas (Replies reply) groups) (sym is) (record {
+          acts = Asks (CallEvents job call moment) reply ∷ p.acts;
+          goes = goes_on machine a b c (Asks (CallEvents job call moment) reply ∷ []) p.acts
+              (goes_answered machine stands a b (CallEvents job call moment) reply answered) p.goes;
+          obeyed = (
+            reply,
+            p.acts,
+            refl,
+            end,
+            p.told,
+            p.read,
+            refl,
+            p.groups ∙ ap (λ l. l ++ map group p.told) none,
+          );
+          tells = λ honest s serves. are s serves;
+        })
+
+    pub obeyed_room : (a : S) (frame : Framed) (order : Order) (words : List ℕ) (areas : List Area)
+        (groups : List ℕ) (blocks : ℕ) → order ≡ Room → groups ≡ []
+        → ((machine a).honest → (s : State) → (machine a).serves (Serving s)
+        → blocks ≡ saturate_unsigned w64 (room (machine a).pack s))
+        → HasObeyed machine a a frame order words areas (HasRoom blocks) groups
+    obeyed_room a frame order words areas groups blocks is none room_is = subst
+        (λ (o : Order). HasObeyed machine a a frame o words areas (HasRoom blocks) groups) (sym is) (record {
+          acts = [];
+          goes = goes_nowhere machine stands a;
+          obeyed = (refl, (blocks, refl), none);
+          tells = λ honest s serves. ap HasRoom (room_is honest s serves);
+        })
