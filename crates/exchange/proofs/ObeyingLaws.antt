@@ -1,7 +1,9 @@
 -- What obeys an order.
-use Rattle.std.proofs.Common.{◌≡◌, ℕ, List, [], ◌∷◌, ◌++◌, map, refl, sym, ap, subst, ◌∙◌, append-nil}
+use Rattle.std.proofs.Common.{◌≡◌, ℕ, ◌+◌, ◌-◌, ◌^◌, ◌≤◌, List, [], ◌∷◌, ◌++◌, length, map, All, refl, sym, ap, subst}
+use Rattle.std.proofs.Common.{◌∙◌, append-nil, arith}
 use Rattle.std.specs.Int.{saturate_unsigned, w64}
 use Rattle.std.specs.List.{range_with_len}
+use Rattle.words36.specs.Words.{IsWord}
 use Rattle.words36.specs.declared.moment.Moment.{Moment}
 use Rattle.meaning.specs.Jobs.{State, job_at}
 use Rattle.meaning.specs.Plans.{Act, Asks}
@@ -13,18 +15,18 @@ use Rattle.meaning.specs.declared.call.Event.TheVariants.{Login as Logins, Call 
 use Rattle.meaning.specs.declared.call.Reply.{Reply}
 use Rattle.commands.specs.Machines.{Machine, AlwaysStands, IsAnswered, GoesBy}
 use Rattle.commands.proofs.GoingLaws.{goes_nowhere, goes_on, goes_answered}
+use Rattle.wire.proofs.Words.{numbers_of}
 use Rattle.wire.specs.Frames.{Framed}
+use Rattle.wire.specs.Records.{IsOrder, HasWords}
 use Rattle.wire.specs.declared.answer.Answer.{Answer}
 use Rattle.wire.specs.declared.answer.Answer.TheVariants.{Reply as Replies, Room as HasRoom}
+use Rattle.wire.specs.declared.header.Header.{Header}
 use Rattle.wire.specs.declared.order.Order.{Order}
 use Rattle.wire.specs.declared.order.Order.TheVariants.{Login, Deposit, Examine, Call as Calls, Room}
 use Rattle.exchange.specs.Turns.{AreRead, addresses, group}
 use Rattle.exchange.specs.Exchanges.{HasRead, HasWritten, HasObeyed, AreTold}
 
 module _ {S : Type 0} (machine : S → Machine) where
-  abbrev Obeyed : S → S → Framed → Order → List ℕ → List Area → Answer → List ℕ → Type 0
-  Obeyed a b frame order words areas answer groups = HasObeyed machine a b frame order words areas answer groups
-
   pub obeyed_deposit : (a b : S) (frame : Framed) (order : Order) (words : List ℕ) (areas : List Area)
       (groups : List ℕ) (job first count : ℕ) (reply : Reply) → order ≡ Deposit job first count → groups ≡ []
       → HasWritten machine a b job first words reply
@@ -108,3 +110,17 @@ module _ {S : Type 0} (machine : S → Machine) where
           obeyed = (refl, (blocks, refl), none);
           tells = λ honest s serves. ap HasRoom (room_is honest s serves);
         })
+
+-- the words of a deposit lie in core, and so are their bytes few
+pub deposit_fits : (header : Header) (body : List ℕ) (order : Order) (words : List ℕ) (job first count : ℕ)
+    → IsOrder header body order words → order ≡ Deposit job first count → first + length body ≤ 2 ^ 32 - 1
+deposit_fits header body order words job first count is deposit =
+    let fit = subst (λ (o : Order). HasWords o words) deposit is.words_fit in
+    let numbers = numbers_of body words fit.0 is.body_is in
+    omega (arith, fit.1, fit.2, numbers.long)
+
+-- and they are the words of the record
+pub deposit_words : (header : Header) (body : List ℕ) (order : Order) (words : List ℕ) (job first count : ℕ)
+    → IsOrder header body order words → order ≡ Deposit job first count → All IsWord words
+deposit_words header body order words job first count is deposit =
+    (subst (λ (o : Order). HasWords o words) deposit is.words_fit).0
