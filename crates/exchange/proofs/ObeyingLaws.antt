@@ -1,6 +1,7 @@
 -- What obeys an order.
 use Rattle.std.proofs.Common.{◌≡◌, ℕ, ◌+◌, ◌-◌, ◌^◌, ◌≤◌, List, [], ◌∷◌, ◌++◌, length, map, All, refl, sym, ap, subst}
 use Rattle.std.proofs.Common.{◌∙◌, append-nil, arith}
+use Rattle.std.proofs.lemmas.List.{length-map}
 use Rattle.std.specs.Int.{saturate_unsigned, w64}
 use Rattle.std.specs.List.{range_with_len}
 use Rattle.words36.specs.Words.{IsWord}
@@ -25,6 +26,7 @@ use Rattle.wire.specs.declared.order.Order.{Order}
 use Rattle.wire.specs.declared.order.Order.TheVariants.{Login, Deposit, Examine, Call as Calls, Room}
 use Rattle.exchange.specs.Turns.{AreRead, addresses, group}
 use Rattle.exchange.specs.Exchanges.{HasRead, HasWritten, HasObeyed, AreTold}
+use Rattle.exchange.proofs.TellingLaws.{read_few}
 
 module _ {S : Type 0} (machine : S → Machine) where
   pub obeyed_deposit : (a b : S) (frame : Framed) (order : Order) (words : List ℕ) (areas : List Area)
@@ -124,3 +126,32 @@ pub deposit_words : (header : Header) (body : List ℕ) (order : Order) (words :
     → IsOrder header body order words → order ≡ Deposit job first count → All IsWord words
 deposit_words header body order words job first count is deposit =
     (subst (λ (o : Order). HasWords o words) deposit is.words_fit).0
+
+none_told : (groups : List ℕ) (areas : List Area) → groups ≡ [] → length groups ≤ length (addresses areas)
+none_told groups areas none = let long = ap length none in omega arith
+
+read_told : (job : ℕ) (places : List ℕ) (told : List (ℕ × ℕ)) (acts : List Act) (reply : Reply) (groups : List ℕ)
+    → AreRead job places told acts reply → groups ≡ map group told → length groups ≤ length places
+read_told job places told acts reply groups read is =
+    omega (arith, ap length is, length-map told group, read_few job places told acts reply read)
+
+-- No more words are told than the areas have.
+pub few_told : {S : Type 0} (machine : S → Machine) (a b : S) (frame : Framed) (order : Order) (words : List ℕ)
+    (areas : List Area) (answer : Answer) (groups : List ℕ) → AreTold (machine a) order areas
+    → HasObeyed machine a b frame order words areas answer groups → length groups ≤ length (addresses areas)
+few_told machine a b frame (Login job ppn core) words areas answer groups told p =
+    none_told groups areas p.obeyed.3
+few_told machine a b frame (Deposit job first count) words areas answer groups told p =
+    none_told groups areas p.obeyed.3
+few_told machine a b frame (Examine job first count) words areas answer groups told p =
+    let o = p.obeyed in
+    let places : addresses areas ≡ range_with_len first count
+    = ap addresses told ∙ append-nil (range_with_len first count) in
+    omega (
+      arith,
+      read_told job (range_with_len first count) o.1 p.acts o.0 groups o.2 o.4,
+      ap length places,
+    )
+few_told machine a b frame (Calls job call moment) words areas answer groups told p =
+    let o = p.obeyed in read_told job (addresses areas) o.4 o.1 o.3 groups o.5 o.7
+few_told machine a b frame Room words areas answer groups told p = none_told groups areas p.obeyed.2

@@ -8,7 +8,7 @@ use Rattle.meaning.specs.declared.call.Reply.{Reply}
 use Rattle.meaning.specs.declared.call.Reply.TheVariants.{Done, Value}
 use Rattle.commands.specs.Machines.{Machine, AlwaysStands, IsAnswered, GoesBy}
 use Rattle.commands.proofs.GoingLaws.{goes_nowhere, goes_on, goes_answered}
-use Rattle.exchange.specs.Turns.{looks, group, IsNoWord}
+use Rattle.exchange.specs.Turns.{looks, group, IsNoWord, AreRead}
 use Rattle.exchange.specs.Exchanges.{HasRead}
 
 -- All of these words were read, and told after those before.
@@ -54,6 +54,12 @@ named_before : (told : List (ℕ × ℕ)) (places more : List ℕ) (address : �
 named_before told places more address is =
     let long = ap length is ∙ length-append (map (λ place. place.0) told) (address ∷ more) in
     omega (arith, long, length-map told (λ place. place.0))
+
+-- no more were told than were asked for
+pub read_few : (job : ℕ) (places : List ℕ) (told : List (ℕ × ℕ)) (acts : List Act) (reply : Reply)
+    → AreRead job places told acts reply → length told ≤ length places
+read_few job places told acts reply read = ⊎_elim (λ whole. omega (arith, named told places whole.0))
+    (λ stop. omega (arith, named_before told places stop.1 stop.0 stop.2)) read
 
 module _ {S : Type 0} (machine : S → Machine) where
   pub told_more : (a b c : S) (job : ℕ) (places more before between after : List ℕ)

@@ -1,6 +1,6 @@
 -- A turn, from what was done for it and what is counted of it.
-use Rattle.std.proofs.Common.{◌≡◌, ◌||◌, ℕ, List, [], ◌∷◌, ◌++◌, Bool, true, false, refl, sym, ap, subst, ◌∙◌, append-nil}
-use Rattle.std.proofs.Common.{Option, Some, None}
+use Rattle.std.proofs.Common.{◌≡◌, ◌||◌, ℕ, List, [], ◌∷◌, ◌++◌, length, Bool, true, false, refl, sym, ap}
+use Rattle.std.proofs.Common.{subst, ◌∙◌, append_assoc, append-nil, Option, Some, None}
 use Rattle.meaning.specs.Jobs.{State}
 use Rattle.meaning.specs.Plans.{Act}
 use Rattle.meaning.specs.Room.{Pack}
@@ -10,7 +10,8 @@ use Rattle.commands.specs.Machines.{Machine, AlwaysStands, GoesBy, KeepsPack}
 use Rattle.commands.specs.declared.answer.Tally.{Tally}
 use Rattle.commands.proofs.GoingLaws.{acts_went, goes_nowhere}
 use Rattle.wire.specs.Frames.{Framed, IsFrame}
-use Rattle.wire.specs.Records.{IsOrder}
+use Rattle.words36.specs.Blocks.{block_bytes}
+use Rattle.wire.specs.Records.{IsOrder, record_bytes, answer_record}
 use Rattle.wire.specs.declared.answer.Answer.{Answer}
 use Rattle.wire.specs.declared.answer.Answer.TheVariants.{Wrong}
 use Rattle.wire.specs.declared.order.Order.{Order}
@@ -99,3 +100,11 @@ module _ {S : Type 0} (machine : S → Machine) where
         answered = after_is;
         counts = counts_one tally counted t (refused ∙ or-all tally.refused) (broke ∙ or-none tally.broke) reason;
       }
+
+-- what is appended for an answer
+pub appended_answer : (before mid after : List ℕ) (answer : Answer) (groups given : List ℕ)
+    → after ≡ mid ++ record_bytes (answer_record answer (length given)) ++ block_bytes given → mid ≡ before
+    → given ≡ groups → after ≡ before ++ answer_of answer groups
+appended_answer before mid after answer groups given is kept same =
+    is ∙ append_assoc mid (record_bytes (answer_record answer (length given))) (block_bytes given)
+    ∙ (λ i. kept i ++ answer_of answer (same i))
