@@ -1,4 +1,4 @@
-ghost use Rattle.std.specs.Prelude.{◌≡◌, ◌+◌, ◌≤◌, List, ℕ, [], All, length, vec_len, vec_capacity};
+ghost use Rattle.std.specs.Prelude.{◌≡◌, ◌+◌, ◌-◌, ◌^◌, ◌≤◌, List, ℕ, [], All, length, vec_len, vec_capacity};
 ghost use Rattle.std.specs.List.{AllByRecursion};
 ghost use Rattle.words36.specs.Blocks.{block_bytes};
 ghost use Rattle.words36.specs.Words.{IsWord};
@@ -61,6 +61,7 @@ pub(crate) fn obey<S: FileService>(
     areas: &[Area],
     groups: &mut Vec<u64>,
 ) -> Answer
+    requires spelled { (header : Headers) × (words : List ℕ) × IsOrder header body.now order.now words }
     requires empty { groups.old.items ≡ [] }
     requires room { length (addresses areas.now) ≤ vec_capacity groups.old }
     requires inside { AllByRecursion IsLow areas.now }

@@ -1,8 +1,9 @@
-ghost use Rattle.std.specs.Prelude.{◌≡◌, ◌+◌, ◌*◌, ◌^◌, ◌<◌, ◌≤◌, [], length, OnOk, IfOk, IfSome, vec_len, vec_capacity};
+ghost use Rattle.std.specs.Prelude.{◌≡◌, ◌+◌, ◌*◌, ◌^◌, ◌<◌, ◌≤◌, ℕ, List, [], length, OnOk, IfOk, IfSome, vec_len, vec_capacity};
 ghost use Rattle.std.specs.List.{AllByRecursion, range_with_len};
 ghost use Rattle.meaning.specs.Jobs.{State, job_at};
 ghost use Rattle.meaning.specs.Runs.{Serving};
 ghost use Rattle.meaning.specs.declared.area.Area.{Area as Areas};
+ghost use Rattle.wire.specs.Records.{HasWords};
 ghost use Rattle.exchange.specs.Turns.{addresses};
 ghost use Rattle.exchange.specs.Exchanges.{IsLow, AreTold};
 
@@ -18,7 +19,8 @@ pub(crate) fn areas_told<S: FileService>(
     order: &Order,
 ) -> Result<Vec<Area>, AllocError>
     ensures told { IfOk result (λ areas. AreTold (S.machine service.now) order.now areas.items) }
-    ensures inside { IfOk result (λ areas. AllByRecursion IsLow areas.items) }
+    ensures inside { (words : List ℕ) → HasWords order.now words
+        → IfOk result (λ areas. AllByRecursion IsLow areas.items) }
 {
     match *order {
         Order::Call(job, call, _) => service

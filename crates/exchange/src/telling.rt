@@ -43,6 +43,7 @@ fn tell_word<S: FileService>(
         groups.new.items Done) }
     ensures untold { IfSome result (HasRead S.machine service.old service.new job (address ∷ []) groups.old.items
         groups.new.items) }
+    ensures all { IfNone result (vec_len groups.new ≡ vec_len groups.old + 1) }
     ensures stopped { IfSome result (λ reply. groups.new.items ≡ groups.old.items) }
     ensures capacity { vec_capacity groups.old ≤ vec_capacity groups.new }
 {
@@ -69,6 +70,8 @@ fn tell_area<S: FileService>(
         (range_with_len area.now.first area.now.count) groups.old.items groups.new.items Done) }
     ensures untold { IfSome result (HasRead S.machine service.old service.new job
         (range_with_len area.now.first area.now.count) groups.old.items groups.new.items) }
+    ensures all { IfNone result (vec_len groups.new ≡ vec_len groups.old + area.now.count) }
+    ensures stopped { IfSome result (λ reply. vec_len groups.new < vec_len groups.old + area.now.count) }
     ensures capacity { vec_capacity groups.old ≤ vec_capacity groups.new }
 {
     for place in 0..area.count {
