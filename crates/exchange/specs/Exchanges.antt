@@ -1,8 +1,8 @@
 -- A whole exchange of orders and answers, and the parts that it is made of.
 use Rattle.std.specs.Prelude.{◌≡◌, ◌⊎◌, ◌||◌, ◌+◌, ◌<◌, ◌≤◌, ℕ, not, List, [], ◌∷◌, ◌++◌, length, map, Option, Some}
-use Rattle.std.specs.Prelude.{None, Result, Ok, Err, IfSome, any, is_empty, unwrap_or}
+use Rattle.std.specs.Prelude.{None, Result, Ok, Err, IfSome, is_empty, unwrap_or}
 use Rattle.std.specs.Io.KnownBytes.{Consumes, Appends, IsAtEnd}
-use Rattle.std.specs.List.{AllByRecursion}
+use Rattle.std.specs.List.{AllByRecursion, list_any}
 use Rattle.meaning.specs.Jobs.{State, job_at}
 use Rattle.meaning.specs.Plans.{Act, Asks}
 use Rattle.meaning.specs.Runs.{Service, Serving}
@@ -36,8 +36,8 @@ pub record Takes {S : Type 0} (machine : S → Machine) (old new : S) (turns : L
 
 -- what is counted of turns: whether one was wrong, and whether one met a fault of the disk, or came after one
 pub record Counts (tally counted : Tally) (turns : List Turn) : Type 0 where
-  pub refused : counted.refused ≡ tally.refused || any (λ t. is_wrong t.answer) turns
-  pub broke : counted.broke ≡ tally.broke || any (λ t. is_fault t.answer) turns
+  pub refused : counted.refused ≡ tally.refused || list_any (λ t. is_wrong t.answer) turns
+  pub broke : counted.broke ≡ tally.broke || list_any (λ t. is_fault t.answer) turns
   pub reason : counted.reason ≡ tally.reason
 
 -- One order.
@@ -185,15 +185,15 @@ pub record Finished (at_end : Type 0) (read written : List ℕ) (turns : List Tu
   pub orders : read ≡ orders_of turns ++ rest
   pub ends : IsRest at_end rest
   pub answers : written ≡ answers_of turns ++ closing rest
-  pub refused : tally.refused ≡ any (λ t. is_wrong t.answer) turns || not (is_empty rest)
-  pub broke : tally.broke ≡ any (λ t. is_fault t.answer) turns
+  pub refused : tally.refused ≡ list_any (λ t. is_wrong t.answer) turns || not (is_empty rest)
+  pub broke : tally.broke ≡ list_any (λ t. is_fault t.answer) turns
   pub reason : tally.reason ≡ None
 
 -- The reader failed: each whole record that it had given was answered before.
 pub record CutShort (read written : List ℕ) (turns : List Turn) : Type 0 where
   pub rest : List ℕ
   pub orders : read ≡ orders_of turns ++ rest
-  pub part : IsPart rest
+  pub part : IsNotWhole rest
   pub answers : written ≡ answers_of turns
 
 -- The writer failed: it holds a beginning of the answers.

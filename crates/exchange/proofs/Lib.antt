@@ -1,0 +1,3 @@
+pub mod TakingLaws
+pub mod StreamLaws
+pub mod ServeLaws
