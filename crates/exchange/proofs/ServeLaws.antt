@@ -1,6 +1,6 @@
 -- An exchange, from its first byte to its end.
 use Rattle.std.proofs.Common.{◌≡◌, ◌<◌, ◌||◌, ℕ, List, [], ◌∷◌, ◌++◌, length, take, drop, refl, sym, ap, ◌∙◌, subst}
-use Rattle.std.specs.Prelude.{not, is_empty}
+use Rattle.std.specs.Prelude.{not, ◌==◌}
 use Rattle.std.proofs.Common.{append-nil, append_assoc, inl, inr, arith, Option, None, Result, Ok, Err, IfOk, IfErr}
 use Rattle.std.specs.Io.KnownBytes.{Appends, Consumes, Keeps, IsAtEnd}
 use Rattle.std.proofs.KnownBytes.{Appends-nil, Appends-trans, Consumes-trans, Consumes-nil, Consumes-kept}
@@ -162,7 +162,7 @@ module _ {S : Type 0} (machine : S → Machine) where
       orders = s.orders;
       ends = end;
       answers = ap (λ l. l ++ closing waiting.held.items) s.answers;
-      refused = t.1 ∙ ap (λ b. b || not (is_empty waiting.held.items)) s.counts.refused;
+      refused = t.1 ∙ ap (λ b. b || not (length waiting.held.items == 0)) s.counts.refused;
       broke = t.2 ∙ s.counts.broke;
       reason = t.3 ∙ s.counts.reason;
     };

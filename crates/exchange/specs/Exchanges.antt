@@ -1,6 +1,6 @@
 -- A whole exchange of orders and answers, and the parts that it is made of.
 use Rattle.std.specs.Prelude.{◌≡◌, ◌⊎◌, ◌||◌, ◌+◌, ◌<◌, ◌≤◌, ℕ, not, List, [], ◌∷◌, ◌++◌, length, map, Option, Some}
-use Rattle.std.specs.Prelude.{None, Result, Ok, Err, IfSome, is_empty, unwrap_or}
+use Rattle.std.specs.Prelude.{None, Result, Ok, Err, IfSome, ◌==◌, unwrap_or}
 use Rattle.std.specs.Io.KnownBytes.{Consumes, Appends, IsAtEnd}
 use Rattle.std.specs.List.{AllByRecursion, list_any}
 use Rattle.meaning.specs.Jobs.{State, job_at}
@@ -171,7 +171,7 @@ closing (byte ∷ bytes) = answer_of Wrong []
 -- The rest was answered; or there was no memory for that, or the writer failed.
 abbrev pub HasClosed : Option (List ℕ) → Option (List ℕ) → List ℕ → Tally → Result Tally SessionError → Type 0
 HasClosed sink full rest tally (Ok counted) =
-    Appends sink full (closing rest) × (counted.refused ≡ tally.refused || not (is_empty rest))
+    Appends sink full (closing rest) × (counted.refused ≡ tally.refused || not (length rest == 0))
     × (counted.broke ≡ tally.broke) × (counted.reason ≡ tally.reason)
 HasClosed sink full rest tally (Err Read) = ⊥
 HasClosed sink full rest tally (Err Write) =
@@ -185,7 +185,7 @@ pub record Finished (at_end : Type 0) (read written : List ℕ) (turns : List Tu
   pub orders : read ≡ orders_of turns ++ rest
   pub ends : IsRest at_end rest
   pub answers : written ≡ answers_of turns ++ closing rest
-  pub refused : tally.refused ≡ list_any (λ t. is_wrong t.answer) turns || not (is_empty rest)
+  pub refused : tally.refused ≡ list_any (λ t. is_wrong t.answer) turns || not (length rest == 0)
   pub broke : tally.broke ≡ list_any (λ t. is_fault t.answer) turns
   pub reason : tally.reason ≡ None
 
