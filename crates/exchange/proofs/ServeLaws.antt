@@ -5,7 +5,7 @@ use Rattle.std.proofs.Common.{append-nil, append_assoc, inl, inr, arith, Option,
 use Rattle.std.specs.Io.KnownBytes.{Appends, Consumes, Keeps, IsAtEnd}
 use Rattle.std.proofs.KnownBytes.{Appends-nil, Appends-trans, Consumes-trans, Consumes-nil, Consumes-kept}
 use Rattle.std.proofs.lemmas.Grind.{flat_map-append}
-use Rattle.std.proofs.lemmas.List.{take-append-drop}
+use Rattle.std.proofs.lemmas.List.{take-append-drop, length-append}
 use Rattle.commands.specs.Errands.{fresh}
 use Rattle.commands.specs.Machines.{Machine, AlwaysStands}
 use Rattle.commands.specs.declared.answer.Tally.{Tally}
@@ -180,8 +180,11 @@ module _ {S : Type 0} (machine : S → Machine) where
       rest = waiting.held.items;
       unwritten = t.1;
       orders = s.orders;
-      answers = inr (end, append_assoc s.written t.0 t.1 ∙ ap (λ l. s.written ++ l) (sym t.3)
-          ∙ ap (λ l. l ++ closing waiting.held.items) s.answers);
+      answers = inr (
+        end,
+        append_assoc s.written t.0 t.1 ∙ ap (λ l. s.written ++ l) (sym t.3)
+            ∙ ap (λ l. l ++ closing waiting.held.items) s.answers,
+      );
       some = t.4;
     };
   }
@@ -195,3 +198,49 @@ module _ {S : Type 0} (machine : S → Machine) where
     takes = s.takes;
     ends = record { rest = waiting.held.items; orders = s.orders; some = t.1; answers = s.answers };
   }
+
+  -- no memory for bytes that were read
+  pub piece_refused : AlwaysStands machine → (a : S) (sink : Option (List ℕ)) (held piece : List ℕ)
+      → 0 < length piece → BreaksOff machine a a sink sink [] NoMemory (held ++ piece)
+  piece_refused stands a sink held piece some = record {
+    turns = [];
+    takes = takes_none machine stands a;
+    rest = held ++ piece;
+    orders = refl;
+    written = [];
+    unwritten = [];
+    appended = Appends-nil sink;
+    answers = refl;
+    cause = (refl, omega (arith, some, length-append held piece));
+  }
+
+  -- what was whole of bytes that were read is answered, and the rest is held
+  pub piece_taken : (a b : S) (sink full : Option (List ℕ)) (before after : Waiting) (piece all : List ℕ) (place : ℕ)
+      → before.held.items ++ piece ≡ all → before.answers.items ≡ []
+      → StepsOn machine a b sink full before.answers.items [] before.tally after.tally (take place all)
+      → IsNotWhole (drop place all) → after.held.items ≡ drop place all → after.answers.items ≡ []
+      → HasTaken machine a b sink full before after piece
+  piece_taken a b sink full before after piece all place joins none steps rest held written = record {
+    front = take place all;
+    parted = joins ∙ sym (take-append-drop place all) ∙ ap (λ l. take place all ++ l) (sym held);
+    steps = subst (λ waits. StepsOn machine a b sink full waits [] before.tally after.tally (take place all)) none
+        steps;
+    rest = subst (λ l. IsNotWhole l) (sym held) rest;
+    written = written;
+  }
+
+-- The end of the input.
+
+pub rest_ends : (at_end : Type 0) (rest : List ℕ) → at_end → IsPart rest → IsRest at_end rest
+rest_ends at_end [] end part = end
+rest_ends at_end (byte ∷ bytes) end part = inl (end, part)
+
+pub rest_is_long : (at_end : Type 0) (rest : List ℕ) → IsTooLong rest → IsRest at_end rest
+rest_is_long at_end [] long = absurd (no_bytes long)
+  where
+    no_bytes : IsTooLong [] → ⊥
+    no_bytes (header, fits, more, is, many) = cc
+rest_is_long at_end (byte ∷ bytes) long = inr long
+
+pub nothing_held : (held : List ℕ) → held ≡ [] → IsNotWhole held
+nothing_held held none = inl (λ frame more is begins. cc)

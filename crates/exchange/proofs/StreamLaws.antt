@@ -1,27 +1,30 @@
 -- Bytes of orders that follow one another, and the answers that wait.
 use Rattle.std.proofs.Common.{◌≡◌, ◌+◌, ◌*◌, ◌<◌, ◌≤◌, ℕ, List, [], ◌∷◌, ◌++◌, length, take, drop, refl, sym, ap, ◌∙◌}
-use Rattle.std.proofs.Common.{subst, append-nil, append_assoc, inl, inr, arith, Option, None, Result, Ok, Err, IfOk, OnOk}
+use Rattle.std.proofs.Common.{◌⊎◌, ◌-◌, ◌/◌, ◌%◌, ◌^◌, subst, append-nil, append_assoc, inl, inr, arith, Option, None, Result, Ok, Err, IfOk, IfErr, OnOk, Bor}
 use Rattle.std.specs.Io.KnownBytes.{Appends}
 use Rattle.std.proofs.KnownBytes.{Appends-nil, Appends-trans}
 use Rattle.std.proofs.lemmas.Grind.{flat_map-append}
 use Rattle.std.proofs.Math.Seq.{take-add, take-append_seam}
-use Rattle.std.proofs.lemmas.List.{take-append-drop, length-append}
+use Rattle.std.proofs.lemmas.List.{take-append-drop, length-append, length-drop, take_all}
 use Rattle.commands.specs.Machines.{Machine, AlwaysStands}
 use Rattle.commands.specs.declared.answer.Tally.{Tally}
 use Rattle.commands.specs.declared.error.SessionError.{SessionError}
 use Rattle.commands.specs.declared.error.SessionError.TheVariants.{Read, Write, NoMemory}
-use Rattle.wire.specs.Frames.{Framed, IsFrame, frame_bytes}
-use Rattle.wire.specs.Records.{record_bytes}
-use Rattle.exchange.specs.Exchanges.{HasTurned, StepsOn, BreaksOff, IsBreak, IsFlushed, IsGivenUp}
+use Rattle.wire.specs.Frames.{Framed, IsFrame, IsPart, IsTooLong, BeginsWith, frame_bytes}
+use Rattle.wire.specs.declared.front.Front.{Front}
+use Rattle.wire.specs.declared.front.Front.TheVariants.{Whole, Part, TooLong}
+use Rattle.wire.specs.declared.header.Header.{Header}
+use Rattle.wire.specs.Records.{FitsRecord, record_bytes}
+use Rattle.exchange.specs.Exchanges.{HasTurned, StepsOn, BreaksOff, IsBreak, IsFlushed, IsGivenUp, IsNotWhole}
 use Rattle.exchange.specs.Turns.{Turn, answer_of, answers_of, orders_of}
 use Rattle.exchange.proofs.TakingLaws.{takes_on, takes_none, counts_on, counts_none}
 
 -- Lists.
 
-answers_on : (turns more : List Turn) → answers_of (turns ++ more) ≡ answers_of turns ++ answers_of more
+pub answers_on : (turns more : List Turn) → answers_of (turns ++ more) ≡ answers_of turns ++ answers_of more
 answers_on turns more = flat_map-append (λ (t : Turn). answer_of t.answer t.groups) turns more
 
-orders_on : (turns more : List Turn) → orders_of (turns ++ more) ≡ orders_of turns ++ orders_of more
+pub orders_on : (turns more : List Turn) → orders_of (turns ++ more) ≡ orders_of turns ++ orders_of more
 orders_on turns more = flat_map-append (λ (t : Turn). frame_bytes t.frame) turns more
 
 -- what waited is written first
@@ -79,7 +82,7 @@ module _ {S : Type 0} (machine : S → Machine) where
     appended = Appends-trans sink full over p.written q.written p.appended q.appended;
     answers = ap (λ l. before ++ l) (answers_on p.turns q.turns)
         ∙ chain before (answers_of p.turns) (answers_of q.turns) p.written mid q.written q.unwritten p.answers
-            q.answers;
+        q.answers;
     cause = cause_on error q.unwritten q.rest rest q.cause;
   }
 
@@ -163,3 +166,97 @@ module _ {S : Type 0} (machine : S → Machine) where
     answers = ap (λ l. before ++ l) (append-nil (answer_of p.turn.answer p.turn.groups)) ∙ sym p.answered;
     counts = p.counts;
   }
+
+  pub record_breaks : (a b : S) (sink full : Option (List ℕ)) (frame : Framed) (before mid after : List ℕ)
+      (tally counted : Tally) (result : Result (Unit {0}) SessionError)
+      → HasTurned machine a b frame before mid tally counted → IsFlushed sink full mid after result
+      → IfErr result (λ error. BreaksOff machine a b sink full before error (frame_bytes frame))
+  record_breaks a b sink full frame before mid after tally counted (Ok unit) p q = tt
+  record_breaks a b sink full frame before mid after tally counted (Err error) p q =
+      subst (λ bytes. BreaksOff machine a b sink full before error bytes) (append-nil (frame_bytes frame))
+      (steps_unwritten a b sink sink full before mid tally counted error (frame_bytes frame) []
+      (steps_one a b sink frame before mid tally counted p) q.0 q.1 q.2 q.3 q.4 q.5)
+
+pub frame_some : (frame : Framed) → 0 < length (frame_bytes frame)
+frame_some frame = omega arith
+
+pub frame_size : (frame : Framed) → length (frame_bytes frame) ≡ 16 + length frame.body
+frame_size frame = omega arith
+
+-- a whole record that the rest begins with
+pub within_grows : (place : ℕ) (xs more : List ℕ) (frame : Framed) → place ≤ length xs
+    → drop place xs ≡ frame_bytes frame ++ more → place + (16 + length frame.body) ≤ length xs
+within_grows place xs more frame within is =
+    omega (
+      arith,
+      within,
+      length-drop place xs,
+      ap (λ (l : List ℕ). length l) is,
+      length-append (frame_bytes frame) more,
+      frame_size frame,
+    )
+
+pub whole_again : (place : ℕ) (xs front more : List ℕ) → drop place xs ≡ front ++ more
+    → take place xs ++ (front ++ more) ≡ xs
+whole_again place xs front more is = ap (λ l. take place xs ++ l) (sym is) ∙ take-append-drop place xs
+
+pub not_whole : (bytes : List ℕ) (front : Front) → BeginsWith bytes front
+    → ((header : Header) (body : Bor (List ℕ)) → front ≡ Whole header body → ⊥) → IsNotWhole bytes
+not_whole bytes (Whole header body) begins none = absurd (none header body refl)
+not_whole bytes Part begins none = inl begins
+not_whole bytes TooLong begins none = inr begins
+
+-- a slice from a place to the end is what is behind that place
+pub to_the_end : (place : ℕ) (xs : List ℕ) → take (length xs - place) (drop place xs) ≡ drop place xs
+to_the_end place xs = take_all (length xs - place) (drop place xs) (omega (arith, length-drop place xs))
+
+module _ {S : Type 0} (machine : S → Machine) where
+  -- the answers to the whole records that bytes begin with were not all written
+  pub whole_unwritten : (a b : S) (sink full over : Option (List ℕ)) (before mid after : List ℕ) (first then : Tally)
+      (error : SessionError) (place : ℕ) (held : List ℕ)
+      → StepsOn machine a b sink full before mid first then (take place held)
+      → IsFlushed full over mid after (Err error) → BreaksOff machine a b sink over before error held
+  whole_unwritten a b sink full over before mid after first then error place held p q =
+      subst (λ bytes. BreaksOff machine a b sink over before error bytes) (take-append-drop place held)
+      (steps_unwritten machine a b sink full over before mid first then error (take place held) (drop place held) p
+      q.0 q.1 q.2 q.3 q.4 q.5)
+
+  pub whole_written : (a b : S) (sink full over : Option (List ℕ)) (before mid after : List ℕ) (first then : Tally)
+      (bytes : List ℕ) → StepsOn machine a b sink full before mid first then bytes
+      → IsFlushed full over mid after (Ok _) → after ≡ [] → StepsOn machine a b sink over before [] first then bytes
+  whole_written a b sink full over before mid after first then bytes p q none =
+      subst (λ waits. StepsOn machine a b sink over before waits first then bytes) none
+      (steps_written machine a b sink full over before mid after first then bytes p q.0 q.1 q.2)
+
+-- Bytes that begin with a whole record don't announce too much.
+
+twelve : List ℕ → List ℕ
+twelve (a ∷ b ∷ c ∷ d ∷ e ∷ f ∷ g ∷ h ∷ i ∷ j ∷ k ∷ l ∷ rest) = rest
+twelve bytes = []
+
+four : List ℕ → ℕ
+four (a ∷ b ∷ c ∷ d ∷ rest) = ((a * 256 + b) * 256 + c) * 256 + d
+four bytes = 0
+
+number_again : (n : ℕ) → n < 2 ^ 32
+    → ((n / 16777216 % 256 * 256 + n / 65536 % 256) * 256 + n / 256 % 256) * 256 + n % 256 ≡ n
+number_again n fits = omega (arith, fits)
+
+count_is : (h k : Header) (body more rest : List ℕ) → FitsRecord h → FitsRecord k
+    → (record_bytes h ++ body) ++ more ≡ record_bytes k ++ rest → h.count ≡ k.count
+unfolding four twelve
+count_is h k body more rest fits fits' is = sym (number_again h.count fits.count_fits)
+    ∙ ap (λ bytes. four (twelve bytes)) is ∙ number_again k.count fits'.count_fits
+
+pub whole_fits : (bytes more : List ℕ) (frame : Framed) → IsFrame frame → bytes ≡ frame_bytes frame ++ more
+    → IsTooLong bytes → ⊥
+whole_fits bytes more frame is begins (header, fits, rest, also, many) =
+    omega (arith, is.few, many, count_is frame.header header frame.body more rest is.fits fits (sym begins ∙ also))
+
+pub part_or_long : (bytes : List ℕ) (front : Front) → BeginsWith bytes front → (front ≡ TooLong → ⊥)
+    → IsNotWhole bytes → IsPart bytes
+part_or_long bytes (Whole header body) begins other (inl part) = part
+part_or_long bytes (Whole header body) begins other (inr long) =
+    absurd (whole_fits bytes begins.1.0 (record { header = header; body = body.now }) begins.0 begins.1.1 long)
+part_or_long bytes Part begins other rest = begins
+part_or_long bytes TooLong begins other rest = absurd (other refl)

@@ -40,9 +40,10 @@ broken_turns : (p q : Pack) (turns : List Turn) (last : Service) → TellBy p Br
 broken_turns p q [] last told = (told, told)
 broken_turns p q (t ∷ turns) last told =
     let none = went_broken p t.acts told.1 told.2 in
-    let more = broken_turns p q turns last (subst (λ (s : Service). TellBy p s turns last) none told.3) in
-    ((tt, Broken, broken_went p q t.acts Broken (subst (λ (s : Service). Went p Broken t.acts s) none told.2), more.0),
-    more.1)
+    let more = broken_turns p q turns last (subst (λ (s : Service). TellBy p s turns last) none told.3) in (
+      (tt, Broken, broken_went p q t.acts Broken (subst (λ (s : Service). Went p Broken t.acts s) none told.2), more.0),
+      more.1,
+    )
 
 tell_on : (pack : Pack) (first mid last : Service) (turns more : List Turn) → TellBy pack first turns mid
     → TellBy pack mid more last → TellBy pack first (turns ++ more) last
