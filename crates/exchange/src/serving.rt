@@ -1,7 +1,8 @@
-ghost use Rattle.std.specs.Prelude.{◌≡◌, ◌<◌, ◌++◌, ℕ, List, [], length, OnOk, IfOk, IfErr};
-ghost use Rattle.exchange.specs.Exchanges.{Exchange, HasClosed, HasTaken, BreaksOff};
+ghost use Rattle.std.specs.Prelude.{◌≡◌, ◌<◌, ◌≤◌, ◌++◌, [], IsTrue, IsFalse, drop, length, OnOk, IfErr};
+ghost use Rattle.wire.specs.Frames.{IsPart, IsTooLong};
+ghost use Rattle.exchange.specs.Exchanges.{Exchange, HasClosed, HasTaken, BreaksOff, IsNotWhole};
 
-use crate::streaming::{flush, serve_whole};
+use crate::streaming::{answer_whole, flush};
 use crate::turns::refuse;
 use commands::{FileService, SessionError, Tally};
 use std::alloc::Global;
@@ -19,6 +20,25 @@ pub struct Waiting {
     tally: Tally,
 }
 
+/// Tells whether bytes that begin with no whole record announce more words than a core can have.
+fn announces_too_much(bytes: &[u8]) -> bool
+    ensures yes { IsTrue result → IsTooLong bytes.now }
+    ensures no { IsFalse result → IsNotWhole bytes.now → IsPart bytes.now }
+{
+    match split_record(bytes) {
+        Front::TooLong => true,
+        _ => false,
+    }
+}
+
+/// Removes the first bytes, so many.
+fn remove_first(bytes: &mut Vec<u8>, count: usize)
+    requires { count ≤ length bytes.old.items }
+    ensures { bytes.new.items ≡ drop count bytes.old.items }
+{
+    bytes.drain(..count);
+}
+
 /// Takes bytes of the input, and answers each record that is whole by now.
 fn take_piece<S: FileService, W: Write>(
     alloc: Global,
@@ -34,10 +54,10 @@ fn take_piece<S: FileService, W: Write>(
     ensures err { IfErr result (λ error. BreaksOff S.machine service.old service.new (W.contents writer.old)
         (W.contents writer.new) [] error (waiting.old.held.items ++ piece.now)) }
 {
-    if waiting.held.extend_from_slice(piece).is_err() {
+    let Ok(()) = waiting.held.extend_from_slice(piece) else {
         return Err(SessionError::NoMemory);
-    }
-    let place = serve_whole(
+    };
+    let place = answer_whole(
         alloc,
         service,
         writer,
@@ -45,8 +65,7 @@ fn take_piece<S: FileService, W: Write>(
         &mut waiting.answers,
         &mut waiting.tally,
     )?;
-    flush(writer, &mut waiting.answers)?;
-    waiting.held.drain(..place);
+    remove_first(&mut waiting.held, place);
     Ok(())
 }
 
@@ -88,9 +107,8 @@ pub fn serve_wire<R: Read, W: Write, S: FileService>(
     };
     let mut piece = [0u8; PIECE_BYTES];
     for _ in 0..u64::MAX {
-        match split_record(&waiting.held) {
-            Front::Part => {}
-            Front::Whole(..) | Front::TooLong => return finish(writer, &mut waiting),
+        if announces_too_much(&waiting.held) {
+            return finish(writer, &mut waiting);
         }
         let Ok(count) = reader.read(&mut piece) else {
             return Err(SessionError::Read);

@@ -57,17 +57,16 @@ fn serve_record<S: FileService, W: Write>(
         answers.old.items answers.new.items tally.old tally.new
         (frame_bytes (record { header = header.now; body = body.now }))) }
     ensures err { IfErr result (λ error. BreaksOff S.machine service.old service.new (W.contents writer.old)
-        (W.contents writer.new) answers.old.items error (frame_bytes (record { header = header.now; body = body.now })))
-    }
+        (W.contents writer.new) answers.old.items error (frame_bytes (record { header = header.now; body = body.now }))) }
 {
-    if take_turn(alloc, service, header, body, answers, tally).is_err() {
-        return Err(give_up(writer, answers));
+    match take_turn(alloc, service, header, body, answers, tally) {
+        Ok(()) => flush_full(writer, answers),
+        Err(_) => Err(give_up(writer, answers)),
     }
-    flush_full(writer, answers)
 }
 
 /// Obeys the whole records that bytes begin with, and gives the number of bytes of these.
-pub(crate) fn serve_whole<S: FileService, W: Write>(
+fn serve_whole<S: FileService, W: Write>(
     alloc: Global,
     service: &mut S,
     writer: &mut W,
@@ -87,5 +86,27 @@ pub(crate) fn serve_whole<S: FileService, W: Write>(
         serve_record(alloc, service, writer, &header, body, answers, tally)?;
         place += HEADER_BYTES + body.len();
     }
+    Ok(place)
+}
+
+/// Obeys the whole records that bytes begin with, writes the answers, and gives the number of bytes of these records.
+pub(crate) fn answer_whole<S: FileService, W: Write>(
+    alloc: Global,
+    service: &mut S,
+    writer: &mut W,
+    held: &[u8],
+    answers: &mut Vec<u8>,
+    tally: &mut Tally,
+) -> Result<usize, SessionError>
+    ensures place { IfOk result (λ place. place ≤ length held.now) }
+    ensures ok { IfOk result (λ place. StepsOn S.machine service.old service.new (W.contents writer.old)
+        (W.contents writer.new) answers.old.items [] tally.old tally.new (take place held.now)) }
+    ensures rest { IfOk result (λ place. IsNotWhole (drop place held.now)) }
+    ensures written { OnOk result (answers.new.items ≡ []) }
+    ensures err { IfErr result (λ error. BreaksOff S.machine service.old service.new (W.contents writer.old)
+        (W.contents writer.new) answers.old.items error held.now) }
+{
+    let place = serve_whole(alloc, service, writer, held, answers, tally)?;
+    flush(writer, answers)?;
     Ok(place)
 }
