@@ -1,4 +1,4 @@
-//! Tests of sessions and call scripts over a monitor and a disk in memory that no text of lines can play: readers and
+//! Tests of sessions, call scripts and exchanges over a monitor and a disk in memory that no text of lines can play: readers and
 //! writers that fail or go in small pieces, refused allocations, long lines, lines of quotas and what they leave on the
 //! disk, and what is counted. What lines and events come to is played by the program `rows`. There is no code here
 //! beside them.
@@ -16,3 +16,5 @@ mod quota_tests;
 mod service;
 #[cfg(test)]
 mod stream_tests;
+#[cfg(test)]
+mod wire_tests;

@@ -1,5 +1,6 @@
 use blockdisk::{Disk, MemDisk, NoMemory};
 use commands::{Monitor, Reason, RefusedLines, SessionError, Tally, script, session};
+use exchange::serve_wire;
 use std::alloc::Global;
 use std::io::{Read, Write};
 use std::process::Abort;
@@ -85,14 +86,16 @@ pub fn started(
     Ok(start(alloc, image(rt, alloc, calls)?))
 }
 
-/// How lines are read.
+/// How an input is read.
 #[derive(Clone, Copy)]
 pub enum Language {
     Session,
     Script,
+    Wire,
 }
 
-/// Serves the lines of a reader at date 0. What `session` and `script` promise stays behind this function.
+/// Serves the input of a reader, lines at date 0. What `session`, `script` and `serve_wire` promise stays behind this
+/// function.
 pub fn serve<R: Read, W: Write>(
     alloc: Global,
     monitor: &mut Monitor<MemDisk>,
@@ -106,10 +109,11 @@ pub fn serve<R: Read, W: Write>(
     match language {
         Language::Session => session(alloc, reader, writer, monitor, moment),
         Language::Script => script(alloc, reader, writer, monitor, moment),
+        Language::Wire => serve_wire(alloc, reader, writer, monitor),
     }
 }
 
-/// What these lines print, and what is counted of them, over the image on a disk that takes so many writes and syncs.
+/// What this input prints, and what is counted of them, over the image on a disk that takes so many writes and syncs.
 pub fn printed(
     rt: &impl Abort,
     alloc: Global,
