@@ -1,4 +1,4 @@
-ghost use Rattle.std.specs.Prelude.{◌≡◌, IfSome, IsTrue, IsFalse, MatchResult, Ok, Err, length};
+ghost use Rattle.std.specs.Prelude.{◌≡◌, IfSome, IfOk, IsTrue, IsFalse, MatchResult, Ok, Err, length};
 ghost use Rattle.std.specs.Int.{saturate_unsigned, w64};
 ghost use Rattle.std.specs.List.{AllByRecursion};
 ghost use Rattle.meaning.specs.Jobs.{State, job_at};

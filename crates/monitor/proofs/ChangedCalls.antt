@@ -1,19 +1,22 @@
 -- What the monitor tells of a call is what the machine's job has.
-use Rattle.std.proofs.Common.{◌≡◌, ℕ, List, Option, Some, sym, ap, ◌∙◌}
+use Rattle.std.proofs.Common.{◌≡◌, ◌≤◌, ℕ, List, [], ◌∷◌, length, Option, Some, sym, ap, subst, ◌∙◌, arith}
+use Rattle.std.specs.List.{AllByRecursion}
 use Rattle.std.specs.Prelude.{Bool, Result, Ok, Err, IfOk, option_map}
 use Rattle.blockdisk.specs.Disk.{DiskState}
+use Rattle.meaning.specs.Files.{File}
 use Rattle.meaning.specs.Jobs as machine
 use Rattle.meaning.specs.Jobs.{State, channel_at, job_at, slot}
 use Rattle.meaning.specs.Runs.{Serving}
 use Rattle.meaning.specs.declared.area.Area.{Area}
 use Rattle.meaning.specs.declared.call.Call.{Call}
 use Rattle.volume.specs.Live.{VolumeCore}
-use Rattle.monitor.specs.Changed.{in_core, on_open, areas_of, areas_for}
+use Rattle.monitor.specs.Changed.{IsInside, IsPart, in_core, on_open, areas_named, areas_of, areas_for}
 use Rattle.monitor.specs.Serving.{Serves}
 use Rattle.monitor.specs.Sides.{UnderKeys, channel_of, job_of}
 use Rattle.monitor.specs.declared.channel.Channel.{Channel}
 use Rattle.monitor.specs.declared.job.Job.{Job}
 use Rattle.monitor.proofs.Calling.{channel_is}
+use Rattle.monitor.proofs.ChangedWords.{parts}
 use Rattle.monitor.proofs.SideLists.{slot-map}
 
 -- what is so at Ok gives something else
@@ -57,3 +60,27 @@ pub for_job : (items : List Area) (jobs : List (Option Job)) (n : ℕ) (call : C
 for_job items jobs n call told d map failed s serves =
     told serves.1.under ∙ ap (λ o. areas_for o call) (sym (slot-map (job_of serves.1.under) jobs n)
     ∙ ap (λ slots. slot slots n) (sym serves.1.jobs_are))
+
+-- Whatever is under its keys, the areas of a job lie in its core, which has so many words at most.
+
+no_file : File
+no_file = record { protection = 0; mode = 0; time = 0; date = 0; body = [] }
+
+no_keys : UnderKeys
+no_keys = record {
+  written = λ key. record { place = record { ppn = 0; name = record { name = 0; ext = 0 } }; file = no_file };
+  read = λ key. record { file = no_file; serial = 0 };
+}
+
+all_inside : (core : List ℕ) (areas : List Area) → length core ≤ 0o400000 → AllByRecursion (IsPart core) areas
+    → AllByRecursion IsInside areas
+all_inside core [] most are = tt
+all_inside core (area ∷ areas) most are = (omega (arith, most, are.0.1), all_inside core areas most are.1)
+
+pub slot_inside : {X E : Type 0} (items : X → List Area) (r : Result X E) (job : Job) (call : Call)
+    → length job.core ≤ 0o400000 → IfOk r (λ x. (w : UnderKeys) → items x ≡ areas_of (job_of w job) call)
+    → IfOk r (λ x. AllByRecursion IsInside (items x))
+slot_inside items r job call most told = ok_gives _ _ r
+    (λ x areas_are. subst (λ areas. AllByRecursion IsInside areas) (sym (areas_are no_keys))
+    (all_inside job.core (areas_of (job_of no_keys job) call) most
+    (parts job.core (areas_named (job_of no_keys job) call)))) told

@@ -269,11 +269,15 @@ fn areas_of(alloc: Global, job: &Job, call: &Call) -> Result<Vec<Area>, AllocErr
 
 /// Gives those for the job of a number: none if nobody is logged in.
 fn areas_for(alloc: Global, jobs: &Jobs, number: u32, call: &Call) -> Result<Vec<Area>, AllocError>
-    ensures { IfOk result (λ areas. (under : UnderKeys) → areas.items
+    ensures value { IfOk result (λ areas. (under : UnderKeys) → areas.items
         ≡ areas_for (option_map (job_of under) (slot jobs.now number)) call.now) }
+    ensures inside { IfOk result (λ areas. AllByRecursion IsInside areas.items) }
 {
     match jobs.job(number) {
-        Some(job) => areas_of(alloc, job, call),
+        Some(job) => {
+            let _words = job.core.length(); // which says that there are at most 400000
+            areas_of(alloc, job, call)
+        }
         None => Ok(Vec::new(alloc)),
     }
 }

@@ -83,7 +83,9 @@ pub fn push_answer(
     ensures succeeds { length groups.now < 2 ^ 32
         → vec_len bytes.old + (16 + 8 * length groups.now) ≤ vec_capacity bytes.old → IsOk result }
 {
-    let count = u32::try_from(groups.len()).map_err(|_| AllocError)?;
+    let Ok(count) = u32::try_from(groups.len()) else {
+        return Err(AllocError);
+    };
     bytes.extend_from_slice(&answer_header(answer, count).to_bytes())?;
     for group in groups {
         bytes.extend_from_slice(&group.to_be_bytes())?;
