@@ -7,9 +7,6 @@ returns-in-Run g c = rw c.in-Run.is c.session.ensures
 pub returns-in-Calls : goal.returns-in-Calls
 returns-in-Calls g c = rw c.in-Calls.is c.script.ensures
 
-pub returns-in-Wire : goal.returns-in-Wire
-returns-in-Wire g c = rw c.in-Wire.is c.serve_wire.ensures
-
 pub returns-in-Put : goal.returns-in-Put
 returns-in-Put g c = rw c.in-Put.is c.put.ensures
 
