@@ -28,7 +28,10 @@ pub(crate) fn areas_told<S: FileService>(
             .map_err(|_| AllocError),
         Order::Examine(_, first, count) => {
             let mut areas = Vec::new(alloc);
-            areas.push(Area { first: first as usize, count: count as usize })?;
+            areas.push(Area {
+                first: first as usize,
+                count: count as usize,
+            })?;
             Ok(areas)
         }
         Order::Login(..) | Order::Deposit(..) | Order::Room => Ok(Vec::new(alloc)),
