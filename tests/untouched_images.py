@@ -147,8 +147,9 @@ def refusals(runs):
     """An image that is refused stays as it was, whatever was to be done with it."""
     with open(runs.path("FORM1.IMG"), "rb") as file:
         image = file.read()
-    tasks = [(["run"], []), (["calls"], []), (["put"], ["10,20", "A.TXT"]), (["get"], ["10,20", "HELLO.TXT"]),
-             (["list"], []), (["check"], []), (["migrate"], []), (["convert"], ["NEW.IMG"])]
+    tasks = [(["run"], []), (["calls"], []), (["wire"], []), (["put"], ["10,20", "A.TXT"]),
+             (["get"], ["10,20", "HELLO.TXT"]), (["list"], []), (["check"], []), (["migrate"], []),
+             (["convert"], ["NEW.IMG"])]
     for name, data, refusal in spoiled(image):
         runs.write(name, data)
         for words, rest in tasks:
@@ -171,7 +172,8 @@ def without_leave_to_write(runs):
                            (["list", "FORM1.IMG", "10,20"], LISTED), (["list", "--tsv", "FORM1.IMG"], None),
                            (["check", "FORM1.IMG"], None)):
         runs.leaves(words, 0, printed, before=as_another)
-    for words in (["run", "FORM1.IMG"], ["calls", "FORM1.IMG"], ["put", "FORM1.IMG", "10,20", "A.TXT"]):
+    for words in (["run", "FORM1.IMG"], ["calls", "FORM1.IMG"], ["wire", "FORM1.IMG"],
+                  ["put", "FORM1.IMG", "10,20", "A.TXT"]):
         runs.leaves(words, 4, b"?Device fault\n", HELLO, as_another)
 
 
