@@ -1,0 +1,265 @@
+"""Rows for the clients of `filser wire`: lines, and what they are answered by the description of the calls.
+
+A row is a line of clients_player.py and, after a bar, its answer. A UUO is written as in MACRO-10, as in `IN 2,400`, or
+with the number of the word and its address after it; it is one of job 1. Numbers are octal.
+"""
+
+import re
+
+OPERATIONS = {"INIT": 0o41, "CALLI": 0o47, "OPEN": 0o50, "RENAME": 0o55, "IN": 0o56, "OUT": 0o57, "SETSTS": 0o60,
+              "STATO": 0o61, "GETSTS": 0o62, "STATZ": 0o63, "INBUF": 0o64, "OUTBUF": 0o65, "INPUT": 0o66,
+              "OUTPUT": 0o67, "CLOSE": 0o70, "RELEAS": 0o71, "USETI": 0o74, "USETO": 0o75, "LOOKUP": 0o76,
+              "ENTER": 0o77, "MOVE": 0o200}
+
+UUO_ROWS = """
+    2 LOGIN 10,20 1000 | DONE
+    2 DEP 200 10000020 | DONE
+    2 MAKDIR 200 | DONE
+    1 LOGIN 10,20 2400 | DONE
+
+    # RESET takes .JBFF from .JBSA, if that has one.
+    CALLI 0,0 | 1 DONE 121=000000000140
+    POKE 120 000200000100 |
+    POKE 121 000123000456 |
+    CALLI 0,0 | 1 DONE 121=000123000200 BEHIND 121
+    POKE 120 000140000000 |
+    CALLI 0,0 | 1 DONE 121=000123000140
+
+    # A ring of the default size, by worked row 14.
+    POKE 1211 446353000000 |
+    POKE 1212 001000000000 |
+    OPEN 1,1210 | 2 DONE 1000=400000000000 1001=000700000000
+    POKE 1300 465757000000 |
+    POKE 1301 647064000000 |
+    LOOKUP 1,1300 | 1 REFUSED 0
+    ENTER 1,1300 | 2 DONE 1302=057000000000
+    OUTPUT 1,0 | 1 DONE 121=000123000546 141=000201000344 344=000201000141 1000=000000000141 1001=000700000142 1002=000000001200
+    POKE 143 442131446236 |
+    POKE 144 064240000000 |
+    POKE 1001 260700000144 |
+    OUT 1,0 | 1 DONE 142=000000000002 1000=000000000344 1001=000700000345
+    USETO 1,0 | 1 STOPPED 040000
+    STATZ 1,20000 | 2 VALUE 000000040000
+    STATZ 1,40000 | 1 VALUE 000000040000
+    STATO 1,60000 | 2 VALUE 000000040000
+    STATO 1,20000 | 1 VALUE 000000040000
+    POKE 1500 777777777777 |
+    GETSTS 1,1500 | 1 VALUE 000000040000 1500=000000040000 BEHIND 1500
+    GETSTS 1,17 | 1 VALUE 000000040000 17=000000040000 BEHIND 17
+    USETO 1,2 | 1 DONE
+    GETSTS 1,17 | 1 VALUE 000000000000 17=000000000000 BEHIND 17
+    CLOSE 1,0 | 1 DONE 1000=400000000344 1002=000000000000
+    CLOSE 1,0 | 1 DONE
+    RELEAS 1,0 | 1 DONE
+    RELEAS 1,0 | 1 DONE
+    CLOSE 1,0 | 1 DONE
+    GETSTS 1,1500 | 1 NOCHANNEL
+    STATZ 1,20000 | 1 NOCHANNEL
+    IN 1,0 | 2 NOCHANNEL
+    INPUT 1,0 | 1 NOCHANNEL
+
+    # INIT takes its mode from its effective address. Its words are at 1100: the file is read by rings.
+    POKE 1100 041102000003 |
+    POKE 1101 446353000000 |
+    POKE 1102 000000001010 |
+    INIT 2,10 041102000003 1100 | 4 DONE 1010=400000000000 1011=004400000000 BEHIND 1100
+    INIT 2,0 041102000003 1100 | 4 DONE 1011=000700000000 BEHIND 1100
+    LOOKUP 2,1300 | 2 DONE 1303=777776000000
+    INBUF 2,1 | 1 DONE 121=000123000751 547=000201000547 1010=400000000547
+    IN 2,0 | 1 DONE 547=400201000547 550=000000000002 551=442131446236 552=064240000000 1010=000000000547 1011=000700000550 1012=000000000012
+    IN 2,0 | 2 STOPPED 020000
+    INPUT 2,0 | 1 STOPPED 020000
+    POKE 551 0 |
+    USETI 2,1 | 1 DONE
+    INPUT 2,0 | 1 DONE 551=442131446236
+    CLOSE 2,0 | 1 DONE 1010=400000000547 1012=000000000000
+    INIT 2,2 041102000003 1100 | 3 STOPPED 400002 BEHIND 1100
+    POKE 1101 644671000000 |
+    INIT 2,0 041102000003 1100 | 3 STOPPED 400000 BEHIND 1100
+    INIT 2,0 041102000003 2376 | 3 ADDRESS
+
+    # Dump mode, with the command lists and the words in accumulators.
+    POKE 1210 17 |
+    OPEN 3,1210 | 2 DONE
+    OPEN 3,1210 | 2 DONE
+    POKE 1320 424162000000 |
+    ENTER 3,1320 | 2 DONE 1322=057740000000
+    POKE 4 777776000005 |
+    POKE 6 1 |
+    POKE 7 777777777777 |
+    OUT 3,4 | 1 DONE
+    CLOSE 3,0 | 1 DONE
+    LOOKUP 3,1320 | 2 DONE 1323=777776000000
+    POKE 1323 0 |
+    POKE 10 777775000011 |
+    IN 3,10 | 1 DONE 12=000000000001 13=777777777777
+    IN 3,10 | 2 STOPPED 020017
+    STATZ 3,20000 | 1 VALUE 000000020017
+    IN 3,2401 | 2 ADDRESS
+    OUTBUF 3,2 | 1 REFUSED 5
+    OUT 3,4 | 2 REFUSED 5
+    POKE 1320 0 |
+    RENAME 3,1320 | 2 DONE
+    RENAME 3,1320 | 1 REFUSED 5 1321=000000000005
+
+    # An open channel is released before it is opened; that ends its file.
+    POKE 1320 434162000000 |
+    POKE 1321 0 |
+    ENTER 3,1320 | 2 DONE
+    OPEN 3,1210 | 2 DONE
+    LOOKUP 3,1320 | 2 DONE
+    POKE 1323 0 |
+
+    # Buffers of a ring that OUTBUF sets up, and a CLOSE that gives the file up.
+    POKE 1210 14 |
+    OPEN 4,1210 | 2 DONE 1000=400000000000 1001=004400000000
+    ENTER 4,1320 | 2 DONE 1322=057600000000
+    POKE 121 2000 |
+    OUTBUF 4,1 | 1 DONE 121=000000002203 1000=400000002001 2001=000201002001
+    OUT 4,0 | 1 DONE 1000=000000002001 1001=004400002002 1002=000000000200
+    CLOSE 4,40 | 1 DONE
+
+    # Nothing is sent for what the service doesn't do, and for words of more than 36 bits.
+    SETSTS 3,0 | 0 WRONG
+    CALLI 0,1 | 0 WRONG
+    CALLI 1,12 | 0 WRONG
+    MOVE 1,1300 | 0 WRONG
+    POKE 1700 1000000000000 |
+    GETSTS 3,1500 | ERROR BAD_WORD
+    POKE 1700 0 |
+
+    # With a hint only what lies there is compared, and what a UUO itself has left.
+    POKE 1700 7 |
+    HINT 1600 1677 |
+    GETSTS 3,1500 | 1 VALUE 000000000017 1500=000000000017 BEHIND 1500 BEHIND 1700
+    HINT 1600 1677 |
+    GETSTS 3,1501 | 1 VALUE 000000000017 1501=000000000017 BEHIND 1501 BEHIND 1700
+    HINT 1700 1700 |
+    USETI 3,1 | 1 DONE
+
+    # EXIT releases all channels.
+    CALLI 0,12 | 1 DONE
+    GETSTS 3,1500 | 1 NOCHANNEL
+    GETSTS 4,1500 | 1 NOCHANNEL
+    STOP | STATUS 0
+"""
+
+# By worked rows 4, 5 and 18: job 2 has filled all blocks but one, which the ENTER of job 1 takes.
+FULL_DISK_ROWS = """
+    2 LOGIN 10,20 30000 | DONE
+    2 DEP 200 10000020 | DONE
+    2 MAKDIR 200 | DONE
+    2 DEP 210 17 | DONE
+    2 DEP 211 446353000000 | DONE
+    2 OPEN 1 210 | DONE
+    2 DEP 300 424157000000 | DONE
+    2 ENTER 1 300 | DONE 302=057740000000
+    2 DEP 400 764600000777 | DONE
+    2 OUT 1 400 | DONE
+    2 CLOSE 1 0 | DONE
+    ROOM | ROOM 1
+    1 LOGIN 10,20 2000 | DONE
+    POKE 120 000140000000 |
+    CALLI 0,0 | 1 DONE 121=000000000140
+    POKE 1211 446353000000 |
+    POKE 1212 001000000000 |
+    OPEN 1,1210 | 2 DONE 1000=400000000000 1001=000700000000
+    POKE 1300 465757000000 |
+    ENTER 1,1300 | 2 DONE 1302=057000000000
+    ROOM | ROOM 0
+    OUT 1,0 | 1 DONE 121=000000000546 141=000201000344 344=000201000141 1000=000000000141 1001=000700000142 1002=000000001200
+    POKE 143 1 |
+    POKE 1001 000700000143 |
+    OUT 1,0 | 2 STOPPED 040000
+    OUTPUT 1,0 | 1 STOPPED 040000
+    CLOSE 1,0 | 1 STOPPED 040000
+    RELEAS 1,0 | 1 STOPPED 040000
+    OPEN 1,1210 | 1 STOPPED 040000
+    CALLI 0,12 | 1 STOPPED 040000
+    STATO 1,40000 | 2 VALUE 000000040000
+
+    # The last buffer is given up: its pointer says that it has no words.
+    POKE 1001 000700000142 |
+    CLOSE 1,0 | 1 DONE 1000=400000000141 1002=000000000000
+    LOOKUP 1,1300 | 2 DONE
+    ROOM | ROOM 0
+"""
+
+# A call at two moments, by worked row 13 and fact 5; the date of a file of layout 2 has fifteen bits, three in E+1.
+CALL_ROWS = """
+    1 LOGIN 10,20 1000 | DONE
+    1 DEP 200 10000020 | DONE
+    1 MAKDIR 200 | DONE
+    1 DEP 210 17 | DONE
+    1 DEP 211 446353000000 | DONE
+    1 OPEN 1 210 | DONE
+    1 OPEN 2 210 | DONE
+    1 DEP 300 465757000000 | DONE
+    1 DEP 304 424162000000 | DONE
+    AT 4095 605 |
+    1 ENTER 1 300 | DONE 302=057751357777
+    AT 0 1439 |
+    1 ENTER 2 304 | DONE 306=057766370000
+    AT 4096 1 |
+    1 CLOSE 1 0 | DONE
+    1 CLOSE 2 0 | DONE
+    1 DEP 302 0 | DONE
+    1 DEP 306 0 | DONE
+    1 LOOKUP 1 300 | DONE 302=057751357777
+    1 LOOKUP 2 304 | DONE 306=057766370000
+
+    AT 32767 0 |
+    1 OPEN 3 210 | DONE
+    1 DEP 310 434162000000 | DONE
+    1 ENTER 3 310 | DONE 311=000000700000 312=057740007777
+    1 CLOSE 3 0 | DONE
+    1 DEP 311 0 | DONE
+    1 LOOKUP 3 310 | DONE 311=000000700000
+
+    # Two jobs have two cores, and two channels of one number; job 3 logs in over a file that isn't closed.
+    2 LOGIN 10,20 1000 | DONE
+    2 EXA 300 | VALUE 000000000000
+    2 GETSTS 1 | NOCHANNEL
+    2 DEP 300 465757000000 | DONE
+    1 EXA 300 | VALUE 465757000000
+    3 LOGIN 10,30 1000 | DONE
+    3 MAKDIR 200 | REFUSED 1 201=000000000001
+    1 GETSTS 21 | NOCHANNEL
+    77 GETSTS 1 | NOJOB
+    4 LOGIN 10,20 777 | ADDRESS
+    4 EXA 0 | NOJOB
+    101 LOGIN 10,20 1000 | NOJOB
+    1 RENAME 1 777 | ADDRESS
+    1 EXA 1000 | ADDRESS
+    BATCH 4 |
+    1 EXA 121 | VALUE 000000000140
+    ROOM | ROOM 44
+    1 RESET | DONE
+    2 EXA 300 | VALUE 465757000000
+    ROOM | ROOM 44
+"""
+
+
+def word_of(operation, channel, address):
+    """The word of a UUO."""
+    return OPERATIONS[operation] << 27 | channel << 23 | address
+
+
+def line_of(text):
+    """A line of the player: a UUO as its word, its address and the place of it."""
+    found = re.fullmatch(r"([A-Z]+) (\d+),(\d+)(?: (\d+) (\d+))?", text)
+    if not found:
+        return text
+    name, channel, address, word, place = found.groups()
+    word = word or f"{word_of(name, int(channel, 8), int(address, 8)):o}"
+    return f"UUO 1 {word} {address} {place or 0}"
+
+
+def lines_of(rows):
+    """The lines of rows, each with its answer; none for a line that has no answer."""
+    pairs = []
+    for row in rows.split("\n"):
+        if row.strip() and not row.strip().startswith("#"):
+            line, _, reply = row.partition("|")
+            pairs.append((line_of(line.strip()), reply.strip()))
+    return pairs
