@@ -70,8 +70,9 @@ class Tries:
             return
         client = os.path.join(CLIENTS, "c")
         player, use = os.path.join(self.folder, "player"), os.path.join(self.folder, "use.c")
-        with open(os.path.join(client, "filser.h"), encoding="ascii") as header, open(use, "w", encoding="ascii") as file:
+        with open(os.path.join(client, "filser.h"), encoding="ascii") as header:
             shown = header.read().split("*/")[0].split("\n")
+        with open(use, "w", encoding="ascii") as file:
             file.write("\n".join(line[6:] for line in shown if line.startswith("      ")) + "\n")
         sources = [os.path.join(client, "filser.c"), "-I", client]
         subprocess.run(["cc", *FLAGS, "-o", player, os.path.join(HERE, "clients_player.c"), *sources], check=True)
@@ -173,7 +174,8 @@ def wrong_records(tries):
              (record(3, job=1, number=0o776, detail=3), answer(6, groups=[0o776 << 36, (0o1000 << 36) - 1])),
              (record(4, code=Code.RESET, job=1, detail=4095 << 16 | 1439), answer(1, groups=[0o121 << 36 | 0o140])),
              (record(4, code=Code.RESET, job=1, detail=32767 << 16), answer(11, groups=[0o121 << 36 | 0o140])),
-             (record(4, code=Code.GETSTS, job=1, channel=255), answer(5)), (record(4, code=Code.RESET, job=2), answer(7)),
+             (record(4, code=Code.GETSTS, job=1, channel=255), answer(5)),
+             (record(4, code=Code.RESET, job=2), answer(7)),
              (record(4, code=Code.RESET, job=255), answer(7)), (record(3, job=0, number=0, detail=1), answer(7))]
     data = LOGIN + b"".join(order for order, _ in sound)
     tries.same("sound orders", tries.wire(image, data), (DONE + b"".join(reply for _, reply in sound), 0))
@@ -293,7 +295,8 @@ def told_areas(tries):
         service.login(1, 1, 2, 0o4000)
         service.deposit(1, 0o121, [0o2000])
         service.deposit(1, 0o200, [halves(0o10, 0o20), 0])
-        service.deposit(1, 0o210, [0, sixbit("DSK"), halves(0o1000, 0o1010), 0o17, sixbit("DSK"), halves(0o1000, 0o1010)])
+        for place, mode in ((0o210, 0), (0o213, 0o17)):
+            service.deposit(1, place, [mode, sixbit("DSK"), halves(0o1000, 0o1010)])
         service.deposit(1, 0o300, [sixbit("FOO"), 0, 0, halves(0o10, 0o20)])
         service.deposit(1, 0o400, [halves(0o777775, 0o477), 0o410])
         service.deposit(1, 0o410, [halves(0o777776, 0o577), 0])
@@ -304,7 +307,8 @@ def told_areas(tries):
                 (Code.ENTER, 1, 0o300, {0o301, 0o302}), (Code.OUT, 1, 0, headers | {0o121} | first | second),
                 (Code.OUT, 1, 0, headers | second | {0o2001, 0o2002}), (Code.USETO, 1, 1, set()),
                 (Code.GETSTS, 1, 0, set()), (Code.CLOSE, 1, 0o40, set()), (Code.ENTER, 1, 0o300, {0o301, 0o302}),
-                (Code.CLOSE, 1, 0, headers), (Code.RENAME, 1, 0o300, {0o301}), (Code.LOOKUP, 1, 0o300, {0o301, 0o302, 0o303}),
+                (Code.CLOSE, 1, 0, headers), (Code.RENAME, 1, 0o300, {0o301}),
+                (Code.LOOKUP, 1, 0o300, {0o301, 0o302, 0o303}),
                 (Code.INBUF, 1, 1, input_header | {0o121} | third), (Code.IN, 1, 0, input_header | third),
                 (Code.USETI, 1, 1, set()), (Code.RELEAS, 1, 0, input_header), (Code.OPEN, 2, 0o213, set()),
                 (Code.OUT, 2, 0o400, set()), (Code.LOOKUP, 3, 0o300, set()), (Code.RESET, 0, 0, {0o121})]
@@ -333,7 +337,8 @@ def scripts(tries):
             found = tries.play(client, image, [f"AT {moment[0]} {moment[1]}", *lines], form)
             tries.lines += len(lines)
             for place, (line, reply) in enumerate(zip(lines, changed)):
-                tries.same(f"{name}, {client}, line {place + 1}, {line}", found[place] if place < len(found) else "", reply)
+                got = found[place] if place < len(found) else "nothing"
+                tries.same(f"{name}, {client}, line {place + 1}, {line}", got, reply)
             with open(image, "rb") as file:
                 tries.same(f"{name}, {client}, the image", file.read() == bytes_of_calls, True)
 
@@ -418,7 +423,8 @@ def main():
         for part in [wrong_records, early_ends, statuses, refusals_of_clients, large_batches, told_areas, rows,
                      uuos_by_calls, scripts, shown_use]:
             part(tries)
-    print(f"clients: {tries.count - tries.failed} as they should be, {tries.failed} not; {tries.lines} lines of scripts")
+    print(f"clients: {tries.count - tries.failed} as they should be, {tries.failed} not; {tries.lines} lines of "
+          "scripts")
     return 1 if tries.failed else 0
 
 

@@ -4,15 +4,15 @@
 usage: clients_player.py PROGRAM IMAGE FORM
 
 A line of a call script is answered as `filser calls` answers it. After a call the whole core of the job is examined:
-its words that have changed follow, each as ADDRESS=WORD, and UNTOLD or MISTOLD with an address if the answer to the call
-didn't tell such a word as it is. Numbers are octal, except in AT, ROOM and BATCH. Other lines:
+its words that have changed follow, each as ADDRESS=WORD, and UNTOLD or MISTOLD with an address if the answer to the
+call didn't tell such a word as it is. Numbers are octal, except in AT, ROOM and BATCH. Other lines:
 
     AT DATE MINUTE      the moment of the calls that follow
     ROOM                the blocks that are left
     BATCH N             the N lines that follow are sent by one write
     POKE ADDRESS WORD   a word of the machine, whose memory is as large as the core of the last job that logged in
-    UUO J WORD E PC     a UUO of the machine: how far it goes on, the answer, the words of the machine that have changed,
-                        and BEHIND with an address if the job's core has another word there than the machine
+    UUO J WORD E PC     a UUO of the machine: how far it goes on, the answer, the words of the machine that have
+                        changed, and BEHIND with an address if the job's core has another word there than the machine
     HINT FIRST LAST     what the next UUO is told of the words that have changed
     STOP                the exit status
 """
@@ -89,7 +89,8 @@ class Player:
             core = self.cores[job] = self.service.examine(job, 0, len(before)).words
             replies += changes_of(before, core)
             replies += [f"MISTOLD {place:o}" for place, word in answer.changes if core[place] != word]
-            replies += [f"UNTOLD {place:o}" for place, word in enumerate(core) if word != told.get(place, before[place])]
+            replies += [f"UNTOLD {place:o}" for place, word in enumerate(core)
+                        if word != told.get(place, before[place])]
         return " ".join(replies)
 
     def batch(self, lines):

@@ -94,7 +94,8 @@ class ServiceError(Exception):
     what a program printed that didn't start."""
 
     def __init__(self, error, status=None, text=""):
-        super().__init__(error.value + (f", status {status}" if status is not None else "") + (f": {text}" if text else ""))
+        ended = "" if status is None else f", status {status}"
+        super().__init__(error.value + ended + (f": {text}" if text else ""))
         self.error, self.status, self.text = error, status, text
 
 
@@ -110,9 +111,9 @@ class Answer(namedtuple("Answer", "kind value changes")):
 
 
 Outcome = namedtuple("Outcome", "advance kind value")
-Outcome.__doc__ = """What a UUO did: the machine goes on `advance` words after the UUO (1, 2 if it skips, 3 or 4 after an
-INIT; 0 if this is no UUO that the service does), and the kind and value of the answer. It was done if `kind` is
-`Kind.DONE` or `Kind.VALUE`."""
+Outcome.__doc__ = """What a UUO did: the machine goes on `advance` words after the UUO (1, 2 if it skips, 3 or 4 after
+an INIT; 0 if this is no UUO that the service does, and nothing was sent), and the kind and value of the answer. It was
+done if `kind` is `Kind.DONE` or `Kind.VALUE`."""
 
 # What is left of an order once it is written: what its answer changes in the copy of a core.
 Sent = namedtuple("Sent", "kind job number words")
@@ -260,7 +261,8 @@ class Service:
         self._owed = {}  # by job: an address where the machine's word isn't in that core yet
         words = [os.fspath(program), "wire", os.fspath(image), "--form", str(form)]
         try:
-            self._process = subprocess.Popen(words, bufsize=0, stdin=subprocess.PIPE, stdout=subprocess.PIPE, stderr=stderr)
+            self._process = subprocess.Popen(words, bufsize=0, stdin=subprocess.PIPE, stdout=subprocess.PIPE,
+                                             stderr=stderr)
         except OSError as error:
             raise ServiceError(Error.NOT_STARTED, text=str(error)) from error
         os.set_blocking(self._process.stdin.fileno(), False)
@@ -331,8 +333,8 @@ class Service:
         self._sent.append(sent)
 
     def send(self):
-        """Sends what was collected, and gives the answers in the same order. They are read while the orders are written,
-        so they may be as many as memory holds."""
+        """Sends what was collected, and gives the answers in the same order. They are read while the orders are
+        written, so they may be as many as memory holds."""
         data, sent = b"".join(self._bytes), self._sent
         self._bytes, self._sent = [], []
         answers = self._exchange(data, len(sent))
@@ -394,36 +396,39 @@ class Service:
         for answer in made:
             for place, word in answer.changes:
                 _put(accumulators, memory, place, word)
-        answer = answer_of(calls, made)
-        self._settle(job, instruction, address, pc, answer, accumulators, memory)
+        answer = self._settle(job, instruction, address, pc, answer_of(calls, made), accumulators, memory)
         return Outcome(advance_of(instruction >> 27, address, answer), answer.kind, answer.value)
 
     def _add_calls(self, job, calls, status, pc, moment):
-        """Collects the calls of a UUO. OPEN reads three words; the first one of an INIT is its effective address, so that
-        takes the place of the instruction in the service's copy, and is put right before the next UUO."""
+        """Collects the calls of a UUO. OPEN reads three words; the first one of an INIT is its effective address, so
+        that takes the place of the instruction in the service's copy, and is put right before the next UUO."""
         for code, channel, number in calls:
             if status is not None and code == Code.OPEN:
                 self.add_deposit(job, pc, [status])
             self.add_call(job, code, channel, number, moment >> 16, moment & 0xFFFF)
 
     def _settle(self, job, instruction, address, pc, answer, accumulators, memory):
-        """Puts what a monitor puts into the machine's memory beside what a call does."""
+        """Puts what a monitor puts into the machine's memory beside what a call does, and gives the answer to the UUO.
+        A GETSTS into a word that isn't there is an address check."""
         operation = instruction >> 27
         if operation == INIT:
             self._owed[job] = pc
+        elif operation == Code.GETSTS and address >= len(self._cores[job]):
+            return Answer(Kind.ADDRESS_CHECK, 0, [])
         elif operation == Code.GETSTS and answer.kind == Kind.VALUE:
             _put(accumulators, memory, address, answer.value)
             self._owed[job] = address
         elif operation == CALLI and address == CALLI_RESET and answer.kind == Kind.DONE and memory[START_ADDRESS] >> 18:
             memory[FIRST_FREE] = memory[FIRST_FREE] & ~RIGHT_HALF | memory[START_ADDRESS] >> 18
             self._owed[job] = FIRST_FREE
+        return answer
 
     def _add_changes(self, job, accumulators, memory, changed):
         """Collects deposits of the words that differ from the service's core.
 
-        This is right whatever a call reads, and needs no knowledge of it: the copy is what the core of the service holds,
-        since only deposits and the words that answers tell change it, so after these deposits the core is the machine's
-        memory. An unchanged chunk costs one comparison."""
+        This is right whatever a call reads, and needs no knowledge of it: the copy is what the core of the service
+        holds, since only deposits and the words that answers tell change it, so after these deposits the core is the
+        machine's memory. An unchanged chunk costs one comparison."""
         copy = self._cores.get(job)
         if copy is None:
             raise ServiceError(Error.NOT_LOGGED_IN)
@@ -477,7 +482,8 @@ class Service:
         return answers
 
     def _write(self, data):
-        """Writes what the pipe takes, and gives the rest: nothing if nobody reads any more, for then the answers end."""
+        """Writes what the pipe takes, and gives the rest: nothing if nobody reads any more, for then the answers
+        end."""
         try:
             return data[os.write(self._process.stdin.fileno(), data) :] if data else data
         except BlockingIOError:
