@@ -101,9 +101,9 @@ class Tries:
                               timeout=LIMIT, **how)
         return done.stdout, done.returncode
 
-    def play(self, client, image, lines, form=1):
+    def play(self, client, image, lines, form=1, program=None):
         """What the player of a client answers to lines."""
-        words = [*self.players[client], self.program, image, str(form)]
+        words = [*self.players[client], program or self.program, image, str(form)]
         done = subprocess.run(words, input="\n".join([*lines, ""]), capture_output=True, text=True, check=False,
                               timeout=LIMIT)
         return done.stdout.split("\n")[:-1]
@@ -270,6 +270,33 @@ def refusals_of_clients(tries):
         tries.same(f"bad arguments, {client}", tries.play(client, image, rows), wanted)
 
 
+# Programs that aren't filser: what they do, in words of a shell, and what a client says of it.
+IMPOSTORS = [
+    ("order; answer; order; exit 5", ["ERROR ENDED", "ERROR ENDED", "STATUS 5"]),
+    ("order; answer; order; kill -9 $$", ["ERROR ENDED", "ERROR ENDED", "STATUS -9"]),
+    ("order; answer; order; printf '\\014'; exit 0", ["ERROR ENDED", "ERROR ENDED", "STATUS 0"]),
+    ("order; exec <&-; answer; sleep 1; exit 6", ["ERROR ENDED", "ERROR ENDED", "STATUS 6"]),
+    ("order; answer; order; echo '?This is no answer'", ["ERROR NOT_AN_ANSWER", "ERROR ENDED", "STATUS 0"]),
+    ("echo '?No answer'; exit 3", ["ERROR NOT_STARTED 3 ?No answer"]),
+]
+IMPOSTOR = """#!/bin/sh
+order() { dd bs=16 count=1 of=/dev/null 2>/dev/null; }
+answer() { printf '\\014%15s' '' | tr ' ' '\\000'; }
+"""
+
+
+def impostors(tries):
+    """What the clients say of a program that ends, or that writes something else than answers."""
+    program = os.path.join(tries.folder, "impostor")
+    for does, wanted in IMPOSTORS:
+        with open(program, "w", encoding="ascii") as file:
+            file.write(f"{IMPOSTOR}{does}\n")
+        os.chmod(program, 0o755)
+        for client in tries.players:
+            found = tries.play(client, "NONE.IMG", ["ROOM", "ROOM", "STOP"], program=program)
+            tries.same(f"{does}, {client}", found[: len(wanted)], wanted)
+
+
 def large_batches(tries):
     """More orders and answers at once than both pipes hold."""
     deposits = [f"1 DEP {place % 0o1000:o} {place:o}" for place in range(20000)]
@@ -420,8 +447,8 @@ def main():
     with tempfile.TemporaryDirectory() as folder:
         tries = Tries(os.path.abspath(sys.argv[1]), folder)
         tries.compile()
-        for part in [wrong_records, early_ends, statuses, refusals_of_clients, large_batches, told_areas, rows,
-                     uuos_by_calls, scripts, shown_use]:
+        for part in [wrong_records, early_ends, statuses, refusals_of_clients, impostors, large_batches, told_areas,
+                     rows, uuos_by_calls, scripts, shown_use]:
             part(tries)
     print(f"clients: {tries.count - tries.failed} as they should be, {tries.failed} not; {tries.lines} lines of "
           "scripts")

@@ -1,5 +1,5 @@
-/* Plays lines by the client in C, as clients_player.py does by the client in Python; the head of that file says what the
-   lines are.
+/* Plays lines by the client in C, as clients_player.py does by the client in Python; the head of that file says what
+   the lines are.
 
    usage: clients_player PROGRAM IMAGE FORM */
 #include "filser.h"

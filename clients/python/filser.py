@@ -90,8 +90,8 @@ class Error(enum.Enum):
 
 
 class ServiceError(Exception):
-    """An error of the client: `error` is an `Error`, `status` the exit status of a program that has ended, and `text`
-    what a program printed that didn't start."""
+    """An error of the client: `error` is an `Error`. If the program didn't start, `status` is its exit status, and
+    `text` what it has printed."""
 
     def __init__(self, error, status=None, text=""):
         ended = "" if status is None else f", status {status}"
@@ -255,6 +255,7 @@ class Service:
     def __init__(self, program, image, form=1, stderr=None):
         """Starts the program, and waits until it serves the image. Its standard error goes to `stderr`, as of
         `subprocess.Popen`, or where this process's own goes."""
+        self._has_ended = False
         self._held = bytearray()
         self._bytes, self._sent = [], []
         self._cores = {}  # by job: a copy of the core that the service has
@@ -274,8 +275,8 @@ class Service:
 
     def _not_started(self):
         """The error of a program that has printed a line in place of an answer."""
-        os.set_blocking(self._process.stdout.fileno(), True)
         self._process.stdin.close()
+        os.set_blocking(self._process.stdout.fileno(), True)
         text = bytes(self._held) + self._process.stdout.read()
         return ServiceError(Error.NOT_STARTED, self.stop(), text.decode("latin-1").rstrip("\n"))
 
@@ -287,8 +288,8 @@ class Service:
 
     def stop(self):
         """Ends the exchange, waits for the program, and gives its exit status."""
-        if not self._process.stdin.closed:
-            self._process.stdin.close()
+        self._has_ended = True
+        self._process.stdin.close()
         status = self._process.wait()
         self._process.stdout.close()
         return status
@@ -337,7 +338,11 @@ class Service:
         written, so they may be as many as memory holds."""
         data, sent = b"".join(self._bytes), self._sent
         self._bytes, self._sent = [], []
-        answers = self._exchange(data, len(sent))
+        try:
+            answers = self._exchange(data, len(sent))
+        except ServiceError:
+            self._has_ended = True
+            raise
         for order_sent, answer in zip(sent, answers):
             self._copy(order_sent, answer)
         return answers
@@ -463,8 +468,8 @@ class Service:
 
     def _exchange(self, data, count):
         """Writes orders, and reads this number of answers meanwhile."""
-        if self._process.returncode is not None:
-            raise ServiceError(Error.ENDED, self._process.returncode)
+        if self._has_ended:
+            raise ServiceError(Error.ENDED)
         rest, answers = self._write(memoryview(data)), []
         poll = select.poll()
         poll.register(self._process.stdout, select.POLLIN)
@@ -495,7 +500,7 @@ class Service:
         """Reads what there is."""
         data = os.read(self._process.stdout.fileno(), 1 << 16)
         if not data:
-            raise ServiceError(Error.ENDED, self._process.wait())
+            raise ServiceError(Error.ENDED)
         self._held += data
 
     def _split(self, answers):

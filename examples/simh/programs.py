@@ -1,6 +1,6 @@
 """Three programs of PDP-10 machine code: an address, a word, and what the word is in MACRO-10. All is octal.
 
-Word 120 is .JBSA: the first free address, where rings come, in the left half, and where the program starts in the right.
+Word 120 is .JBSA: in the left half the first free address, where rings come, in the right one where the program starts.
 """
 
 LINE = "THE QUICK BROWN FOX JUMPS OVER THE LAZY DOG\r\n"

@@ -34,8 +34,8 @@ HALT = 0o254200000000
 
 
 class Simulator:
-    """A process of `pdp10` at a pseudo terminal, for while the machine runs the simulator reads what is typed at it as the
-    machine's console. So nothing may be typed then."""
+    """A process of `pdp10` at a pseudo terminal, for while the machine runs the simulator reads what is typed at it as
+    the machine's console. So nothing may be typed then."""
 
     GROUP = 64  # commands that are typed at once: a terminal doesn't hold more than 4096 characters
 
