@@ -431,7 +431,7 @@ static void keep_printed(struct filser *service) {
     service->to = -1;
     while (read_answers(service) == FILSER_OK) poll(&end, 1, -1);
     size_t length = service->held.length < sizeof service->printed ? service->held.length : sizeof service->printed - 1;
-    memcpy(service->printed, service->held.data, length);
+    if (length > 0) memcpy(service->printed, service->held.data, length);
     service->printed[strcspn(service->printed, "\n")] = '\0';
 }
 
