@@ -319,6 +319,20 @@ def an_input_that_breaks_off(tries):
         tries.expect([], None, JOB + b"?Command error\n", 4, told, stream=near)
 
 
+def records_that_break_off(tries):
+    """The records of `wire` aren't lines, so the fault alone is told, after the answer to the one that was whole: ROOM,
+    which has the 48 blocks that a new volume of 64 has left."""
+    tries.write("V.IMG", image_of(FRESH))
+    far, near = socket.socketpair()
+    with near:
+        near.sendall(b"unread")
+        far.sendall(b"\5" + bytes(15) + b"\5")
+        far.close()
+        told = tells("standard input", "Connection reset by peer (os error 104)")
+        tries.expect(["wire", "V.IMG"], None, b"\x0c" + bytes(10) + b"\x30" + bytes(4), 4, told, stream=near)
+    tries.same("V.IMG", image_of(FRESH))
+
+
 def an_image_is_made(tries):
     """A new image has the bytes of a new volume, and is served."""
     tries.expect(["init", "V.IMG", "64"], b"", b"", 0)
@@ -559,6 +573,7 @@ CASES = [
     an_image_that_is_made_and_not_written,
     an_image_in_use,
     an_input_that_breaks_off,
+    records_that_break_off,
     an_image_is_made,
     names_where_no_image_is_made,
     an_image_is_served,

@@ -104,11 +104,13 @@ convert_app = formed (with_rule (with_rule (new_app (codes "convert")) (wanted (
 unfoldable pub migrate_app : App
 migrate_app = formed (with_rule (new_app (codes "migrate")) (wanted (codes "IMAGE")))
 
--- the subcommands: those that make an image and serve an input on it, that bring a file in and out, that look, and
--- those that convert and migrate
+-- the subcommands: the one that makes an image, those that serve an input on it, that bring a file in and out, that
+-- look, and those that convert and migrate
+unfoldable pub making : App → App
+making app = with_subcommand app init_app.top
+
 unfoldable pub serving : App → App
-serving app = with_subcommand (with_subcommand (with_subcommand (with_subcommand app init_app.top) run_app.top)
-    calls_app.top) wire_app.top
+serving app = with_subcommand (with_subcommand (with_subcommand app run_app.top) calls_app.top) wire_app.top
 
 unfoldable pub filing : App → App
 filing app = with_subcommand (with_subcommand app put_app.top) get_app.top
@@ -125,4 +127,4 @@ versioned name = record (new_app name) { top = record (new_app name).top { has_v
 
 -- the whole of it
 unfoldable pub command_line : App
-command_line = converting (looking (filing (serving (versioned (codes "filser")))))
+command_line = converting (looking (filing (serving (making (versioned (codes "filser"))))))

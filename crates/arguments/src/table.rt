@@ -1,11 +1,11 @@
 //! The command line as a value of `clap`'s. A subcommand is a function here, and a line of
-//! `with_serving`, `with_filing`, `with_looking` or `with_converting`.
+//! `with_making`, `with_serving`, `with_filing`, `with_looking` or `with_converting`.
 ghost use Rattle.std.specs.Prelude.{◌≡◌, IfOk, codes, false};
 ghost use Rattle.clap.specs.Words.{app_of, with_subcommand};
 ghost use Rattle.clap.specs.declared.builder.command.Command.TheViews.{out-Command as fields_of};
 ghost use Rattle.arguments.specs.CommandLine.{calls_app, check_app, command_line, convert_app, converting};
-ghost use Rattle.arguments.specs.CommandLine.{filing, get_app, init_app, list_app, looking, migrate_app, put_app};
-ghost use Rattle.arguments.specs.CommandLine.{run_app, serving, versioned, wire_app};
+ghost use Rattle.arguments.specs.CommandLine.{filing, get_app, init_app, list_app, looking, making, migrate_app};
+ghost use Rattle.arguments.specs.CommandLine.{put_app, run_app, serving, versioned, wire_app};
 
 use crate::arguments::{
     about, dated, filed, formed, laid_out, place, shown, sized, tsv, wanted, with_argument,
@@ -31,7 +31,7 @@ Option of every command:
 
 Exit status, the highest that applies:
   0  everything was done
-  1  a line, a call or the command was refused
+  1  a line, a call or the command was refused; of wire, a record was no order
   2  the arguments are wrong
   3  the image was refused, or there was no memory to start
   4  a device, the input or the output failed, another process has the
@@ -126,7 +126,7 @@ fn wire_command<'a>(alloc: Global) -> Result<Command<'a>, AllocError>
     );
     let command = shown(
         command,
-        "Example:\n  printf '\\5%15s' '' | tr ' ' '\\0' | filser wire DISK.IMG | od -t x1",
+        "Example:\n  (printf '\\5'; head -c 15 /dev/zero) | filser wire DISK.IMG | od -t x1",
     );
     let command = with_argument(command, wanted(alloc, "IMAGE", "The image file"))?;
     formed(alloc, command)
@@ -224,12 +224,19 @@ fn migrate_command<'a>(alloc: Global) -> Result<Command<'a>, AllocError>
     formed(alloc, command)
 }
 
-/// Adds the subcommands that make an image, and serve an input on it.
+/// Adds the subcommand that makes an image.
+#[tactic(auto, unfolding(crate::specs::CommandLine::making))]
+fn with_making<'a>(alloc: Global, command: Command<'a>) -> Result<Command<'a>, AllocError>
+    ensures { IfOk result (λ c. app_of c ≡ making (app_of command.entry)) }
+{
+    with_one(command, init_command(alloc)?)
+}
+
+/// Adds those that serve an input on an image.
 #[tactic(auto, unfolding(crate::specs::CommandLine::serving))]
 fn with_serving<'a>(alloc: Global, command: Command<'a>) -> Result<Command<'a>, AllocError>
     ensures { IfOk result (λ c. app_of c ≡ serving (app_of command.entry)) }
 {
-    let command = with_one(command, init_command(alloc)?)?;
     let command = with_one(command, run_command(alloc)?)?;
     let command = with_one(command, calls_command(alloc)?)?;
     with_one(command, wire_command(alloc)?)
@@ -284,7 +291,8 @@ fn program<'a>(alloc: Global) -> Command<'a>
 pub fn command_line<'a>(alloc: Global) -> Result<Command<'a>, AllocError>
     ensures { IfOk result (λ c. app_of c ≡ command_line) }
 {
-    let command = with_serving(alloc, program(alloc))?;
+    let command = with_making(alloc, program(alloc))?;
+    let command = with_serving(alloc, command)?;
     let command = with_filing(alloc, command)?;
     let command = with_looking(alloc, command)?;
     with_converting(alloc, command)

@@ -18,15 +18,15 @@ use Rattle.meaning.specs.Lines.{upper}
 use Rattle.meaning.specs.declared.layout.Layout.{Layout}
 use Rattle.commands.specs.DayTexts.{IsDayText}
 use Rattle.commands.specs.Files.{IsFileName, IsOwnerName}
-use Rattle.arguments.specs.CommandLine.{command_line, serving, filing, looking, init_app, run_app, calls_app, put_app}
-use Rattle.arguments.specs.CommandLine.{get_app, list_app, check_app, convert_app, converting, dated, filed, formed}
-use Rattle.arguments.specs.CommandLine.{laid_out, migrate_app, sized}
+use Rattle.arguments.specs.CommandLine.{command_line, making, serving, filing, looking, init_app, run_app, calls_app}
+use Rattle.arguments.specs.CommandLine.{put_app, get_app, list_app, check_app, convert_app, converting, dated, filed}
+use Rattle.arguments.specs.CommandLine.{formed, laid_out, migrate_app, sized, wire_app}
 use Rattle.filser.specs.Requests.{Asks, IsAsked, IsTask, IsAt, IsNamedFile, IsListedPlace, HasForm, HasText, HasNumber}
 use Rattle.filser.specs.Requests.{HasLayout}
 use Rattle.filser.specs.Requests.{HasDate, IsDateNumber, IsMistaken, IsUsage, NamesNoDate, SaysDate, Spells, task_name}
 use Rattle.filser.specs.declared.task.NamedFile.{NamedFile}
 use Rattle.filser.specs.declared.task.Task.{Task}
-use Rattle.filser.specs.declared.task.Task.TheVariants.{Run, Calls, Put, Get, List as ListAll, Check}
+use Rattle.filser.specs.declared.task.Task.TheVariants.{Run, Calls, Wire, Put, Get, List as ListAll, Check}
 use Rattle.filser.specs.declared.error.RequestError.{RequestError}
 use Rattle.filser.specs.declared.error.WrongArgument.{WrongArgument}
 use Rattle.filser.specs.declared.error.RequestError.TheVariants.{Usage}
@@ -36,13 +36,13 @@ use Rattle.filser.specs.declared.asked.Request.TheVariants.{Fresh, Init, Work, C
 -- The command line is one of those whose matches `clap` computes.
 
 pub line-simple : is_simple command_line ≡ true
-unfolding clap_on_literals command_line serving filing looking init_app dated filed run_app calls_app put_app get_app
-    list_app check_app convert_app migrate_app converting formed sized laid_out
+unfolding clap_on_literals command_line making serving filing looking init_app dated filed run_app calls_app wire_app
+    put_app get_app list_app check_app convert_app migrate_app converting formed sized laid_out
 line-simple = refl
 
 pub line-free : is_simple_and_free command_line ≡ true
-unfolding clap_on_literals command_line serving filing looking init_app dated filed run_app calls_app put_app get_app
-    list_app check_app convert_app migrate_app converting formed sized laid_out
+unfolding clap_on_literals command_line making serving filing looking init_app dated filed run_app calls_app wire_app
+    put_app get_app list_app check_app convert_app migrate_app converting formed sized laid_out
 line-free = refl
 
 -- Texts and numbers.
@@ -155,6 +155,7 @@ differ name x y m n p q other e f = other (sym p ∙ ap mark (sym e ∙ f) ∙ q
 abbrev task_mark : Task → ℕ
 task_mark (Run at) = 348
 task_mark (Calls at) = 293
+task_mark Wire = 329
 task_mark (Put file at) = 346
 task_mark (Get file at) = 305
 task_mark (ListAll place style) = 318
@@ -163,6 +164,7 @@ task_mark Check = 307
 marked : (task : Task) → mark (task_name task) ≡ task_mark task
 marked (Run at) = refl
 marked (Calls at) = refl
+marked Wire = refl
 marked (Put file at) = refl
 marked (Get file at) = refl
 marked (ListAll place style) = refl
@@ -177,6 +179,7 @@ init_is_no_task : (name : Text) (task : Task) → name ≡ codes "init" → name
 init_is_no_task name (Run at) is asked = other_task name (codes "init") (Run at) 325 refl (λ e. omega arith) is asked
 init_is_no_task name (Calls at) is asked = other_task name (codes "init") (Calls at) 325 refl
     (λ e. omega arith) is asked
+init_is_no_task name Wire is asked = other_task name (codes "init") Wire 325 refl (λ e. omega arith) is asked
 init_is_no_task name (Put file at) is asked = other_task name (codes "init") (Put file at) 325 refl (λ e. omega arith)
     is asked
 init_is_no_task name (Get file at) is asked = other_task name (codes "init") (Get file at) 325 refl (λ e. omega arith)
@@ -212,6 +215,7 @@ convert_is_no_task name (Run at) is asked = other_task name (codes "convert") (R
     asked
 convert_is_no_task name (Calls at) is asked = other_task name (codes "convert") (Calls at) 321 refl (λ e. omega arith)
     is asked
+convert_is_no_task name Wire is asked = other_task name (codes "convert") Wire 321 refl (λ e. omega arith) is asked
 convert_is_no_task name (Put file at) is asked = other_task name (codes "convert") (Put file at) 321 refl
     (λ e. omega arith) is asked
 convert_is_no_task name (Get file at) is asked = other_task name (codes "convert") (Get file at) 321 refl
@@ -254,6 +258,7 @@ pub no_run : (name : Text) (rows : List Row) → name ≡ codes "run" → ((at :
 no_run name rows is none (Run at) asked = none at asked.1
 no_run name rows is none (Calls at) asked = other_task name (codes "run") (Calls at) 348 refl (λ e. omega arith) is
     asked.0
+no_run name rows is none Wire asked = other_task name (codes "run") Wire 348 refl (λ e. omega arith) is asked.0
 no_run name rows is none (Put file at) asked = other_task name (codes "run") (Put file at) 348 refl
     (λ e. omega arith) is
     asked.0
@@ -269,6 +274,7 @@ pub no_calls : (name : Text) (rows : List Row) → name ≡ codes "calls" → ((
 no_calls name rows is none (Run at) asked = other_task name (codes "calls") (Run at) 293 refl (λ e. omega arith) is
     asked.0
 no_calls name rows is none (Calls at) asked = none at asked.1
+no_calls name rows is none Wire asked = other_task name (codes "calls") Wire 293 refl (λ e. omega arith) is asked.0
 no_calls name rows is none (Put file at) asked = other_task name (codes "calls") (Put file at) 293 refl
     (λ e. omega arith) is asked.0
 no_calls name rows is none (Get file at) asked = other_task name (codes "calls") (Get file at) 293 refl
@@ -282,6 +288,7 @@ pub no_put : (name : Text) (rows : List Row) → name ≡ codes "put"
 no_put name rows is none (Run at) asked = other_task name (codes "put") (Run at) 346 refl (λ e. omega arith) is asked.0
 no_put name rows is none (Calls at) asked = other_task name (codes "put") (Calls at) 346 refl (λ e. omega arith) is
     asked.0
+no_put name rows is none Wire asked = other_task name (codes "put") Wire 346 refl (λ e. omega arith) is asked.0
 no_put name rows is none (Put file at) asked = none file at asked.1.0 asked.1.1
 no_put name rows is none (Get file at) asked = other_task name (codes "put") (Get file at) 346 refl
     (λ e. omega arith) is
@@ -295,6 +302,7 @@ pub no_get : (name : Text) (rows : List Row) → name ≡ codes "get"
 no_get name rows is none (Run at) asked = other_task name (codes "get") (Run at) 305 refl (λ e. omega arith) is asked.0
 no_get name rows is none (Calls at) asked = other_task name (codes "get") (Calls at) 305 refl (λ e. omega arith) is
     asked.0
+no_get name rows is none Wire asked = other_task name (codes "get") Wire 305 refl (λ e. omega arith) is asked.0
 no_get name rows is none (Put file at) asked = other_task name (codes "get") (Put file at) 305 refl
     (λ e. omega arith) is
     asked.0

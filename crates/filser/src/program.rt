@@ -110,14 +110,31 @@ fn tell_streams<H: Host, R: Read, W: Write, E: Write>(
         return;
     }
     if let Some((line, fault)) = broken {
+        tell_input(errors, words, line, &fault);
+    }
+    if let Some(fault) = failed {
+        report(errors, "standard output", &fault);
+    }
+}
+
+/// Tells people why the input broke off, and in which line, if it has lines.
+fn tell_input<E: Write>(errors: &mut E, words: &[&str], line: u64, fault: &io::Error) {
+    if has_lines(words) {
         report(
             errors,
             "standard input",
             &format_args!("line {line}: {fault}"),
         );
+    } else {
+        report(errors, "standard input", fault);
     }
-    if let Some(fault) = failed {
-        report(errors, "standard output", &fault);
+}
+
+/// Whether the input of a run with these words has lines. That of `wire` has records.
+fn has_lines(words: &[&str]) -> bool {
+    match words {
+        [_, command, ..] => *command != "wire",
+        _ => true,
     }
 }
 
