@@ -1,6 +1,6 @@
 #!/bin/sh
 # Runs the two emulators of examples/, each on a new image, and compares what they print. Without a C compiler only the one
-# in Python is run.
+# in Python is run. If SIMH is installed, its PDP-10 runs the programs of examples/simh.
 #
 # usage: tests/example_emulators.sh PROGRAM
 set -eu
@@ -38,5 +38,7 @@ if command -v cc >/dev/null; then
     "$room/emulator" "$program" "$room/A.IMG" >"$room/out" || failed=1
     judge emulator.c
 fi
+
+timeout -k 5 120 python3 "$examples/simh/run.py" "$program" || { echo 'simh: it failed'; failed=1; }
 
 exit $failed

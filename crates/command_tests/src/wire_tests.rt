@@ -66,7 +66,8 @@ fn push_record(bytes: &mut Vec<u8>, record: &Record<'_>) -> Result<(), AllocErro
     bytes.extend_from_slice(&[kind, code, job, channel])?;
     bytes.extend_from_slice(&number.to_be_bytes())?;
     bytes.extend_from_slice(&detail.to_be_bytes())?;
-    bytes.extend_from_slice(&(groups.len() as u32).to_be_bytes())?;
+    let count = u32::try_from(groups.len()).unwrap_or(u32::MAX);
+    bytes.extend_from_slice(&count.to_be_bytes())?;
     for group in groups {
         bytes.extend_from_slice(&group.to_be_bytes())?;
     }

@@ -1,14 +1,12 @@
 -- Numbers in a row, and the addresses of areas.
 use Rattle.std.proofs.Common.{◌≡◌, ℕ, zero, suc, ◌+◌, ◌-◌, ◌<◌, ◌≤◌, List, [], ◌∷◌, ◌++◌, length, take, drop}
-use Rattle.std.proofs.Common.{get_or, refl, sym, ap, subst, ◌∙◌, append-nil, length-append, arith}
+use Rattle.std.proofs.Common.{get_or, sym, ap, ◌∙◌, append-nil, length-append, arith}
 use Rattle.std.proofs.lemmas.List.{take_more, take-append-drop}
 use Rattle.std.proofs.lemmas.List.FromFn.{length-range_with_len}
 use Rattle.std.proofs.lemmas.Grind.{flat_map-append}
-use Rattle.std.specs.List.{AllByRecursion, range_with_len}
+use Rattle.std.specs.List.{range_with_len}
 use Rattle.meaning.specs.declared.area.Area.{Area}
-use Rattle.monitor.specs.Changed.{IsInside}
 use Rattle.exchange.specs.Turns.{addresses}
-use Rattle.exchange.specs.Exchanges.{IsLow}
 
 -- a row in two parts
 pub range_split : (a n m : ℕ) → range_with_len a (n + m) ≡ range_with_len a n ++ range_with_len (a + n) m
@@ -79,20 +77,3 @@ module _ (areas : List Area) (i : ℕ) (area : Area) (h : i < length areas) (is 
         length-append (addresses (take i areas)) (range_with_len area.first area.count),
         length-range_with_len area.first area.count,
       )
-
--- what holds of all areas holds of one
-pub low_at : (areas : List Area) (i : ℕ) (area : Area) → i < length areas → area ≡ get_or areas i area
-    → AllByRecursion IsLow areas → IsLow area
-low_at [] i area h is low = absurd (omega (arith, h))
-low_at (a ∷ areas) zero area h is low = subst IsLow (sym is) low.0
-low_at (a ∷ areas) (suc i) area h is low = low_at areas i area (less i areas h) is low.1
-  where
-    less : (i : ℕ) (areas : List Area) → suc i < suc (length areas) → i < length areas
-    less i areas h = omega (arith, h)
-
-pub low_inside : (areas : List Area) → AllByRecursion IsInside areas → AllByRecursion IsLow areas
-low_inside [] all = tt
-low_inside (area ∷ areas) all = (lower area all.0, low_inside areas all.1)
-  where
-    lower : (area : Area) → IsInside area → IsLow area
-    lower area inside = omega (arith, inside)

@@ -6,7 +6,7 @@ use Rattle.std.specs.Int.{saturate_unsigned, w64}
 use Rattle.std.specs.List.{range_with_len}
 use Rattle.words36.specs.Words.{IsWord}
 use Rattle.words36.specs.declared.moment.Moment.{Moment}
-use Rattle.meaning.specs.Jobs.{State, job_at}
+use Rattle.meaning.specs.Jobs.{State}
 use Rattle.meaning.specs.Plans.{Act, Asks}
 use Rattle.meaning.specs.Room.{room}
 use Rattle.meaning.specs.Runs.{Serving}
@@ -14,7 +14,7 @@ use Rattle.meaning.specs.declared.area.Area.{Area}
 use Rattle.meaning.specs.declared.call.Call.{Call}
 use Rattle.meaning.specs.declared.call.Event.TheVariants.{Login as Logins, Call as CallEvents}
 use Rattle.meaning.specs.declared.call.Reply.{Reply}
-use Rattle.commands.specs.Machines.{Machine, AlwaysStands, IsAnswered, GoesBy}
+use Rattle.commands.specs.Machines.{Machine, AlwaysStands, IsAnswered}
 use Rattle.commands.proofs.GoingLaws.{goes_nowhere, goes_on, goes_answered}
 use Rattle.wire.proofs.Words.{numbers_of}
 use Rattle.wire.specs.Frames.{Framed}

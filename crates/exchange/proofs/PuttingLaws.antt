@@ -1,5 +1,5 @@
 -- Words that are put one after the other.
-use Rattle.std.proofs.Common.{◌≡◌, ◌↔◌, ℕ, zero, suc, ◌+◌, ◌*◌, ◌/◌, ◌^◌, ◌<◌, ◌≤◌, List, [], ◌∷◌, ◌++◌, length, take}
+use Rattle.std.proofs.Common.{◌≡◌, ◌↔◌, ℕ, zero, suc, ◌+◌, ◌/◌, ◌^◌, ◌<◌, ◌≤◌, List, [], ◌∷◌, ◌++◌, length, take}
 use Rattle.std.proofs.Common.{drop, get_or, All, refl, sym, ap, subst, ◌∙◌, append_assoc, length-take, inl, inr, arith}
 use Rattle.std.proofs.Common.{Option, Some, None, IfSome, IsSome, unwrap_or}
 use Rattle.std.proofs.lemmas.List.{take-append-drop, take_all}
@@ -10,7 +10,7 @@ use Rattle.meaning.specs.declared.call.Event.TheVariants.{Deposit as Deposits}
 use Rattle.meaning.specs.declared.call.Reply.{Reply}
 use Rattle.meaning.specs.declared.call.Reply.TheVariants.{Done}
 use Rattle.commands.specs.Machines.{Machine, AlwaysStands, IsAnswered, GoesBy}
-use Rattle.commands.proofs.GoingLaws.{goes_nowhere, goes_on, goes_answered}
+use Rattle.commands.proofs.GoingLaws.{goes_on, goes_answered}
 use Rattle.wire.proofs.Words.{numbers_of}
 use Rattle.exchange.specs.Turns.{puts}
 use Rattle.exchange.specs.Exchanges.{HasPut, HasWritten}

@@ -1,12 +1,11 @@
 -- A turn, from what was done for it and what is counted of it.
 use Rattle.std.proofs.Common.{◌≡◌, ◌||◌, ℕ, List, [], ◌∷◌, ◌++◌, length, Bool, true, false, refl, sym, ap}
-use Rattle.std.proofs.Common.{subst, ◌∙◌, append_assoc, append-nil, Option, Some, None}
+use Rattle.std.proofs.Common.{subst, ◌∙◌, append_assoc, append-nil, Some, None}
 use Rattle.meaning.specs.Jobs.{State}
 use Rattle.meaning.specs.Plans.{Act}
-use Rattle.meaning.specs.Room.{Pack}
 use Rattle.meaning.specs.Runs.{Service, Serving, Broken}
 use Rattle.meaning.specs.declared.area.Area.{Area}
-use Rattle.commands.specs.Machines.{Machine, AlwaysStands, GoesBy, KeepsPack}
+use Rattle.commands.specs.Machines.{Machine, AlwaysStands, GoesBy}
 use Rattle.commands.specs.declared.answer.Tally.{Tally}
 use Rattle.commands.proofs.GoingLaws.{acts_went, goes_nowhere}
 use Rattle.wire.specs.Frames.{Framed, IsFrame}
@@ -15,7 +14,7 @@ use Rattle.wire.specs.Records.{IsOrder, record_bytes, answer_record}
 use Rattle.wire.specs.declared.answer.Answer.{Answer}
 use Rattle.wire.specs.declared.answer.Answer.TheVariants.{Wrong}
 use Rattle.wire.specs.declared.order.Order.{Order}
-use Rattle.exchange.specs.Turns.{Turn, IsTurn, IsAnswer, Tells, TellsOf, TellBy, answer_of, acts_of, is_wrong, is_fault}
+use Rattle.exchange.specs.Turns.{Turn, IsTurn, Tells, TellsOf, answer_of, is_wrong, is_fault}
 use Rattle.exchange.specs.Exchanges.{Takes, Counts, HasObeyed, HasTurned}
 
 or-none : (b : Bool) → b ≡ b || false

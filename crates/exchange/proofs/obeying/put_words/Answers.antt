@@ -1,4 +1,4 @@
-use Rattle.std.proofs.Common.{◌≡◌, ◌+◌, ◌<◌, ◌≤◌, length, refl, arith}
+use Rattle.std.proofs.Common.{◌+◌, ◌<◌, length, refl, arith}
 use Rattle.commands.proofs.GoingLaws.{goes_nowhere}
 use Rattle.exchange.proofs.PuttingLaws.{word_count, word_read, written_more, written_until, written_all}
 use Rattle.exchange.proofs.obeying.put_words.Goals as goal

@@ -1,8 +1,8 @@
-use Rattle.std.proofs.Common.{◌≡◌, ◌+◌, ◌*◌, ◌^◌, ◌<◌, ◌≤◌, List, length, ap, sym, subst, ◌∙◌, vec_len, vec_capacity, arith, OnOk}
+use Rattle.std.proofs.Common.{◌≡◌, List, length, ap, sym, subst, ◌∙◌, arith, OnOk}
 use Rattle.std.proofs.Common.{Result, Ok, Err}
 use Rattle.meaning.specs.declared.area.Area.{Area}
 use Rattle.exchange.specs.Turns.{addresses}
-use Rattle.exchange.specs.Exchanges.{AreTold, HasObeyed}
+use Rattle.exchange.specs.Exchanges.{AreTold}
 use Rattle.exchange.proofs.ObeyingLaws.{few_told}
 use Rattle.exchange.proofs.TurnLaws.{appended_answer, turned, turned_down}
 use Rattle.exchange.proofs.turns.take_turn.Goals as goal

@@ -1,0 +1,184 @@
+/* A client for `filser wire`: the disk of a PDP-10 emulator, served by a process over two pipes. C99 and POSIX.
+
+   A service has an image to itself. Jobs log in, each with a core of its own; filser_deposit and filser_examine move
+   words, filser_call makes a call of the monitor, and filser_uuo does a UUO of a running machine on the machine's own
+   memory. Orders that are collected by filser_add_login and its kin are sent by one write, by filser_send. There is no
+   global state, so several services may run at once; one service is used by one thread at a time. docs/EMULATORS.md
+   describes the wire. The client in Python, in clients/python, has the same functions.
+
+   A program that runs one UUO, OPEN 1,210:
+
+      #include "filser.h"
+      #include <stdio.h>
+
+      static uint64_t accumulators[16], core[4096];
+
+      int main(int count, char **words) {
+          struct filser *service = NULL;
+          struct filser_machine machine = {.job = 1, .accumulators = accumulators, .words = core, .size = 4096};
+          struct filser_outcome outcome = {0, FILSER_WRONG, 0};
+          if (count != 3) return 2;
+          core[0121] = 0140;          // .JBFF, as a loader leaves it
+          core[0210] = 017;           // dump mode
+          core[0211] = 0446353000000; // SIXBIT /DSK/
+          core[0212] = 0;             // no buffers
+
+          enum filser_error error = filser_start(words[1], words[2], 1, &service);
+          if (!error) error = filser_login(service, 1, 010, 020, 4096, NULL);
+          if (!error) error = filser_uuo(service, &machine, 0050040000210, 0210, &outcome);
+          if (error)
+              fprintf(stderr, "%s: %s\n", filser_error_text(error), filser_printed(service));
+          else if (outcome.advance == 0)
+              printf("no UUO of the service\n");
+          else if (outcome.kind == FILSER_DONE)
+              printf("done, go on %d words\n", outcome.advance);
+          else
+              printf("not done, go on %d words\n", outcome.advance);
+          int status = filser_stop(service);
+          return error ? 4 : status;
+      }
+*/
+#ifndef FILSER_H
+#define FILSER_H
+
+#include <stddef.h>
+#include <stdint.h>
+
+/* Why nothing was answered. What the service refuses is no error of the client, but an answer. */
+enum filser_error {
+    FILSER_OK = 0,
+    FILSER_BAD_ARGUMENT,  /* an argument is outside its range, and nothing was sent */
+    FILSER_BAD_WORD,      /* a word has more than 36 bits, and nothing was sent */
+    FILSER_NOT_LOGGED_IN, /* the job isn't logged in, and nothing was sent */
+    FILSER_NOT_SENT,      /* orders were collected and are not sent yet */
+    FILSER_SHORT_MEMORY,  /* the machine's memory is smaller than the job's core, or lacks a page; nothing was sent */
+    FILSER_OUT_OF_MEMORY, /* this process has no memory. If it was collecting or comparing, nothing was sent; else an
+                             order may have been done whose answer is lost: stop the service */
+    FILSER_NOT_STARTED,   /* the program ended before its first answer: see filser_printed and filser_stop */
+    FILSER_ENDED,         /* the program ended, or its streams failed: stop the service */
+    FILSER_NOT_AN_ANSWER  /* the program wrote something that is no answer: stop the service */
+};
+
+/* What an answer says. */
+enum filser_kind {
+    FILSER_WRONG = 0, /* the record was no order, and nothing was done: the functions below send none such */
+    FILSER_DONE = 1,
+    FILSER_VALUE = 2,   /* the value is a status */
+    FILSER_REFUSED = 3, /* the value is the error code */
+    FILSER_STOPPED = 4, /* the value is the status: end of file, or no room */
+    FILSER_NO_CHANNEL = 5,
+    FILSER_ADDRESS_CHECK = 6,
+    FILSER_NO_JOB = 7,
+    FILSER_NO_MEMORY = 8, /* of the service; nothing was done, and the call may be made again */
+    FILSER_DEVICE = 9,    /* the disk failed: start again */
+    FILSER_FAILED = 10,   /* it had failed before */
+    FILSER_DATE_RANGE = 11,
+    FILSER_ROOM = 12 /* the value is the number of blocks that are left */
+};
+
+/* The calls: the operation codes of their UUOs, and the service's own for directories. */
+enum filser_code {
+    FILSER_MAKDIR = 1,
+    FILSER_REMDIR = 2,
+    FILSER_QUOTA = 3,
+    FILSER_RESET = 047,
+    FILSER_OPEN = 050,
+    FILSER_RENAME = 055,
+    FILSER_IN = 056,
+    FILSER_OUT = 057,
+    FILSER_GETSTS = 062,
+    FILSER_INBUF = 064,
+    FILSER_OUTBUF = 065,
+    FILSER_CLOSE = 070,
+    FILSER_RELEAS = 071,
+    FILSER_USETI = 074,
+    FILSER_USETO = 075,
+    FILSER_LOOKUP = 076,
+    FILSER_ENTER = 077
+};
+
+/* A word of a job's core at its address. */
+struct filser_change {
+    uint32_t address;
+    uint64_t word;
+};
+
+/* An answer. Its changes belong to the service, and are there until the next orders are collected or sent. */
+struct filser_answer {
+    enum filser_kind kind;
+    uint64_t value;
+    size_t count;
+    const struct filser_change *changes;
+};
+
+/* A machine that has come to a UUO. What isn't named in an initializer is 0, as it should be. */
+struct filser_machine {
+    unsigned job;
+    uint64_t *accumulators; /* 16 words: addresses 0 to 17 (octal) */
+    uint64_t *words;        /* the memory from address 0, of which the first 16 words aren't used; or NULL */
+    uint64_t *const *pages; /* if words is NULL: the pages of 512 words; all that the job's core reaches are there */
+    size_t size;            /* the number of words of the memory, at least that of the job's core */
+    uint32_t pc;            /* the address of the UUO, which matters to INIT */
+    unsigned date, minute;  /* the moment of the call */
+
+    /* If last_changed isn't 0, only the words from first_changed to last_changed and the accumulators are compared with
+       what the service has: the machine has changed no other words since the job's last UUO. */
+    uint32_t first_changed, last_changed;
+};
+
+/* What a UUO did: the machine goes on `advance` words after the UUO (1, 2 if it skips, 3 or 4 after an INIT; 0 if this
+   is no UUO that the service does, and nothing was sent), and the kind and value of the answer. It was done if the kind
+   is FILSER_DONE or FILSER_VALUE. */
+struct filser_outcome {
+    int advance;
+    enum filser_kind kind;
+    uint64_t value;
+};
+
+struct filser;
+
+/* Starts the program, found as by a shell, and waits until it serves the image in this form, 1 or 2. A service is there
+   for filser_printed and filser_stop also after an error, and NULL only if there is no memory. */
+enum filser_error filser_start(const char *program, const char *image, int form, struct filser **service);
+
+/* Ends the exchange, waits for the program, frees the service, and gives the exit status: 127 if the program couldn't
+   be run, or minus the signal that ended it. NULL has status 0. */
+int filser_stop(struct filser *service);
+
+/* Gives the line that a program printed which didn't start, as "?Not a volume"; else an empty text. */
+const char *filser_printed(const struct filser *service);
+
+const char *filser_error_text(enum filser_error error);
+
+/* Collects orders. After an error no order was added. */
+enum filser_error filser_add_login(struct filser *service, unsigned job, uint32_t project, uint32_t programmer,
+                                   uint32_t words);
+enum filser_error filser_add_deposit(struct filser *service, unsigned job, uint32_t address, const uint64_t *words,
+                                     size_t count);
+enum filser_error filser_add_examine(struct filser *service, unsigned job, uint32_t address, uint32_t count);
+enum filser_error filser_add_call(struct filser *service, unsigned job, enum filser_code code, unsigned channel,
+                                  uint32_t number, unsigned date, unsigned minute);
+enum filser_error filser_add_room(struct filser *service);
+
+/* Sends what was collected, and gives the answers in the same order. They are read while the orders are written, so
+   they may be as many as memory holds. */
+enum filser_error filser_send(struct filser *service, const struct filser_answer **answers, size_t *count);
+
+/* The same as single orders, each sent at once; the answer may be NULL. They are refused while collected orders
+   wait. */
+enum filser_error filser_login(struct filser *service, unsigned job, uint32_t project, uint32_t programmer,
+                               uint32_t words, struct filser_answer *answer);
+enum filser_error filser_deposit(struct filser *service, unsigned job, uint32_t address, const uint64_t *words,
+                                 size_t count, struct filser_answer *answer);
+enum filser_error filser_examine(struct filser *service, unsigned job, uint32_t address, uint32_t count,
+                                 struct filser_answer *answer);
+enum filser_error filser_call(struct filser *service, unsigned job, enum filser_code code, unsigned channel,
+                              uint32_t number, unsigned date, unsigned minute, struct filser_answer *answer);
+enum filser_error filser_room(struct filser *service, uint64_t *blocks);
+
+/* Does a UUO on the machine's own memory: its word, and its effective address, which the emulator has computed. Nothing
+   is sent if a word that the service hasn't got yet has more than 36 bits. */
+enum filser_error filser_uuo(struct filser *service, const struct filser_machine *machine, uint64_t instruction,
+                             uint32_t address, struct filser_outcome *outcome);
+
+#endif

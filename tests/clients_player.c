@@ -1,0 +1,256 @@
+/* Plays lines by the client in C, as clients_player.py does by the client in Python; the head of that file says what
+   the lines are.
+
+   usage: clients_player PROGRAM IMAGE FORM */
+#include "filser.h"
+
+#include <inttypes.h>
+#include <stdio.h>
+#include <stdlib.h>
+#include <string.h>
+
+#define MOST_WORDS ((size_t)1 << 18)
+#define MOST_LINES 65536
+
+struct line {
+    char text[160], name[16];
+    unsigned job;
+    uint64_t numbers[4];
+    int count;
+};
+
+struct core {
+    uint64_t *words;
+    size_t size;
+};
+
+static struct filser *service;
+static struct core cores[256];
+static uint64_t accumulators[16], memory[MOST_WORDS], was[MOST_WORDS], *pages[MOST_WORDS / 512];
+static struct filser_machine machine = {.accumulators = accumulators, .words = memory};
+static struct line batch[MOST_LINES];
+
+static const struct { const char *name; enum filser_code code; int parts; } CALLS[] = {
+    {"MAKDIR", FILSER_MAKDIR, 1}, {"REMDIR", FILSER_REMDIR, 1}, {"QUOTA", FILSER_QUOTA, 1},
+    {"RESET", FILSER_RESET, 0},   {"OPEN", FILSER_OPEN, 2},     {"RENAME", FILSER_RENAME, 2},
+    {"IN", FILSER_IN, 2},         {"OUT", FILSER_OUT, 2},       {"GETSTS", FILSER_GETSTS, 2},
+    {"INBUF", FILSER_INBUF, 2},   {"OUTBUF", FILSER_OUTBUF, 2}, {"CLOSE", FILSER_CLOSE, 2},
+    {"RELEAS", FILSER_RELEAS, 2}, {"USETI", FILSER_USETI, 2},   {"USETO", FILSER_USETO, 2},
+    {"LOOKUP", FILSER_LOOKUP, 2}, {"ENTER", FILSER_ENTER, 2},
+};
+
+static const char *const ERRORS[] = {"OK", "BAD_ARGUMENT", "BAD_WORD", "NOT_LOGGED_IN", "NOT_SENT", "SHORT_MEMORY",
+                                     "OUT_OF_MEMORY", "NOT_STARTED", "ENDED", "NOT_AN_ANSWER"};
+
+static void print_answer(enum filser_kind kind, uint64_t value) {
+    static const char *const texts[] = {"WRONG", "DONE", "", "", "", "NOCHANNEL", "ADDRESS", "NOJOB", "NOMEMORY",
+                                        "DEVICE", "FAILED", "DATE", ""};
+    switch (kind) {
+    case FILSER_VALUE: printf("VALUE %012" PRIo64, value); break;
+    case FILSER_REFUSED: printf("REFUSED %" PRIo64, value); break;
+    case FILSER_STOPPED: printf("STOPPED %06" PRIo64, value); break;
+    case FILSER_ROOM: printf("ROOM %" PRIu64, value); break;
+    default: printf("%s", texts[kind]);
+    }
+}
+
+static enum filser_error print_error(enum filser_error error) {
+    if (error) printf("ERROR %s\n", ERRORS[error]);
+    return error;
+}
+
+/* Parses a line of a call script; UUO, POKE and HINT have their numbers in the same way. */
+static void parse(struct line *line) {
+    char *rest = line->text;
+    line->count = 0;
+    line->job = (unsigned)strtoul(rest, &rest, 8);
+    if (sscanf(rest, " %15s", line->name) != 1) line->name[0] = '\0';
+    rest = strstr(rest, line->name) + strlen(line->name);
+    while (line->count < 4) {
+        char *next;
+        while (*rest == ',' || *rest == ' ') rest++;
+        line->numbers[line->count] = strtoull(rest, &next, 8);
+        if (next == rest) break;
+        line->count++;
+        rest = next;
+    }
+    for (int place = line->count; place < 4; place++) line->numbers[place] = 0;
+}
+
+/* Collects the order of a line. */
+static enum filser_error add(const struct line *line) {
+    const uint64_t *numbers = line->numbers;
+    if (strcmp(line->name, "ROOM") == 0) return filser_add_room(service);
+    if (strcmp(line->name, "LOGIN") == 0)
+        return filser_add_login(service, line->job, (uint32_t)numbers[0], (uint32_t)numbers[1], (uint32_t)numbers[2]);
+    if (strcmp(line->name, "DEP") == 0)
+        return filser_add_deposit(service, line->job, (uint32_t)numbers[0], &numbers[1], 1);
+    if (strcmp(line->name, "EXA") == 0) return filser_add_examine(service, line->job, (uint32_t)numbers[0], 1);
+    for (size_t place = 0; place < sizeof CALLS / sizeof *CALLS; place++)
+        if (strcmp(line->name, CALLS[place].name) == 0) {
+            unsigned channel = CALLS[place].parts < 2 ? 0 : (unsigned)numbers[0];
+            return filser_add_call(service, line->job, CALLS[place].code, channel,
+                                   (uint32_t)numbers[CALLS[place].parts < 2 ? 0 : 1], machine.date, machine.minute);
+        }
+    return FILSER_BAD_ARGUMENT;
+}
+
+/* Prints the answer to the order of a line, and follows it in the copy of a core. */
+static void print_reply(const struct line *line, const struct filser_answer *answer) {
+    struct core *core = &cores[line->job];
+    if (answer->kind == FILSER_DONE && strcmp(line->name, "LOGIN") == 0) {
+        machine.size = core->size = line->numbers[2];
+        memset(memory, 0, sizeof memory);
+        free(core->words);
+        core->words = calloc(core->size, sizeof *core->words);
+        if (core->words == NULL) exit(4);
+        core->words[0121] = 0140;
+    }
+    if (answer->kind == FILSER_DONE && strcmp(line->name, "DEP") == 0) core->words[line->numbers[0]] = line->numbers[1];
+    if (answer->kind == FILSER_DONE && strcmp(line->name, "EXA") == 0)
+        print_answer(FILSER_VALUE, answer->changes[0].word);
+    else
+        print_answer(answer->kind, answer->value);
+}
+
+/* Prints which words of a core have changed, and which were told otherwise. */
+static enum filser_error print_changes(unsigned job, const struct filser_change *told, size_t count) {
+    struct filser_answer answer;
+    struct core *core = &cores[job];
+    memcpy(was, core->words, core->size * sizeof *was);
+    enum filser_error error = filser_examine(service, job, 0, (uint32_t)core->size, &answer);
+    for (size_t place = 0; place < answer.count && !error; place++) {
+        core->words[place] = answer.changes[place].word;
+        if (core->words[place] != was[place]) printf(" %zo=%012" PRIo64, place, core->words[place]);
+    }
+    for (size_t place = 0; place < count && !error; place++) {
+        if (core->words[told[place].address] != told[place].word) printf(" MISTOLD %" PRIo32, told[place].address);
+        was[told[place].address] = told[place].word;
+    }
+    for (size_t place = 0; place < core->size && !error; place++)
+        if (core->words[place] != was[place]) printf(" UNTOLD %zo", place);
+    return error;
+}
+
+static int is_call(const char *name) {
+    return strcmp(name, "LOGIN") != 0 && strcmp(name, "DEP") != 0 && strcmp(name, "EXA") != 0;
+}
+
+/* Plays one line of a call script. */
+static void play_order(const struct line *line) {
+    const struct filser_answer *answers;
+    size_t count;
+    enum filser_error error = add(line);
+    if (!error) error = filser_send(service, &answers, &count);
+    if (print_error(error)) return;
+    print_reply(line, answers);
+    if (is_call(line->name) && cores[line->job].words != NULL) {
+        size_t told = answers->count;
+        struct filser_change *changes = malloc((told + 1) * sizeof *changes);
+        if (changes == NULL) exit(4);
+        memcpy(changes, answers->changes, told * sizeof *changes);
+        error = print_changes(line->job, changes, told);
+        free(changes);
+    }
+    printf("\n");
+    print_error(error);
+}
+
+/* Plays lines whose orders are sent at once. */
+static void play_batch(size_t lines) {
+    const struct filser_answer *answers;
+    size_t count;
+    enum filser_error error = FILSER_OK;
+    for (size_t place = 0; place < lines; place++) {
+        if (fgets(batch[place].text, sizeof batch[place].text, stdin) == NULL) exit(4);
+        parse(&batch[place]);
+        if (!error) error = add(&batch[place]);
+    }
+    if (!error) error = filser_send(service, &answers, &count);
+    if (print_error(error)) return;
+    for (size_t place = 0; place < lines; place++) {
+        print_reply(&batch[place], &answers[place]);
+        printf("\n");
+    }
+}
+
+/* Plays a UUO of the machine. Every second one is given the memory as pages. */
+static void play_uuo(const struct line *line) {
+    static unsigned uuos;
+    struct filser_outcome outcome;
+    struct filser_answer answer;
+    size_t size = machine.size;
+    uint64_t registers[16];
+    memcpy(was, memory, size * sizeof *was);
+    memcpy(registers, accumulators, sizeof registers);
+    for (size_t page = 0; page < MOST_WORDS / 512; page++) pages[page] = memory + 512 * page;
+    machine.job = (unsigned)line->numbers[0];
+    machine.pages = pages;
+    machine.words = uuos++ % 2 == 0 ? memory : NULL;
+    machine.pc = (uint32_t)line->numbers[3];
+    enum filser_error error = filser_uuo(service, &machine, line->numbers[1], (uint32_t)line->numbers[2], &outcome);
+    machine.first_changed = machine.last_changed = 0;
+    if (print_error(error)) return;
+    printf("%d ", outcome.advance);
+    print_answer(outcome.kind, outcome.value);
+    for (size_t place = 0; place < 16; place++)
+        if (accumulators[place] != registers[place]) printf(" %zo=%012" PRIo64, place, accumulators[place]);
+    for (size_t place = 16; place < size; place++)
+        if (memory[place] != was[place]) printf(" %zo=%012" PRIo64, place, memory[place]);
+    error = filser_examine(service, machine.job, 0, (uint32_t)size, &answer);
+    for (size_t place = 0; place < size && !error; place++) {
+        uint64_t word = place < 16 ? accumulators[place] : memory[place];
+        cores[machine.job].words[place] = answer.changes[place].word;
+        if (answer.changes[place].word != word) printf(" BEHIND %zo", place);
+    }
+    printf("\n");
+}
+
+static void play_room(void) {
+    uint64_t blocks;
+    if (print_error(filser_room(service, &blocks))) return;
+    print_answer(FILSER_ROOM, blocks);
+    printf("\n");
+}
+
+static void play(struct line *line) {
+    const uint64_t *numbers = line->numbers;
+    unsigned long count;
+    parse(line);
+    if (sscanf(line->text, "AT %u %u", &machine.date, &machine.minute) == 2) return;
+    if (strcmp(line->name, "POKE") == 0) {
+        *(numbers[0] < 16 ? &accumulators[numbers[0]] : &memory[numbers[0]]) = numbers[1];
+    } else if (strcmp(line->name, "HINT") == 0) {
+        machine.first_changed = (uint32_t)numbers[0];
+        machine.last_changed = (uint32_t)numbers[1];
+    } else if (strcmp(line->name, "STOP") == 0) {
+        printf("STATUS %d\n", filser_stop(service));
+        service = NULL;
+    } else if (service == NULL) {
+        print_error(FILSER_ENDED);
+    } else if (sscanf(line->text, "BATCH %lu", &count) == 1 && count <= MOST_LINES) {
+        play_batch(count);
+    } else if (strcmp(line->name, "ROOM") == 0) {
+        play_room();
+    } else if (strcmp(line->name, "UUO") == 0) {
+        play_uuo(line);
+    } else {
+        play_order(line);
+    }
+}
+
+int main(int count, char **words) {
+    static struct line line;
+    if (count != 4) return 2;
+    enum filser_error error = filser_start(words[1], words[2], atoi(words[3]), &service);
+    if (error) {
+        char printed[256];
+        snprintf(printed, sizeof printed, "%s", filser_printed(service));
+        printf("ERROR %s %d %s\n", ERRORS[error], filser_stop(service), printed);
+        return 0;
+    }
+    while (fgets(line.text, sizeof line.text, stdin) != NULL) play(&line);
+    int status = filser_stop(service);
+    for (int job = 0; job < 256; job++) free(cores[job].words);
+    return status;
+}
