@@ -43,8 +43,8 @@ pub trait FileService {
             (λ entries. IsListed (machine self.old) (machine self.new) job owner (Ok entries.items))
             (λ reply. IsListed (machine self.old) (machine self.new) job owner (Err reply)) };
 
-    /// Tells which areas of its core a call of a job may change, by the call and the job before it: no other word of any
-    /// core changes. All lie below address 2^17. Nothing is asked of the disk.
+    /// Tells which areas of its core a call of a job may change, by the call and the job before it: no other word of
+    /// any core changes. All lie below address 2^17. Nothing is asked of the disk.
     ///
     /// # Errors
     ///

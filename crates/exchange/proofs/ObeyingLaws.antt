@@ -130,9 +130,9 @@ deposit_words header body order words job first count is deposit =
 none_told : (groups : List ℕ) (areas : List Area) → groups ≡ [] → length groups ≤ length (addresses areas)
 none_told groups areas none = let long = ap length none in omega arith
 
-read_told : (job : ℕ) (places : List ℕ) (told : List (ℕ × ℕ)) (acts : List Act) (reply : Reply) (groups : List ℕ)
+read_count : (job : ℕ) (places : List ℕ) (told : List (ℕ × ℕ)) (acts : List Act) (reply : Reply) (groups : List ℕ)
     → AreRead job places told acts reply → groups ≡ map group told → length groups ≤ length places
-read_told job places told acts reply groups read is =
+read_count job places told acts reply groups read is =
     omega (arith, ap length is, length-map told group, read_few job places told acts reply read)
 
 -- No more words are told than the areas have.
@@ -149,9 +149,9 @@ few_told machine a b frame (Examine job first count) words areas answer groups t
     = ap addresses told ∙ append-nil (range_with_len first count) in
     omega (
       arith,
-      read_told job (range_with_len first count) o.1 p.acts o.0 groups o.2 o.4,
+      read_count job (range_with_len first count) o.1 p.acts o.0 groups o.2 o.4,
       ap length places,
     )
 few_told machine a b frame (Calls job call moment) words areas answer groups told p =
-    let o = p.obeyed in read_told job (addresses areas) o.4 o.1 o.3 groups o.5 o.7
+    let o = p.obeyed in read_count job (addresses areas) o.4 o.1 o.3 groups o.5 o.7
 few_told machine a b frame Room words areas answer groups told p = none_told groups areas p.obeyed.2

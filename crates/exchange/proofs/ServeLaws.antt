@@ -1,10 +1,9 @@
 -- An exchange, from its first byte to its end.
 use Rattle.std.proofs.Common.{◌≡◌, ◌<◌, ◌||◌, ℕ, List, [], ◌∷◌, ◌++◌, length, take, drop, refl, sym, ap, ◌∙◌, subst}
 use Rattle.std.specs.Prelude.{not, ◌==◌}
-use Rattle.std.proofs.Common.{append-nil, append_assoc, inl, inr, arith, Option, None, Result, Ok, Err, IfOk, IfErr}
+use Rattle.std.proofs.Common.{append-nil, append_assoc, inl, inr, arith, Option, Result, Ok, Err}
 use Rattle.std.specs.Io.KnownBytes.{Appends, Consumes, Keeps, IsAtEnd}
 use Rattle.std.proofs.KnownBytes.{Appends-nil, Appends-trans, Consumes-trans, Consumes-nil, Consumes-kept}
-use Rattle.std.proofs.lemmas.Grind.{flat_map-append}
 use Rattle.std.proofs.lemmas.List.{take-append-drop, length-append}
 use Rattle.commands.specs.Errands.{fresh}
 use Rattle.commands.specs.Machines.{Machine, AlwaysStands}
@@ -12,8 +11,8 @@ use Rattle.commands.specs.declared.answer.Tally.{Tally}
 use Rattle.commands.specs.declared.error.SessionError.{SessionError}
 use Rattle.commands.specs.declared.error.SessionError.TheVariants.{Read, Write, NoMemory}
 use Rattle.wire.specs.Frames.{IsPart, IsTooLong}
-use Rattle.exchange.specs.Exchanges.{Takes, Counts, StepsOn, BreaksOff, HasTaken, HasClosed, Exchange, IsNotWhole, IsRest}
-use Rattle.exchange.specs.Exchanges.{Ends, IsBreak, closing}
+use Rattle.exchange.specs.Exchanges.{Takes, Counts, StepsOn, BreaksOff, HasTaken, HasClosed, Exchange, IsNotWhole}
+use Rattle.exchange.specs.Exchanges.{IsRest, Ends, IsBreak, closing}
 use Rattle.exchange.specs.Turns.{Turn, answers_of, orders_of}
 use Rattle.exchange.specs.declared.serving.Waiting.{Waiting}
 use Rattle.exchange.proofs.StreamLaws.{answers_on, orders_on}

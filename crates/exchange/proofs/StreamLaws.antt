@@ -1,6 +1,7 @@
 -- Bytes of orders that follow one another, and the answers that wait.
 use Rattle.std.proofs.Common.{◌≡◌, ◌+◌, ◌*◌, ◌<◌, ◌≤◌, ℕ, List, [], ◌∷◌, ◌++◌, length, take, drop, refl, sym, ap, ◌∙◌}
-use Rattle.std.proofs.Common.{◌⊎◌, ◌-◌, ◌/◌, ◌%◌, ◌^◌, subst, append-nil, append_assoc, inl, inr, arith, Option, None, Result, Ok, Err, IfOk, IfErr, OnOk, Bor}
+use Rattle.std.proofs.Common.{◌⊎◌, ◌-◌, ◌/◌, ◌%◌, ◌^◌, subst, append-nil, append_assoc, inl, inr, arith, Option}
+use Rattle.std.proofs.Common.{Result, Ok, Err, IfErr, Bor}
 use Rattle.std.specs.Io.KnownBytes.{Appends}
 use Rattle.std.proofs.KnownBytes.{Appends-nil, Appends-trans}
 use Rattle.std.proofs.lemmas.Grind.{flat_map-append}

@@ -1,9 +1,9 @@
 -- Turns that follow one another.
-use Rattle.std.proofs.Common.{◌≡◌, ℕ, List, [], ◌∷◌, ◌++◌, refl, sym, ap, ◌∙◌, subst, Bool, ◌||◌, append-nil}
+use Rattle.std.proofs.Common.{◌≡◌, List, [], ◌∷◌, ◌++◌, refl, sym, ap, ◌∙◌, subst, Bool, ◌||◌}
 use Rattle.std.proofs.Math.Bool.{or_assoc, or-false}
 use Rattle.std.proofs.lemmas.List.Folds.{list_any-append}
 use Rattle.std.proofs.lemmas.Grind.{flat_map-append}
-use Rattle.std.specs.List.{AllByRecursion, list_any}
+use Rattle.std.specs.List.{list_any}
 use Rattle.meaning.specs.Jobs.{State}
 use Rattle.meaning.specs.Plans.{Act, Asks, Looks}
 use Rattle.meaning.specs.Room.{Pack}
@@ -14,7 +14,7 @@ use Rattle.commands.specs.Machines.{Machine, AlwaysStands, KeepsPack, GoesBy}
 use Rattle.commands.specs.declared.answer.Tally.{Tally}
 use Rattle.commands.proofs.GoingLaws.{goes_nowhere, goes_on}
 use Rattle.exchange.specs.Exchanges.{Takes, Counts}
-use Rattle.exchange.specs.Turns.{Turn, IsTurn, Tells, TellBy, acts_of, orders_of, answers_of, is_wrong, is_fault}
+use Rattle.exchange.specs.Turns.{Turn, IsTurn, TellBy, acts_of, is_wrong, is_fault}
 
 -- After a fault each act tells of it, and so do turns, whatever the pack is.
 
@@ -30,7 +30,8 @@ served_apart s e = cc
 
 broken_went : (p q : Pack) (acts : List Act) (last : Service) → Went p Broken acts last → Went q Broken acts last
 broken_went p q [] last w = w
-broken_went p q (Asks event reply ∷ acts) last (Broken, answers, rest) = (Broken, answers, broken_went p q acts last rest)
+broken_went p q (Asks event reply ∷ acts) last (Broken, answers, rest) =
+    (Broken, answers, broken_went p q acts last rest)
 broken_went p q (Asks event reply ∷ acts) last (Serving s, answers, rest) = absurd answers
 broken_went p q (Looks owner answer ∷ acts) last (Broken, lists, rest) = (Broken, lists, broken_went p q acts last rest)
 broken_went p q (Looks owner answer ∷ acts) last (Serving s, lists, rest) = absurd (served_apart s lists.1)

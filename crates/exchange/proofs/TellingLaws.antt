@@ -83,11 +83,6 @@ module _ {S : Type 0} (machine : S → Machine) where
     groups = p.groups;
   }
 
-  pub told_count : (a b : S) (job : ℕ) (places before after : List ℕ)
-      → HasTold machine a b job places before after → length after ≡ length before + length places
-  told_count a b job places before after p =
-      omega (arith, grown before after p.told p.groups, named p.told places p.read)
-
   -- who told as many words told all
   pub read_told : (a b : S) (job : ℕ) (places before after : List ℕ) (reply : Reply)
       → HasRead machine a b job places before after reply → length after ≡ length before + length places
@@ -134,17 +129,6 @@ module _ {S : Type 0} (machine : S → Machine) where
           );
           groups = groups_on before between after p.told q.told p.groups q.groups;
         }) q.read
-
-    pub fewer_until : (rest all : List ℕ) → all ≡ places ++ more ++ rest
-        → length after < length before + length all
-    fewer_until rest all is = omega (
-      arith,
-      short,
-      told_count a b job places before between p,
-      ap length is,
-      length-append (places ++ more) rest,
-      length-append places more,
-    )
 
   module _ (stands : AlwaysStands machine) where
     pub told_none : (a : S) (job : ℕ) (before : List ℕ) → HasTold machine a a job [] before before

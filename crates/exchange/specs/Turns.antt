@@ -1,7 +1,7 @@
 -- What an order asks of a service, what answers it, and which words of core the answer tells.
-use Rattle.std.specs.Prelude.{◌≡◌, ◌⊎◌, ℕ, ◌+◌, ◌*◌, ◌^◌, ◌<◌, ◌≤◌, Bool, true, false, List, [], ◌∷◌, ◌++◌, length, map}
+use Rattle.std.specs.Prelude.{◌≡◌, ◌⊎◌, ℕ, ◌+◌, ◌*◌, ◌^◌, Bool, true, false, List, [], ◌∷◌, ◌++◌, length, map}
 use Rattle.std.specs.Prelude.{flat_map, Option, Some, None}
-use Rattle.std.specs.List.{AllByRecursion, range_with_len}
+use Rattle.std.specs.List.{range_with_len}
 use Rattle.std.specs.Int.{saturate_unsigned, w64}
 use Rattle.words36.specs.Blocks.{block_bytes}
 use Rattle.meaning.specs.Jobs.{State, job_at}
@@ -11,7 +11,6 @@ use Rattle.meaning.specs.Runs.{Service, Serving, Broken}
 use Rattle.meaning.specs.Texts.{is_broken}
 use Rattle.meaning.specs.Transcripts.{Went}
 use Rattle.meaning.specs.declared.area.Area.{Area}
-use Rattle.meaning.specs.declared.call.Event.{Event}
 use Rattle.meaning.specs.declared.call.Event.TheVariants.{Login as Logins, Deposit as Deposits, Examine as Examines}
 use Rattle.meaning.specs.declared.call.Event.TheVariants.{Call as CallEvents}
 use Rattle.meaning.specs.declared.call.Reply.{Reply}

@@ -1,8 +1,6 @@
-ghost use Rattle.std.specs.Prelude.{◌≡◌, ◌+◌, ◌*◌, ◌^◌, ◌<◌, ◌≤◌, ℕ, List, [], length, OnOk, IfOk, IfSome, vec_len, vec_capacity};
-ghost use Rattle.std.specs.List.{AllByRecursion, range_with_len};
-ghost use Rattle.meaning.specs.Jobs.{State, job_at};
-ghost use Rattle.meaning.specs.Runs.{Serving};
-ghost use Rattle.meaning.specs.declared.area.Area.{Area as Areas};
+ghost use Rattle.std.specs.Prelude.{◌≡◌, ◌+◌, ◌*◌, ◌^◌, ◌<◌, ◌≤◌, ℕ, List, [], length};
+ghost use Rattle.std.specs.Prelude.{IfOk, IfSome, vec_len, vec_capacity};
+ghost use Rattle.std.specs.List.{AllByRecursion};
 ghost use Rattle.wire.specs.Records.{HasWords};
 ghost use Rattle.exchange.specs.Turns.{addresses};
 ghost use Rattle.exchange.specs.Exchanges.{IsLow, AreTold};

@@ -12,7 +12,7 @@ use wire::{Front, split_record};
 /// The number of bytes that are read at a time.
 const PIECE_BYTES: usize = 8192;
 
-/// What of an exchange waits: bytes that are no whole record yet, and answers that aren't written; and what was counted.
+/// Bytes that are no whole record yet, answers that aren't written yet, and what was counted.
 #[derive(Drop)]
 pub struct Waiting {
     held: Vec<u8>,
@@ -72,7 +72,8 @@ fn take_piece<S: FileService, W: Write>(
 /// Answers what is left of the input.
 fn finish<W: Write>(writer: &mut W, waiting: &mut Waiting) -> Result<Tally, SessionError>
     requires { waiting.old.answers.items ≡ [] }
-    ensures { HasClosed (W.contents writer.old) (W.contents writer.new) waiting.old.held.items waiting.old.tally result }
+    ensures { HasClosed (W.contents writer.old) (W.contents writer.new) waiting.old.held.items waiting.old.tally
+        result }
 {
     if !waiting.held.is_empty() {
         if refuse(&mut waiting.answers, &mut waiting.tally).is_err() {
@@ -89,8 +90,8 @@ fn finish<W: Write>(writer: &mut W, waiting: &mut Waiting) -> Result<Tally, Sess
 ///
 /// # Errors
 ///
-/// `Read` or `Write` if the reader or the writer failed, `NoMemory` if a record or its answer found no room: nothing was
-/// done for that one.
+/// `Read` or `Write` if the reader or the writer failed, `NoMemory` if a record or its answer found no room: nothing
+/// was done for that one.
 pub fn serve_wire<R: Read, W: Write, S: FileService>(
     alloc: Global,
     reader: &mut R,

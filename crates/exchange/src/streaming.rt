@@ -57,7 +57,8 @@ fn serve_record<S: FileService, W: Write>(
         answers.old.items answers.new.items tally.old tally.new
         (frame_bytes (record { header = header.now; body = body.now }))) }
     ensures err { IfErr result (λ error. BreaksOff S.machine service.old service.new (W.contents writer.old)
-        (W.contents writer.new) answers.old.items error (frame_bytes (record { header = header.now; body = body.now }))) }
+        (W.contents writer.new) answers.old.items error
+        (frame_bytes (record { header = header.now; body = body.now }))) }
 {
     match take_turn(alloc, service, header, body, answers, tally) {
         Ok(()) => flush_full(writer, answers),

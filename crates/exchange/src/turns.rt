@@ -55,8 +55,8 @@ pub(crate) fn take_turn<S: FileService>(
     tally: &mut Tally,
 ) -> Result<(), AllocError>
     requires { IsFrame (record { header = header.now; body = body.now }) }
-    ensures ok { OnOk result (HasTurned S.machine service.old service.new (record { header = header.now; body = body.now })
-        answers.old.items answers.new.items tally.old tally.new) }
+    ensures ok { OnOk result (HasTurned S.machine service.old service.new
+        (record { header = header.now; body = body.now }) answers.old.items answers.new.items tally.old tally.new) }
     ensures undone { OnErr result (service.new ≡ service.old) }
     ensures unanswered { OnErr result (answers.new.items ≡ answers.old.items) }
     ensures uncounted { OnErr result (tally.new ≡ tally.old) }

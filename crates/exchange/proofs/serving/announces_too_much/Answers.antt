@@ -8,5 +8,6 @@ never is = cc
 pub returns-in_default : goal.returns-in_default
 returns-in_default c = record {
   yes = λ is. absurd (never is);
-  no = λ is rest. part_or_long c.args.bytes.now c.split_record.result c.split_record.ensures c.in_default.not-TooLong rest;
+  no = λ is rest. part_or_long c.args.bytes.now c.split_record.result c.split_record.ensures
+      c.in_default.not-TooLong rest;
 }
