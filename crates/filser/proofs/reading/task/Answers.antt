@@ -36,7 +36,7 @@ returns-in_err-moment-in-get c =
     (no_get c.args.name.now (rows_of (found_of c.args.matches.now)) c.in-get.is
     (λ f at named is. c.in_err-moment-in-get.ensures at is))
 
-pub returns-in_err-owned-in-delete : goal.returns-in_err-owned-in-delete
-returns-in_err-owned-in-delete c =
-    rw c.from_residual-in_err-owned-in-delete.ensures
-    (no_delete c.args.name.now (rows_of (found_of c.args.matches.now)) c.in-delete.is c.in_err-owned-in-delete.ensures)
+pub returns-in_err-owner-in-delete : goal.returns-in_err-owner-in-delete
+returns-in_err-owner-in-delete c =
+    rw c.from_residual-in_err-owner-in-delete.ensures
+    (no_delete c.args.name.now (rows_of (found_of c.args.matches.now)) c.in-delete.is c.in_err-owner-in-delete.ensures)
