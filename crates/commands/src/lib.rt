@@ -73,6 +73,7 @@ mod survey;
 mod tables;
 mod text;
 mod typing;
+mod waiting;
 
 pub use answer::{Tally, is_broken};
 pub use dates::date_named;
