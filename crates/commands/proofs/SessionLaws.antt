@@ -13,8 +13,7 @@ use Rattle.meaning.specs.declared.call.Call.TheVariants.{Reset}
 use Rattle.commands.specs.PartialLines.{IsPartialLine}
 use Rattle.commands.specs.Errands.{fresh}
 use Rattle.commands.specs.Machines.{Machine, AlwaysStands, GoesBy}
-use Rattle.commands.specs.Streams.{IsServedTranscript, IsServedSession, IsServedScript, spoken, Finished, CutOff}
-use Rattle.commands.specs.Streams.{Unfinished}
+use Rattle.commands.specs.Streams.{IsServedTranscript, IsServedSession, IsServedScript, spoken, Finished}
 use Rattle.commands.specs.Sessions.{SoFar, StepsOn, IsBreak, BreaksOff, EndsWell, Ends, Talked, Session, Script}
 use Rattle.commands.specs.declared.error.SessionError.{SessionError}
 use Rattle.commands.specs.declared.error.SessionError.TheVariants.{Read, Write, NoMemory}

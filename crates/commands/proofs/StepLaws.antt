@@ -4,11 +4,10 @@ use Rattle.std.proofs.Common.{get_or, refl, sym}
 use Rattle.std.proofs.Common.{◌∙◌, ap, subst, append_assoc, append-nil, inl, inr, Option, None, ◌⊎◌, Result, Ok, Err}
 use Rattle.std.proofs.Common.{IfErr, IfOk, OnOk, Bool}
 use Rattle.std.proofs.lemmas.List.{take-append-drop, take_more, take_all}
-use Rattle.std.specs.Io.KnownBytes.{Appends}
 use Rattle.std.proofs.KnownBytes.{Appends-nil, Appends-trans}
 use Rattle.words36.specs.declared.moment.Moment.{Moment}
 use Rattle.meaning.specs.Lines.{Line, without_return, fitting, lines}
-use Rattle.meaning.specs.Texts.{Spoken, silent, both_said}
+use Rattle.meaning.specs.Texts.{Spoken, silent}
 use Rattle.meaning.specs.declared.command.Command.{Command}
 use Rattle.meaning.specs.Plans.{Act, Asks, calls}
 use Rattle.meaning.specs.declared.call.Call.TheVariants as played
@@ -21,7 +20,7 @@ use Rattle.meaning.specs.declared.call.Event.TheVariants.{Call as Calls}
 use Rattle.commands.specs.Machines.{Machine, AlwaysStands, IsAnswered}
 use Rattle.commands.specs.Errands.{fresh}
 use Rattle.commands.specs.Reasons.{capped, counts, feeds, mark, numbered}
-use Rattle.commands.specs.Streams.{IsServedTranscript, IsNumberedTranscript, spoken, AreWholeLines, CutOff, Unfinished}
+use Rattle.commands.specs.Streams.{IsServedTranscript, IsNumberedTranscript, spoken, AreWholeLines}
 use Rattle.commands.specs.Sessions.{HeardIn, Hears, Replied, AddsText, IsFlushed, IsBreak, Told, Closed, SoFar, StepsOn}
 use Rattle.commands.specs.Sessions.{BreaksOff, EndsWell, Spoke}
 use Rattle.commands.specs.declared.error.SessionError.{SessionError}

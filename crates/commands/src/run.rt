@@ -250,8 +250,9 @@ fn talk_in<R: Read, W: Write, S: FileService>(
 ///
 /// # Errors
 ///
-/// `Read` or `Write` where the reader or the writer failed, `NoMemory` where a text found no room. A line
-/// that a fault of the reader cuts short isn't answered, and no job is reset then.
+/// `Read` or `Write` if the reader or the writer failed, `NoMemory` if a text found no room. A line that a fault of the
+/// reader cuts short isn't answered, and no job is reset then. If the writer failed, it may lack the texts of several
+/// lines, whose calls were made.
 pub fn converse<R: Read, W: Write, S: FileService>(
     alloc: Global,
     reader: &mut R,
