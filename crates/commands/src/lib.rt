@@ -17,9 +17,11 @@
 //!    rises by one for each call that is answered Device, and for nothing else. (`CountsFailures`)
 //! 5. The text is a function of the lines, the state and the moment, where no call met want of memory or a
 //!    fault of the disk. (`served_texts_are_functions`)
-//! 6. Where it breaks off the writer holds a beginning of that text. At `Read` it holds all of it for the
-//!    lines that had ended, and the bytes behind them are not answered. At `Write` and `NoMemory` nothing is
-//!    missing but the end of the last line's text, whose calls were made. (`CutShort`, `Unfinished`)
+//! 6. The texts of all lines that one read ends are written before the next read, by one call if they are short. If the
+//!    session breaks off, the writer holds a beginning of the text. At `Read` it holds all of it for the lines that had
+//!    ended, and the bytes after them are not answered. At `NoMemory` it lacks the text of the last line that was
+//!    answered, and no other. At `Write` it may lack the texts of several lines, whose calls were made. (`CutShort`,
+//!    `Unfinished`, `CutOff`)
 //! 7. What is said of calls is said over any service of files, as far as it keeps its promises; what is said
 //!    of bytes is said of readers and writers that tell theirs. A service may put or show words of a block at
 //!    once, as the calls that these stand for. (`AreShown`, `HasDone`)
@@ -73,6 +75,7 @@ mod survey;
 mod tables;
 mod text;
 mod typing;
+mod waiting;
 
 pub use answer::{Tally, is_broken};
 pub use dates::date_named;
