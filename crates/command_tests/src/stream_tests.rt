@@ -51,6 +51,25 @@ impl Write for Narrow {
     }
 }
 
+/// Takes all bytes, and counts them and the calls.
+#[derive(Drop)]
+struct Counter {
+    calls: u32,
+    bytes: usize,
+}
+
+impl Write for Counter {
+    fn write(&mut self, bytes: &[u8]) -> io::Result<usize> {
+        self.calls = self.calls.saturating_add(1);
+        self.bytes = self.bytes.saturating_add(bytes.len());
+        Ok(bytes.len())
+    }
+
+    fn flush(&mut self) -> io::Result<()> {
+        Ok(())
+    }
+}
+
 /// A stream of so many bytes at a time, which ends, or fails so.
 #[derive(Clone, Copy)]
 struct Stream {
@@ -95,6 +114,29 @@ fn expect_streamed(
     Ok(())
 }
 
+/// Lines that come this many bytes at a time are answered by this many writes, and this many bytes.
+fn expect_writes(
+    rt: &impl Abort,
+    alloc: Global,
+    (language, lines): (Language, &[u8]),
+    size: usize,
+    (calls, bytes): (u32, usize),
+) -> Result<(), Fail> {
+    let mut reader = Pieces {
+        rest: lines,
+        size,
+        fault: None,
+    };
+    let mut writer = Counter { calls: 0, bytes: 0 };
+    let Some(mut monitor) = started(rt, alloc, 64)? else {
+        panic!(rt; "the image is refused");
+    };
+    let _served = serve(alloc, &mut monitor, language, &mut reader, &mut writer);
+    drop_monitor(monitor);
+    assert_eq!(rt; (writer.calls, writer.bytes), (calls, bytes));
+    Ok(())
+}
+
 const LINES: &[u8] = b"LOGIN [10,20]\nTYPE FOO.TXT\nDIR\n";
 
 const TEXT: &[u8] = b"Job 1 [10,20]\nHELLO\r\n?Command error\n";
@@ -111,6 +153,29 @@ fn small_pieces(rt: HostRuntime) -> Result<(), Fail> {
         expect_streamed(&rt, rt.alloc(), lines, (stream, stream), (TEXT, Ok(tally)))?;
     }
     Ok(())
+}
+
+/// The texts of all lines that one read ends are written by one call; one that ends none makes no write.
+#[test]
+fn one_write_for_each_read(rt: HostRuntime) -> Result<(), Fail> {
+    for (size, calls) in [(31, 1), (14, 3), (13, 2), (1, 3)] {
+        let writes = (calls, TEXT.len());
+        expect_writes(&rt, rt.alloc(), (Language::Session, LINES), size, writes)?;
+    }
+    expect_writes(&rt, rt.alloc(), (Language::Script, ORDERS), 100, (2, 29))
+}
+
+/// Texts of more than 64 KiB are written before all lines of a piece are answered, and none is lost.
+#[test]
+fn many_texts_are_written_early(rt: HostRuntime) -> Result<(), Fail> {
+    let mut lines = Vec::new(rt.alloc());
+    lines.extend_from_slice(b"LOGIN [10,20]\nCOPY A=FOO.TXT\nCOPY B=FOO.TXT\nCOPY C=FOO.TXT\n")?;
+    for _ in 0..400 {
+        lines.extend_from_slice(b"DIRECTORY\n")?;
+    }
+    let input = (Language::Session, lines.as_slice());
+    expect_writes(&rt, rt.alloc(), input, 5000, (2, 72823))?;
+    expect_writes(&rt, rt.alloc(), input, 10, (404, 72823))
 }
 
 /// A writer that takes ten or seven bytes and then fails, takes none, or is interrupted, holds these.

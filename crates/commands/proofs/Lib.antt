@@ -6,6 +6,7 @@ pub mod SayingLaws
 pub mod TextLaws
 pub mod TableLaws
 pub mod WritingLaws
+pub mod WaitingLaws
 pub mod GoingLaws
 pub mod AnswerLaws
 pub mod SplitLaws

@@ -13,8 +13,8 @@ use Rattle.meaning.specs.declared.call.Call.TheVariants.{Reset}
 use Rattle.commands.specs.PartialLines.{IsPartialLine}
 use Rattle.commands.specs.Errands.{fresh}
 use Rattle.commands.specs.Machines.{Machine, AlwaysStands, GoesBy}
-use Rattle.commands.specs.Streams.{IsServedTranscript, IsServedSession, IsServedScript, spoken, Finished, Unfinished}
-use Rattle.commands.specs.Sessions.{SoFar, StepsOn, BreaksOff, EndsWell, Ends, Talked, Session, Script}
+use Rattle.commands.specs.Streams.{IsServedTranscript, IsServedSession, IsServedScript, spoken, Finished}
+use Rattle.commands.specs.Sessions.{SoFar, StepsOn, IsBreak, BreaksOff, EndsWell, Ends, Talked, Session, Script}
 use Rattle.commands.specs.declared.error.SessionError.{SessionError}
 use Rattle.commands.specs.declared.error.SessionError.TheVariants.{Read, Write, NoMemory}
 use Rattle.commands.specs.declared.answer.Tally.{Tally}
@@ -24,7 +24,7 @@ use Rattle.commands.specs.declared.run.Talk.{Talk}
 use Rattle.commands.proofs.GoingLaws.{goes_nowhere, goes_on, went_apart, acts_went}
 use Rattle.commands.proofs.TranscriptLaws.{events_who}
 
--- how far it is with its reader, its writer and its service
+-- how far it is with its reader, its writer and its service, between two reads
 pub record Streams {S : Type 0} (language : Language) (source left sink full : Option (List ℕ)) (machine : S
     → Machine) (old now : S) (moment : Moment) (talk : Talk) : Type 0 where
   pub read : List ℕ
@@ -34,12 +34,13 @@ pub record Streams {S : Type 0} (language : Language) (source left sink full : O
   pub appended : Appends sink full written
   pub goes : GoesBy machine old now acts
   pub so : SoFar language moment talk read written acts
+  pub waits : talk.waiting.items ≡ []
 
 pub stream_starts : {S : Type 0} (language : Language) (machine : S
     → Machine) (stands : AlwaysStands machine) (source sink : Option (List ℕ)) (m : S) (moment : Moment) (talk : Talk)
-    → IsPartialLine talk.held [] → talk.line ≡ 1 → talk.who ≡ None → talk.tally ≡ fresh
+    → IsPartialLine talk.held [] → talk.line ≡ 1 → talk.who ≡ None → talk.tally ≡ fresh → talk.waiting.items ≡ []
     → Streams language source source sink sink machine m m moment talk
-stream_starts language machine stands source sink m moment talk held line who tally = record {
+stream_starts language machine stands source sink m moment talk held line who tally waits = record {
   read = [];
   written = [];
   acts = [];
@@ -54,19 +55,20 @@ stream_starts language machine stands source sink m moment talk held line who ta
     unended = tt;
     held = held;
     line = line;
-    transcript = (refl, ap (spoken []) tally, who);
+    transcript = (refl, λ i. spoken (waits i) (tally i), who);
     refused = [];
-    refuses = (refl, ap (spoken []) tally, who, refl);
+    refuses = (refl, λ i. spoken (waits i) (tally i), who, refl);
     reason = ap (λ (t : Tally). t.reason) tally;
   };
+  waits = waits;
 }
 
 pub stream_more : {S : Type 0} (language : Language) (machine : S
     → Machine) (source left rest sink full over : Option (List ℕ)) (old now new : S) (moment : Moment)
     (talk after : Talk) (bytes : List ℕ) → Streams language source left sink full machine old now moment talk
     → Consumes left rest bytes → StepsOn language machine now new full over moment talk after bytes
-    → Streams language source rest sink over machine old new moment after
-stream_more language machine source left rest sink full over old now new moment talk after bytes s c t = record {
+    → after.waiting.items ≡ [] → Streams language source rest sink over machine old new moment after
+stream_more language machine source left rest sink full over old now new moment talk after bytes s c t waits = record {
   read = s.read ++ bytes;
   written = s.written ++ t.written;
   acts = s.acts ++ t.acts;
@@ -74,6 +76,7 @@ stream_more language machine source left rest sink full over old now new moment 
   appended = Appends-trans sink full over s.written t.written s.appended t.appended;
   goes = goes_on machine old now new s.acts t.acts s.goes t.goes;
   so = t.steps s.read s.written s.acts s.so;
+  waits = waits;
 }
 
 -- the reader failed
@@ -94,24 +97,30 @@ stream_stops language machine source left rest sink full old now moment talk s k
     parted = s.so.parted;
     ended = s.so.ended;
     unended = s.so.unended;
-    said = spoken s.written talk.tally;
+    said = spoken (s.written ++ talk.waiting.items) talk.tally;
     who = talk.who;
     transcript = s.so.transcript;
-    whole = refl;
+    whole = sym (ap (λ (l : List ℕ). s.written ++ l) s.waits ∙ append-nil s.written);
   };
 }
 
-ends_unfinished : (language : Language) (at_end : Type 0) (moment : Moment) (error : SessionError)
-    (read written : List ℕ) (acts : List Act) → Unfinished language at_end moment error read written acts
-    → Ends language at_end moment read written acts (Err error)
-ends_unfinished language at_end moment Read read written acts u = absurd u.cut
-ends_unfinished language at_end moment Write read written acts u = u
-ends_unfinished language at_end moment NoMemory read written acts u = u
-
-unfinished_at : (language : Language) (a b : Type 0) (moment : Moment) (error : SessionError) (read written : List ℕ)
-    (acts : List Act) → (a → b) → Unfinished language a moment error read written acts
-    → Unfinished language b moment error read written acts
-unfinished_at language a b moment error read written acts f u = record {
+ends_broken : (language : Language) (a b : Type 0) (moment : Moment) (error : SessionError) (read written : List ℕ)
+    (acts : List Act) → (a → b) → IsBreak language a moment read written acts error
+    → Ends language b moment read written acts (Err error)
+ends_broken language a b moment Read read written acts f u = absurd u
+ends_broken language a b moment Write read written acts f u = record {
+  front = u.front;
+  behind = u.behind;
+  parted = u.parted;
+  ended = elim u.ended [ inl whole ↦ inl whole | inr end ↦ inr (end.0, f end.1) ];
+  said = u.said;
+  who = u.who;
+  transcript = u.transcript;
+  unwritten = u.unwritten;
+  parts = u.parts;
+  some = u.some;
+}
+ends_broken language a b moment NoMemory read written acts f u = record {
   front = u.front;
   behind = u.behind;
   parted = u.parted;
@@ -128,11 +137,7 @@ unfinished_at language a b moment error read written acts f u = record {
   who = u.who;
   says = u.says;
   acts_are = u.acts_are;
-  part = u.part;
-  unwritten = u.unwritten;
-  parts = u.parts;
   written_is = u.written_is;
-  cut = u.cut;
 }
 
 -- it broke off in the bytes that were read last
@@ -150,10 +155,8 @@ stream_breaks language machine at_end source left rest sink full over old now ne
       consumed = Consumes-trans source left rest s.read bytes s.consumed c;
       appended = Appends-trans sink full over s.written t.written s.appended t.appended;
       goes = goes_on machine old now new s.acts t.acts s.goes t.goes;
-      ends = ends_unfinished language (IsAtEnd rest) moment error (s.read ++ bytes) (s.written ++ t.written)
-          (s.acts ++ t.acts)
-          (unfinished_at language at_end (IsAtEnd rest) moment error (s.read ++ bytes) (s.written ++ t.written)
-          (s.acts ++ t.acts) end (t.breaks s.read s.written s.acts s.so));
+      ends = ends_broken language at_end (IsAtEnd rest) moment error (s.read ++ bytes) (s.written ++ t.written)
+          (s.acts ++ t.acts) end (t.breaks s.read s.written s.acts s.so);
     }
 
 pub stream_ends : {S : Type 0} (language : Language) (machine : S

@@ -2,9 +2,8 @@
 use Rattle.std.proofs.Common.{◌≡◌, ◌≢◌, ℕ, ◌+◌, ◌-◌, ◌^◌, ◌<◌, ◌≤◌, ◌||◌, min, List, [], ◌∷◌, ◌++◌, length, take, drop}
 use Rattle.std.proofs.Common.{get_or, refl, sym}
 use Rattle.std.proofs.Common.{◌∙◌, ap, subst, append_assoc, append-nil, inl, inr, Option, None, ◌⊎◌, Result, Ok, Err}
-use Rattle.std.proofs.Common.{IfErr, OnOk, OnErr, Bool}
+use Rattle.std.proofs.Common.{IfErr, IfOk, OnOk, Bool}
 use Rattle.std.proofs.lemmas.List.{take-append-drop, take_more, take_all}
-use Rattle.std.specs.Io.KnownBytes.{Appends}
 use Rattle.std.proofs.KnownBytes.{Appends-nil, Appends-trans}
 use Rattle.words36.specs.declared.moment.Moment.{Moment}
 use Rattle.meaning.specs.Lines.{Line, without_return, fitting, lines}
@@ -21,10 +20,11 @@ use Rattle.meaning.specs.declared.call.Event.TheVariants.{Call as Calls}
 use Rattle.commands.specs.Machines.{Machine, AlwaysStands, IsAnswered}
 use Rattle.commands.specs.Errands.{fresh}
 use Rattle.commands.specs.Reasons.{capped, counts, feeds, mark, numbered}
-use Rattle.commands.specs.Streams.{IsServedTranscript, IsNumberedTranscript, spoken, AreWholeLines, Unfinished, IsCut}
-use Rattle.commands.specs.Sessions.{HeardIn, Hears, Replied, WritesText, Told, Closed, SoFar, StepsOn, BreaksOff}
-use Rattle.commands.specs.Sessions.{EndsWell, Spoke}
+use Rattle.commands.specs.Streams.{IsServedTranscript, IsNumberedTranscript, spoken, AreWholeLines}
+use Rattle.commands.specs.Sessions.{HeardIn, Hears, Replied, AddsText, IsFlushed, IsBreak, Told, Closed, SoFar, StepsOn}
+use Rattle.commands.specs.Sessions.{BreaksOff, EndsWell, Spoke}
 use Rattle.commands.specs.declared.error.SessionError.{SessionError}
+use Rattle.commands.specs.declared.error.SessionError.TheVariants.{Read, Write, NoMemory}
 use Rattle.commands.specs.declared.answer.Tally.{Tally}
 use Rattle.commands.specs.declared.input.PartialLine.{PartialLine}
 use Rattle.commands.specs.declared.language.Language.{Language}
@@ -39,6 +39,7 @@ use Rattle.commands.proofs.RefusalLaws.{with_number, numbered_fed, numbered_ende
 use Rattle.commands.proofs.RefusalLaws.{refusals_heard, capped_more, reason_more}
 use Rattle.commands.proofs.SplitLaws.{lines_fed, lines_ended}
 use Rattle.commands.proofs.TranscriptLaws.{transcript_on, transcript_heard, heard_line, spoken_more, or-false}
+use Rattle.commands.proofs.WaitingLaws.{adds_flushed, adds_unwritten, said_on, waits_on}
 
 -- Steps one after another.
 
@@ -75,10 +76,23 @@ steps_more language machine a b c p q r moment x y z bytes more s t = record {
       (append_assoc past s.written t.written) last));
 }
 
-unfinished_behind : (language : Language) (error : SessionError) (moment : Moment) (read written more : List ℕ)
-    (acts : List Act) → Unfinished language ⊥ moment error read written acts
-    → Unfinished language ⊥ moment error (read ++ more) written acts
-unfinished_behind language error moment read written more acts u = record {
+break_behind : (language : Language) (error : SessionError) (moment : Moment) (read written more : List ℕ)
+    (acts : List Act) → IsBreak language ⊥ moment read written acts error
+    → IsBreak language ⊥ moment (read ++ more) written acts error
+break_behind language Read moment read written more acts u = absurd u
+break_behind language Write moment read written more acts u = record {
+  front = u.front;
+  behind = u.behind ++ more;
+  parted = ap (λ (l : List ℕ). l ++ more) u.parted ∙ append_assoc u.front u.behind more;
+  ended = elim u.ended [ inl whole ↦ inl whole | inr end ↦ absurd end.1 ];
+  said = u.said;
+  who = u.who;
+  transcript = u.transcript;
+  unwritten = u.unwritten;
+  parts = u.parts;
+  some = u.some;
+}
+break_behind language NoMemory moment read written more acts u = record {
   front = u.front;
   behind = u.behind ++ more;
   parted = ap (λ (l : List ℕ). l ++ more) u.parted ∙ append_assoc u.front u.behind more;
@@ -95,11 +109,7 @@ unfinished_behind language error moment read written more acts u = record {
   who = u.who;
   says = u.says;
   acts_are = u.acts_are;
-  part = u.part;
-  unwritten = u.unwritten;
-  parts = u.parts;
   written_is = u.written_is;
-  cut = u.cut;
 }
 
 breaks_more : {S : Type 0} (language : Language) (machine : S
@@ -113,16 +123,16 @@ breaks_more language machine a b c p q r moment x y error bytes more rest s t = 
   written = s.written ++ t.written;
   appended = Appends-trans p q r s.written t.written s.appended t.appended;
   breaks = λ read past done so.
-      let last = unfinished_behind language error moment ((read ++ bytes) ++ more) ((past ++ s.written)
+      let last = break_behind language error moment ((read ++ bytes) ++ more) ((past ++ s.written)
       ++ t.written) rest ((done ++ s.acts) ++ t.acts)
       (t.breaks (read ++ bytes) (past ++ s.written) (done ++ s.acts) (s.steps read past done so)) in
       let same : ((read ++ bytes) ++ more) ++ rest ≡ read ++ ((bytes ++ more) ++ rest) = simp append_assoc in
-      subst (λ (l : List Act). Unfinished language ⊥ moment error (read ++ ((bytes ++ more) ++ rest))
-      (past ++ (s.written ++ t.written)) l) (append_assoc done s.acts t.acts)
-      (subst (λ (l : List ℕ). Unfinished language ⊥ moment error l (past ++ (s.written ++ t.written))
-      ((done ++ s.acts) ++ t.acts)) same
-      (subst (λ (l : List ℕ). Unfinished language ⊥ moment error (((read ++ bytes) ++ more) ++ rest) l
-      ((done ++ s.acts) ++ t.acts)) (append_assoc past s.written t.written) last));
+      subst (λ (l : List Act). IsBreak language ⊥ moment (read ++ ((bytes ++ more) ++ rest))
+      (past ++ (s.written ++ t.written)) l error) (append_assoc done s.acts t.acts)
+      (subst (λ (l : List ℕ). IsBreak language ⊥ moment l (past ++ (s.written ++ t.written))
+      ((done ++ s.acts) ++ t.acts) error) same
+      (subst (λ (l : List ℕ). IsBreak language ⊥ moment (((read ++ bytes) ++ more) ++ rest) l
+      ((done ++ s.acts) ++ t.acts) error) (append_assoc past s.written t.written) last));
 }
 
 -- over the bytes of a piece
@@ -173,35 +183,52 @@ step_byte language machine stands m sink moment talk held b other keeps = record
     held = keeps so.seen so.held;
     line = so.line;
     transcript = subst (λ (l : List Act). IsServedTranscript language moment None (lines so.front) l
-        (spoken (past ++ []) talk.tally) talk.who) (sym (append-nil done))
+        (spoken ((past ++ []) ++ talk.waiting.items) talk.tally) talk.who) (sym (append-nil done))
         (subst (λ (l : List ℕ). IsServedTranscript language moment None (lines so.front) done
-        (spoken l talk.tally) talk.who) (sym (append-nil past)) so.transcript);
+        (spoken (l ++ talk.waiting.items) talk.tally) talk.who) (sym (append-nil past)) so.transcript);
     refused = so.refused;
     refuses = subst (λ (l : List Act). IsNumberedTranscript language moment None (numbered so.front) l
-        (spoken (past ++ []) talk.tally) talk.who so.refused) (sym (append-nil done))
+        (spoken ((past ++ []) ++ talk.waiting.items) talk.tally) talk.who so.refused) (sym (append-nil done))
         (subst (λ (l : List ℕ). IsNumberedTranscript language moment None (numbered so.front) done
-        (spoken l talk.tally) talk.who so.refused) (sym (append-nil past)) so.refuses);
+        (spoken (l ++ talk.waiting.items) talk.tally) talk.who so.refused) (sym (append-nil past)) so.refuses);
     reason = so.reason;
   };
 }
 
 -- The lines so far with those of the bytes behind them.
+
+transcript_more : (language : Language) (moment : Moment) (talk : Talk) (who : Option ℕ) (counted : Tally)
+    (heard : Heard) (read past : List ℕ) (done : List Act) (so : SoFar language moment talk read past done)
+    (here : List Line) (acts : List Act) (said : Spoken) (text : List ℕ)
+    → (past ++ talk.waiting.items) ++ said.text ≡ text → counted.refused ≡ talk.tally.refused || said.refused
+    → counted.broke ≡ talk.tally.broke || said.broke → HeardIn language moment here heard
+    → Hears moment talk.who heard acts said who
+    → IsServedTranscript language moment None (lines so.front ++ here) (done ++ acts) (spoken text counted) who
+transcript_more language moment talk who counted heard read past done so here acts said text whole refused broke
+    hears says =
+    subst (λ (s : Spoken). IsServedTranscript language moment None (lines so.front ++ here) (done ++ acts) s who)
+    (spoken_more (past ++ talk.waiting.items) text talk.tally counted said whole refused broke)
+    (transcript_on language moment None (lines so.front) here done acts
+    (spoken (past ++ talk.waiting.items) talk.tally) said talk.who who so.transcript
+    (transcript_heard language moment talk.who here heard acts said who hears says))
+
 refusals_more : (language : Language) (moment : Moment) (talk : Talk) (who : Option ℕ) (counted : Tally) (heard : Heard)
     (read past : List ℕ) (done : List Act) (so : SoFar language moment talk read past done) (here : List Line)
-    (acts : List Act) (said : Spoken) (written unwritten : List ℕ) → said.text ≡ written ++ unwritten
-    → unwritten ≡ [] → counted.refused ≡ talk.tally.refused || said.refused
+    (acts : List Act) (said : Spoken) (text : List ℕ) → (past ++ talk.waiting.items) ++ said.text ≡ text
+    → counted.refused ≡ talk.tally.refused || said.refused
     → counted.broke ≡ talk.tally.broke || said.broke → HeardIn language moment here heard
     → Hears moment talk.who heard acts said who
     → IsNumberedTranscript language moment None (numbered so.front ++ with_number (feeds so.front + 1) here)
-    (done ++ acts) (spoken (past ++ written) counted) who (so.refused ++ mark said.refused (feeds so.front + 1))
-refusals_more language moment talk who counted heard read past done so here acts said written unwritten parts whole
-    refused broke hears says =
+    (done ++ acts) (spoken text counted) who (so.refused ++ mark said.refused (feeds so.front + 1))
+refusals_more language moment talk who counted heard read past done so here acts said text whole refused broke
+    hears says =
     subst (λ (s : Spoken). IsNumberedTranscript language moment None
     (numbered so.front ++ with_number (feeds so.front + 1) here) (done ++ acts) s who
     (so.refused ++ mark said.refused (feeds so.front + 1)))
-    (spoken_more past talk.tally counted said written unwritten parts whole refused broke)
+    (spoken_more (past ++ talk.waiting.items) text talk.tally counted said whole refused broke)
     (refusals_on language moment None (numbered so.front) (with_number (feeds so.front + 1) here) done acts
-    (spoken past talk.tally) said talk.who who so.refused (mark said.refused (feeds so.front + 1)) so.refuses
+    (spoken (past ++ talk.waiting.items) talk.tally) said talk.who who so.refused
+    (mark said.refused (feeds so.front + 1)) so.refuses
     (refusals_heard language moment talk.who (feeds so.front + 1) here heard acts said who hears says))
 
 -- the number of the line after
@@ -215,156 +242,290 @@ pub step_feed : {S : Type 0} (language : Language) (machine : S
     → after.line ≡ min (talk.line + 1) (2 ^ 64 - 1)
     → ((seen : List ℕ) → IsPartialLine talk.held seen
     → HeardIn language moment (fitting seen (without_return seen)) heard)
-    → Told result machine a b p q moment talk.who after.who talk.tally after.tally talk.line heard
+    → Told result machine a b p q moment talk.who after.who talk.tally after.tally talk.line heard talk.waiting.items
+    after.waiting.items
     → OnOk result (StepsOn language machine a b p q moment talk after (byte ∷ []))
 step_feed language machine (Err error) a b p q moment talk after heard byte feed none next hears t = tt
 step_feed language machine (Ok v) a b p q moment talk after heard byte feed none next hears t = record {
   acts = t.acts;
   goes = t.goes;
-  written = t.written;
-  appended = t.appended;
-  steps = λ read past done so. record {
-    front = read ++ byte ∷ [];
-    seen = [];
-    parted = sym (append-nil (read ++ byte ∷ []));
-    ended = inr (read, ap (λ (n : ℕ). read ++ n ∷ []) feed);
-    unended = tt;
-    held = none;
-    line = next ∙ line_more talk.line (feeds so.front + 1) so.line
-        ∙ ap (λ (n : ℕ). capped (n + 1)) (sym (feeds_fed read so.front so.seen byte feed so.parted so.unended));
-    refused = so.refused ++ mark t.said.refused (feeds so.front + 1);
-    refuses = subst (λ (l : List (ℕ × Line)). IsNumberedTranscript language moment None l (done ++ t.acts)
-        (spoken (past ++ t.written) after.tally) after.who (so.refused ++ mark t.said.refused (feeds so.front + 1)))
-        (sym (numbered_fed read so.front so.seen byte feed so.parted so.ended so.unended))
-        (refusals_more language moment talk after.who after.tally heard read past done so
-        (fitting so.seen (without_return so.seen)) t.acts t.said t.written t.unwritten t.parts t.whole t.refused t.broke
-        (hears so.seen so.held) t.hears);
-    reason = t.reason ∙ ap (λ (n : ℕ). counts talk.tally.reason n t.said.refused) so.line
-        ∙ reason_more so.refused (feeds so.front + 1) t.said.refused talk.tally.reason so.reason;
-    transcript = subst (λ (l : List Line). IsServedTranscript language moment None l (done ++ t.acts)
-        (spoken (past ++ t.written) after.tally) after.who)
-        (sym (lines_fed read so.front so.seen byte feed so.parted so.ended so.unended))
-        (subst (λ (s : Spoken). IsServedTranscript language moment None (lines so.front
-        ++ fitting so.seen (without_return so.seen)) (done ++ t.acts) s after.who)
-        (spoken_more past talk.tally after.tally t.said t.written t.unwritten t.parts t.whole t.refused t.broke)
-        (transcript_on language moment None (lines so.front) (fitting so.seen (without_return so.seen)) done t.acts
-        (spoken past talk.tally) t.said talk.who after.who so.transcript
-        (transcript_heard language moment talk.who (fitting so.seen (without_return so.seen)) heard t.acts
-        t.said after.who (hears so.seen so.held) t.hears)));
-  };
+  written = t.adds.0;
+  appended = t.adds.1;
+  steps = λ read past done so.
+      let text = (past ++ t.adds.0) ++ after.waiting.items in
+      let whole = said_on past talk.waiting.items t.said.text t.adds.0 after.waiting.items t.adds.2 in
+      record {
+        front = read ++ byte ∷ [];
+        seen = [];
+        parted = sym (append-nil (read ++ byte ∷ []));
+        ended = inr (read, ap (λ (n : ℕ). read ++ n ∷ []) feed);
+        unended = tt;
+        held = none;
+        line = next ∙ line_more talk.line (feeds so.front + 1) so.line
+            ∙ ap (λ (n : ℕ). capped (n + 1)) (sym (feeds_fed read so.front so.seen byte feed so.parted so.unended));
+        refused = so.refused ++ mark t.said.refused (feeds so.front + 1);
+        refuses = subst (λ (l : List (ℕ × Line)). IsNumberedTranscript language moment None l (done ++ t.acts)
+            (spoken text after.tally) after.who (so.refused ++ mark t.said.refused (feeds so.front + 1)))
+            (sym (numbered_fed read so.front so.seen byte feed so.parted so.ended so.unended))
+            (refusals_more language moment talk after.who after.tally heard read past done so
+            (fitting so.seen (without_return so.seen)) t.acts t.said text whole t.refused t.broke
+            (hears so.seen so.held) t.hears);
+        reason = t.reason ∙ ap (λ (n : ℕ). counts talk.tally.reason n t.said.refused) so.line
+            ∙ reason_more so.refused (feeds so.front + 1) t.said.refused talk.tally.reason so.reason;
+        transcript = subst (λ (l : List Line). IsServedTranscript language moment None l (done ++ t.acts)
+            (spoken text after.tally) after.who)
+            (sym (lines_fed read so.front so.seen byte feed so.parted so.ended so.unended))
+            (transcript_more language moment talk after.who after.tally heard read past done so
+            (fitting so.seen (without_return so.seen)) t.acts t.said text whole t.refused t.broke
+            (hears so.seen so.held) t.hears);
+      };
 }
 
 abbrev no_bytes : List ℕ
 no_bytes = []
 
--- It broke off in the line that was answered last.
-unfinished : {S : Type 0} (language : Language) (machine : S
-    → Machine) (at_end : Type 0) (error : SessionError) (a b : S) (p q : Option (List ℕ)) (moment : Moment)
-    (talk after : Talk) (heard : Heard) (here : List Line) (read bytes past : List ℕ) (done : List Act)
-    → (so : SoFar language moment talk read past done) → AreWholeLines (read ++ bytes)
-    ⊎ ((no_bytes ≡ no_bytes) × at_end) → lines (read ++ bytes) ≡ lines so.front ++ here
-    → HeardIn language moment here heard
-    → (t : Told (Err error) machine a b p q moment talk.who after.who talk.tally after.tally talk.line heard)
-    → Unfinished language at_end moment error (read ++ bytes) (past ++ t.written) (done ++ t.acts)
-unfinished language machine at_end error a b p q moment talk after heard here read bytes past done so
-    ended same hears t =
-    let l = heard_line language moment talk.who here heard t.acts t.said after.who t.line hears t.hears in
-    record {
-      front = read ++ bytes;
-      behind = [];
-      parted = sym (append-nil (read ++ bytes));
-      ended = ended;
-      before = lines so.front;
-      line = l.0;
-      answered = same ∙ ap (λ (m : List Line). lines so.front ++ m) l.2;
-      first = done;
-      earlier = spoken past talk.tally;
-      mid = talk.who;
-      transcript = so.transcript;
-      more = t.acts;
-      here = t.said;
-      who = after.who;
-      says = l.1;
-      acts_are = refl;
-      part = t.written;
-      unwritten = t.unwritten;
-      parts = t.parts;
-      written_is = refl;
-      cut = t.cut;
-    }
+-- The line that was answered last: these bytes end it, or the input ends.
+record Last (language : Language) (at_end : Type 0) (moment : Moment) (heard : Heard)
+    (front all : List ℕ) : Type 0 where
+  here : List Line
+  ended : AreWholeLines all ⊎ ((no_bytes ≡ no_bytes) × at_end)
+  same : lines all ≡ lines front ++ here
+  hears : HeardIn language moment here heard
+
+-- It broke off there.
+module _ {S : Type 0} (language : Language) (machine : S → Machine) (at_end : Type 0) (a b : S)
+    (p q : Option (List ℕ)) (moment : Moment) (talk after : Talk) (heard : Heard) (waits bytes : List ℕ) where
+  breaks_last : (error : SessionError) → ((read past : List ℕ) (done : List Act)
+      → (so : SoFar language moment talk read past done)
+      → Last language at_end moment heard so.front (read ++ bytes))
+      → Told (Err error) machine a b p q moment talk.who after.who talk.tally after.tally talk.line heard
+      talk.waiting.items waits
+      → BreaksOff language at_end machine a b p q moment talk error bytes
+  breaks_last Read ends t = absurd t.adds
+  breaks_last Write ends t = record {
+    acts = t.acts;
+    goes = t.goes;
+    written = t.adds.0;
+    appended = t.adds.2;
+    breaks = λ read past done so.
+        let l = ends read past done so in
+        let text = (past ++ t.adds.0) ++ t.adds.1 in
+        record {
+          front = read ++ bytes;
+          behind = [];
+          parted = sym (append-nil (read ++ bytes));
+          ended = l.ended;
+          said = spoken text after.tally;
+          who = after.who;
+          transcript = subst (λ (k : List Line). IsServedTranscript language moment None k (done ++ t.acts)
+              (spoken text after.tally) after.who) (sym l.same)
+              (transcript_more language moment talk after.who after.tally heard read past done so l.here t.acts t.said
+              text (said_on past talk.waiting.items t.said.text t.adds.0 t.adds.1 t.adds.3) t.refused t.broke l.hears
+              t.hears);
+          unwritten = t.adds.1;
+          parts = refl;
+          some = t.adds.4;
+        };
+  }
+  breaks_last NoMemory ends t = record {
+    acts = t.acts;
+    goes = t.goes;
+    written = talk.waiting.items;
+    appended = t.adds;
+    breaks = λ read past done so.
+        let l = ends read past done so in
+        let k = heard_line language moment talk.who l.here heard t.acts t.said after.who (t.line refl) l.hears t.hears in
+        record {
+          front = read ++ bytes;
+          behind = [];
+          parted = sym (append-nil (read ++ bytes));
+          ended = l.ended;
+          before = lines so.front;
+          line = k.0;
+          answered = l.same ∙ ap (λ (m : List Line). lines so.front ++ m) k.2;
+          first = done;
+          earlier = spoken (past ++ talk.waiting.items) talk.tally;
+          mid = talk.who;
+          transcript = so.transcript;
+          more = t.acts;
+          here = t.said;
+          who = after.who;
+          says = k.1;
+          acts_are = refl;
+          written_is = refl;
+        };
+  }
 
 pub break_feed : {S : Type 0} (language : Language) (machine : S
     → Machine) (result : Result (Unit {0}) SessionError) (a b : S) (p q : Option (List ℕ)) (moment : Moment)
     (talk after : Talk) (heard : Heard) (byte : ℕ) → byte ≡ 10
     → ((seen : List ℕ) → IsPartialLine talk.held seen
     → HeardIn language moment (fitting seen (without_return seen)) heard)
-    → Told result machine a b p q moment talk.who after.who talk.tally after.tally talk.line heard
+    → Told result machine a b p q moment talk.who after.who talk.tally after.tally talk.line heard talk.waiting.items
+    after.waiting.items
     → IfErr result (λ error. BreaksOff language ⊥ machine a b p q moment talk error (byte ∷ []))
 break_feed language machine (Ok v) a b p q moment talk after heard byte feed hears t = tt
-break_feed language machine (Err error) a b p q moment talk after heard byte feed hears t = record {
-  acts = t.acts;
-  goes = t.goes;
-  written = t.written;
-  appended = t.appended;
-  breaks = λ read past done so. unfinished language machine ⊥ error a b p q moment talk after heard
-      (fitting so.seen (without_return so.seen)) read (byte ∷ []) past done so
-      (inl (inr (read, ap (λ (n : ℕ). read ++ n ∷ []) feed)))
-      (lines_fed read so.front so.seen byte feed so.parted so.ended so.unended) (hears so.seen so.held) t;
+break_feed language machine (Err error) a b p q moment talk after heard byte feed hears t =
+    breaks_last language machine ⊥ a b p q moment talk after heard after.waiting.items (byte ∷ []) error
+    (λ read past done so. record {
+      here = fitting so.seen (without_return so.seen);
+      ended = inl (inr (read, ap (λ (n : ℕ). read ++ n ∷ []) feed));
+      same = lines_fed read so.front so.seen byte feed so.parted so.ended so.unended;
+      hears = hears so.seen so.held;
+    }) t
+
+-- What waits is written, after bytes.
+
+pub steps_flushed : {S : Type 0} (language : Language) (machine : S → Machine) (a b : S) (p q r : Option (List ℕ))
+    (moment : Moment) (talk mid after : Talk) (result : Result (Unit {0}) SessionError) (bytes : List ℕ)
+    → after.held ≡ mid.held → after.line ≡ mid.line → after.who ≡ mid.who → after.tally ≡ mid.tally
+    → StepsOn language machine a b p q moment talk mid bytes
+    → IsFlushed q r mid.waiting.items after.waiting.items result
+    → OnOk result (StepsOn language machine a b p r moment talk after bytes)
+steps_flushed language machine a b p q r moment talk mid after (Err error) bytes held line who tally s f = tt
+steps_flushed language machine a b p q r moment talk mid after (Ok unit) bytes held line who tally s f = record {
+  acts = s.acts;
+  goes = s.goes;
+  written = s.written ++ f.0;
+  appended = Appends-trans p q r s.written f.0 s.appended f.1;
+  steps = λ read past done so.
+      let last = s.steps read past done so in
+      let whole = waits_on past s.written mid.waiting.items f.0 after.waiting.items f.2 in
+      let tally' = sym tally in
+      let who' = sym who in
+      record {
+        front = last.front;
+        seen = last.seen;
+        parted = last.parted;
+        ended = last.ended;
+        unended = last.unended;
+        held = subst (λ (h : PartialLine). IsPartialLine h last.seen) (sym held) last.held;
+        line = line ∙ last.line;
+        transcript = subst (λ (x : List ℕ × Tally × Option ℕ). IsServedTranscript language moment None
+            (lines last.front) (done ++ s.acts) (spoken x.0 x.1) x.2)
+            (λ i. (whole i, tally' i, who' i)) last.transcript;
+        refused = last.refused;
+        refuses = subst (λ (x : List ℕ × Tally × Option ℕ). IsNumberedTranscript language moment None
+            (numbered last.front) (done ++ s.acts) (spoken x.0 x.1) x.2 last.refused)
+            (λ i. (whole i, tally' i, who' i)) last.refuses;
+        reason = ap (λ (t : Tally). t.reason) tally ∙ last.reason;
+      };
 }
+
+pub steps_unwritten : {S : Type 0} (language : Language) (machine : S → Machine) (a b : S) (p q r : Option (List ℕ))
+    (moment : Moment) (talk mid : Talk) (waits : List ℕ) (result : Result (Unit {0}) SessionError) (bytes : List ℕ)
+    → StepsOn language machine a b p q moment talk mid bytes → IsFlushed q r mid.waiting.items waits result
+    → IfErr result (λ error. BreaksOff language ⊥ machine a b p r moment talk error bytes)
+steps_unwritten language machine a b p q r moment talk mid waits (Ok unit) bytes s f = tt
+steps_unwritten language machine a b p q r moment talk mid waits (Err error) bytes s f =
+    subst (λ (e : SessionError). BreaksOff language ⊥ machine a b p r moment talk e bytes) (sym f.0) (record {
+      acts = s.acts;
+      goes = s.goes;
+      written = s.written ++ f.1;
+      appended = Appends-trans p q r s.written f.1 s.appended f.3;
+      breaks = λ read past done so.
+          let last = s.steps read past done so in
+          record {
+            front = last.front;
+            behind = last.seen;
+            parted = last.parted;
+            ended = inl last.ended;
+            said = spoken ((past ++ s.written) ++ mid.waiting.items) mid.tally;
+            who = mid.who;
+            transcript = last.transcript;
+            unwritten = f.2;
+            parts = waits_on past s.written mid.waiting.items f.1 f.2 f.4;
+            some = f.5;
+          };
+    })
+
+-- What waits is written, after a line.
+
+module _ {S : Type 0} (machine : S → Machine) (a b : S) (p q r : Option (List ℕ)) (moment : Moment)
+    (who then_who : Option ℕ) (tally counted : Tally) (number : ℕ) (heard : Heard) (waiting mid after : List ℕ)
+    (t : Told (Ok tt) machine a b p q moment who then_who tally counted number heard waiting mid) where
+  pub told_flushed : IsFlushed q r mid after (Ok tt)
+      → Told (Ok tt) machine a b p r moment who then_who tally counted number heard waiting after
+  told_flushed f = record {
+    acts = t.acts;
+    said = t.said;
+    hears = t.hears;
+    goes = t.goes;
+    refused = t.refused;
+    broke = t.broke;
+    reason = t.reason;
+    adds = adds_flushed p q r waiting mid after t.said.text t.adds f;
+    line = tt;
+  }
+
+  pub told_unwritten : (error : SessionError) → IsFlushed q r mid after (Err error)
+      → Told (Err error) machine a b p r moment who then_who tally counted number heard waiting after
+  told_unwritten error f = record {
+    acts = t.acts;
+    said = t.said;
+    hears = t.hears;
+    goes = t.goes;
+    refused = t.refused;
+    broke = t.broke;
+    reason = t.reason;
+    adds = adds_unwritten p q r error waiting mid after t.said.text t.adds f;
+    line = λ is. absurd (other (sym f.0 ∙ is));
+  }
+    where
+      other : Write ≡ NoMemory → ⊥
+      other is = cc
 
 -- The end of the input.
 pub break_end : {S : Type 0} (language : Language) (machine : S → Machine) (error : SessionError) (a b : S)
-    (p q : Option (List ℕ)) (moment : Moment) (talk after : Talk) (heard : Heard)
+    (p q : Option (List ℕ)) (moment : Moment) (talk after : Talk) (heard : Heard) (waits : List ℕ)
     → ((seen : List ℕ) → IsPartialLine talk.held seen → HeardIn language moment (fitting seen seen) heard)
     → Told (Err error) machine a b p q moment talk.who after.who talk.tally after.tally talk.line heard
+    talk.waiting.items waits
     → BreaksOff language (Unit {0}) machine a b p q moment talk error []
-break_end language machine error a b p q moment talk after heard hears t = record {
-  acts = t.acts;
-  goes = t.goes;
-  written = t.written;
-  appended = t.appended;
-  breaks = λ read past done so. unfinished language machine (Unit {0}) error a b p q moment talk after heard
-      (fitting so.seen so.seen) read [] past done so
-      (inr (refl, tt)) (ap lines (append-nil read) ∙ lines_ended read so.front so.seen so.parted so.ended so.unended)
-      (hears so.seen so.held) t;
-}
+break_end language machine error a b p q moment talk after heard waits hears t =
+    breaks_last language machine (Unit {0}) a b p q moment talk after heard waits [] error
+    (λ read past done so. record {
+      here = fitting so.seen so.seen;
+      ended = inr (refl, tt);
+      same = ap lines (append-nil read) ∙ lines_ended read so.front so.seen so.parted so.ended so.unended;
+      hears = hears so.seen so.held;
+    }) t
 
-pub end_well : {S : Type 0} (language : Language) (machine : S → Machine) (v : Unit {0}) (a b c : S)
-    (p q : Option (List ℕ)) (moment : Moment) (talk after : Talk) (heard : Heard)
+pub end_well : {S : Type 0} (language : Language) (machine : S → Machine) (a b c : S)
+    (p q : Option (List ℕ)) (moment : Moment) (talk after : Talk) (heard : Heard) (waits : List ℕ)
     → ((seen : List ℕ) → IsPartialLine talk.held seen → HeardIn language moment (fitting seen seen) heard)
-    → Told (Ok v) machine a b p q moment talk.who after.who talk.tally after.tally talk.line heard
-    → Closed language machine b c moment
+    → Told (Ok tt) machine a b p q moment talk.who after.who talk.tally after.tally talk.line heard talk.waiting.items
+    waits → waits ≡ [] → Closed language machine b c moment
     → EndsWell language machine a c p q moment talk after.tally
-end_well language machine v a b c p q moment talk after heard hears t end = record {
+end_well language machine a b c p q moment talk after heard waits hears t none end = record {
   acts = t.acts ++ end.acts;
   goes = goes_on machine a b c t.acts end.acts t.goes end.goes;
-  written = t.written;
-  appended = t.appended;
-  ends = λ read past done so. record {
-    talked = done ++ t.acts;
-    who = after.who;
-    transcript = subst (λ (l : List Line). IsServedTranscript language moment None l (done ++ t.acts)
-        (spoken (past ++ t.written) after.tally) after.who)
-        (sym (lines_ended read so.front so.seen so.parted so.ended so.unended))
-        (subst (λ (s : Spoken). IsServedTranscript language moment None (lines so.front ++ fitting so.seen so.seen)
-        (done ++ t.acts) s after.who)
-        (spoken_more past talk.tally after.tally t.said t.written t.unwritten t.parts t.whole t.refused t.broke)
-        (transcript_on language moment None (lines so.front) (fitting so.seen so.seen) done t.acts
-        (spoken past talk.tally) t.said talk.who after.who so.transcript
-        (transcript_heard language moment talk.who (fitting so.seen so.seen) heard t.acts t.said after.who
-        (hears so.seen so.held) t.hears)));
-    refused = so.refused ++ mark t.said.refused (feeds so.front + 1);
-    refuses = subst (λ (l : List (ℕ × Line)). IsNumberedTranscript language moment None l (done ++ t.acts)
-        (spoken (past ++ t.written) after.tally) after.who (so.refused ++ mark t.said.refused (feeds so.front + 1)))
-        (sym (numbered_ended read so.front so.seen so.parted so.ended so.unended))
-        (refusals_more language moment talk after.who after.tally heard read past done so (fitting so.seen so.seen)
-        t.acts t.said t.written t.unwritten t.parts t.whole t.refused t.broke (hears so.seen so.held) t.hears);
-    reason = t.reason ∙ ap (λ (n : ℕ). counts talk.tally.reason n t.said.refused) so.line
-        ∙ reason_more so.refused (feeds so.front + 1) t.said.refused talk.tally.reason so.reason;
-    closing = end.acts;
-    closes = end.closes;
-    acts_are = sym (append_assoc done t.acts end.acts);
-  };
+  written = t.adds.0;
+  appended = t.adds.1;
+  ends = λ read past done so.
+      let text = past ++ t.adds.0 in
+      let whole = said_on past talk.waiting.items t.said.text t.adds.0 waits t.adds.2
+      ∙ ap (λ (l : List ℕ). text ++ l) none ∙ append-nil text in
+      record {
+        talked = done ++ t.acts;
+        who = after.who;
+        transcript = subst (λ (l : List Line). IsServedTranscript language moment None l (done ++ t.acts)
+            (spoken text after.tally) after.who)
+            (sym (lines_ended read so.front so.seen so.parted so.ended so.unended))
+            (transcript_more language moment talk after.who after.tally heard read past done so
+            (fitting so.seen so.seen) t.acts t.said text whole t.refused t.broke (hears so.seen so.held) t.hears);
+        refused = so.refused ++ mark t.said.refused (feeds so.front + 1);
+        refuses = subst (λ (l : List (ℕ × Line)). IsNumberedTranscript language moment None l (done ++ t.acts)
+            (spoken text after.tally) after.who (so.refused ++ mark t.said.refused (feeds so.front + 1)))
+            (sym (numbered_ended read so.front so.seen so.parted so.ended so.unended))
+            (refusals_more language moment talk after.who after.tally heard read past done so (fitting so.seen so.seen)
+            t.acts t.said text whole t.refused t.broke (hears so.seen so.held) t.hears);
+        reason = t.reason ∙ ap (λ (n : ℕ). counts talk.tally.reason n t.said.refused) so.line
+            ∙ reason_more so.refused (feeds so.front + 1) t.said.refused talk.tally.reason so.reason;
+        closing = end.acts;
+        closes = end.closes;
+        acts_are = sym (append_assoc done t.acts end.acts);
+      };
 }
 
 -- What is done at the end.
@@ -387,9 +548,9 @@ closed_still machine stands language a moment e = subst (λ (l : Language). Clos
 -- What was heard is told.
 
 pub told_nothing : {S : Type 0} (machine : S → Machine) (stands : AlwaysStands machine) (m : S) (sink : Option (List ℕ))
-    (moment : Moment) (who : Option ℕ) (tally : Tally) (number : ℕ) (heard : Heard) → heard ≡ Nothing
-    → Told (Ok tt) machine m m sink sink moment who who tally tally number heard
-told_nothing machine stands m sink moment who tally number heard e = record {
+    (moment : Moment) (who : Option ℕ) (tally : Tally) (number : ℕ) (heard : Heard) (waiting : List ℕ)
+    → heard ≡ Nothing → Told (Ok tt) machine m m sink sink moment who who tally tally number heard waiting waiting
+told_nothing machine stands m sink moment who tally number heard waiting e = record {
   acts = [];
   said = silent;
   hears = subst (λ (h : Heard). Hears moment who h [] silent who) (sym e) (refl, refl, refl);
@@ -397,12 +558,7 @@ told_nothing machine stands m sink moment who tally number heard e = record {
   refused = or-false tally.refused;
   broke = or-false tally.broke;
   reason = refl;
-  written = [];
-  unwritten = [];
-  appended = Appends-nil sink;
-  parts = refl;
-  whole = refl;
-  cut = tt;
+  adds = ([], Appends-nil sink, append-nil waiting);
   line = tt;
 }
 
@@ -414,11 +570,12 @@ pub record IsCounted (tally : Tally) (number : ℕ) (line counted : Tally) : Typ
 
 module _ {V E S : Type 0} (machine : S → Machine) (bytes : V → List ℕ) (a b : S) (p q : Option (List ℕ))
     (moment : Moment) (who after : Option ℕ) (tally line counted : Tally) (number : ℕ) (heard : Heard)
-    (some : heard ≢ Nothing) (is : IsCounted tally number line counted) where
+    (waiting waits : List ℕ) (some : heard ≢ Nothing) (is : IsCounted tally number line counted) where
   told_put : (result : Result (Unit {0}) SessionError) (text : Result V E)
-      → Replied bytes text machine a b moment who after fresh line heard → WritesText bytes result p q text
-      → Told result machine a b p q moment who after tally counted number heard
-  told_put (Ok u) (Ok v) s put = record {
+      → Replied bytes text machine a b moment who after fresh line heard
+      → ((said : List ℕ) → IfOk text (λ v. bytes v ≡ said) → AddsText p q waiting waits said result)
+      → Told result machine a b p q moment who after tally counted number heard waiting waits
+  told_put result text s put = record {
     acts = s.acts;
     said = s.said;
     hears = s.hears;
@@ -426,47 +583,14 @@ module _ {V E S : Type 0} (machine : S → Machine) (bytes : V → List ℕ) (a 
     refused = is.refused ∙ ap (λ (t : Bool). tally.refused || t) s.refused;
     broke = is.broke ∙ ap (λ (t : Bool). tally.broke || t) s.broke;
     reason = is.reason ∙ ap (counts tally.reason number) s.refused;
-    written = bytes v;
-    unwritten = [];
-    appended = put.0;
-    parts = sym s.text ∙ sym (append-nil (bytes v));
-    whole = refl;
-    cut = tt;
-    line = tt;
+    adds = put s.said.text s.text;
+    line = some_line result;
   }
-  told_put (Err error) (Ok v) s put = record {
-    acts = s.acts;
-    said = s.said;
-    hears = s.hears;
-    goes = s.goes;
-    refused = is.refused ∙ ap (λ (t : Bool). tally.refused || t) s.refused;
-    broke = is.broke ∙ ap (λ (t : Bool). tally.broke || t) s.broke;
-    reason = is.reason ∙ ap (counts tally.reason number) s.refused;
-    written = put.1.1.0;
-    unwritten = put.1.1.1;
-    appended = put.1.1.2;
-    parts = sym s.text ∙ put.1.1.3;
-    whole = tt;
-    cut = subst (λ (x : SessionError). IsCut x put.1.1.0 put.1.1.1) (sym put.1.0) put.1.1.4;
-    line = some;
-  }
-  told_put result (Err e) s put = record {
-    acts = s.acts;
-    said = s.said;
-    hears = s.hears;
-    goes = s.goes;
-    refused = is.refused ∙ ap (λ (t : Bool). tally.refused || t) s.refused;
-    broke = is.broke ∙ ap (λ (t : Bool). tally.broke || t) s.broke;
-    reason = is.reason ∙ ap (counts tally.reason number) s.refused;
-    written = [];
-    unwritten = s.said.text;
-    appended = subst (λ (l : Option (List ℕ)). Appends p l []) (sym put.1) (Appends-nil p);
-    parts = refl;
-    whole = subst (λ (x : Result (Unit {0}) SessionError). OnOk x (s.said.text ≡ [])) (sym put.0) tt;
-    cut = subst (λ (x : Result (Unit {0}) SessionError). IfErr x (λ error. IsCut error [] s.said.text))
-        (sym put.0) refl;
-    line = subst (λ (x : Result (Unit {0}) SessionError). OnErr x (heard ≢ Nothing)) (sym put.0) some;
-  }
+    where
+      some_line : (result : Result (Unit {0}) SessionError)
+          → IfErr result (λ error. error ≡ NoMemory → heard ≢ Nothing)
+      some_line (Ok u) = tt
+      some_line (Err error) = λ none. some
 
 is_something : (heard : Heard) (meant : Option Command) → heard ≡ Said meant → heard ≢ Nothing
 is_something heard meant e n = let wrong = sym e ∙ n in cc
@@ -477,13 +601,14 @@ is_an_order heard order e n = let wrong = sym e ∙ n in cc
 module _ {V E S : Type 0} (machine : S → Machine) (bytes : V
     → List ℕ) (result : Result (Unit {0}) SessionError) (text : Result V E) (a b : S) (p q : Option (List ℕ))
     (moment : Moment) (who after : Option ℕ) (tally none line counted : Tally) (number : ℕ) (heard : Heard)
-    (is : IsCounted tally number line counted) (new : none ≡ fresh) where
+    (waiting waits : List ℕ) (is : IsCounted tally number line counted) (new : none ≡ fresh) where
   pub told_said : (meant : Option Command) → heard ≡ Said meant
-      → Spoke bytes text machine a b moment who after none line meant → WritesText bytes result p q text
-      → Told result machine a b p q moment who after tally counted number heard
+      → Spoke bytes text machine a b moment who after none line meant
+      → ((said : List ℕ) → IfOk text (λ v. bytes v ≡ said) → AddsText p q waiting waits said result)
+      → Told result machine a b p q moment who after tally counted number heard waiting waits
   told_said meant e r put =
       let s = subst (λ (t : Tally). Spoke bytes text machine a b moment who after t line meant) new r in
-      told_put machine bytes a b p q moment who after tally line counted number heard
+      told_put machine bytes a b p q moment who after tally line counted number heard waiting waits
       (is_something heard meant e) is result text
       (subst (Replied bytes text machine a b moment who after fresh line) (sym e) (record {
         acts = s.acts;
@@ -496,10 +621,11 @@ module _ {V E S : Type 0} (machine : S → Machine) (bytes : V
       })) put
 
   pub told_ordered : (order : Option Event) → heard ≡ Ordered order
-      → Replied bytes text machine a b moment who after none line (Ordered order) → WritesText bytes result p q text
-      → Told result machine a b p q moment who after tally counted number heard
+      → Replied bytes text machine a b moment who after none line (Ordered order)
+      → ((said : List ℕ) → IfOk text (λ v. bytes v ≡ said) → AddsText p q waiting waits said result)
+      → Told result machine a b p q moment who after tally counted number heard waiting waits
   told_ordered order e r put =
       let s = subst (λ (t : Tally). Replied bytes text machine a b moment who after t line (Ordered order)) new r in
-      told_put machine bytes a b p q moment who after tally line counted number heard
+      told_put machine bytes a b p q moment who after tally line counted number heard waiting waits
       (is_an_order heard order e) is result text
       (subst (Replied bytes text machine a b moment who after fresh line) (sym e) s) put

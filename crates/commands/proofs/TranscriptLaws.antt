@@ -132,13 +132,10 @@ events_who moment who (line ∷ lines) acts said after (first, more, here, there
     events_who moment mid lines more there after rest ∙ says.3
 
 -- what is said when a line is added to what was said
-pub spoken_more : (past : List ℕ) (tally counted : Tally) (said : Spoken) (written unwritten : List ℕ)
-    → said.text ≡ written ++ unwritten → unwritten ≡ []
+pub spoken_more : (past after : List ℕ) (tally counted : Tally) (said : Spoken) → past ++ said.text ≡ after
     → counted.refused ≡ tally.refused || said.refused → counted.broke ≡ tally.broke || said.broke
-    → both_said (spoken past tally) said ≡ spoken (past ++ written) counted
-spoken_more past tally counted said written unwritten e n f h =
-    let t : past ++ said.text ≡ past ++ written = ap (λ (l : List ℕ). past ++ l) (e
-    ∙ ap (λ (l : List ℕ). written ++ l) n ∙ append-nil written) in
+    → both_said (spoken past tally) said ≡ spoken after counted
+spoken_more past after tally counted said t f h =
     let f' = sym f in
     let h' = sym h in
     λ i. record { text = t i; refused = f' i; broke = h' i }

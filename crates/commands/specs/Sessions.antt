@@ -1,6 +1,6 @@
 -- A whole session, a whole call script, and the parts that they are made of.
 use Rattle.std.specs.Prelude.{◌≡◌, ◌≢◌, ◌<◌, ◌||◌, ◌+◌, ℕ, List, [], ◌∷◌, ◌++◌, length, Option, None, Result, Ok}
-use Rattle.std.specs.Prelude.{Err, IfOk, IfErr, OnOk, OnErr}
+use Rattle.std.specs.Prelude.{Err, IfOk, IfErr, OnOk}
 use Rattle.std.specs.Io.KnownBytes.{Consumes, Appends, IsAtEnd}
 use Rattle.words36.specs.declared.moment.Moment.{Moment}
 use Rattle.meaning.specs.Commands.{Means}
@@ -17,7 +17,7 @@ use Rattle.commands.specs.Machines.{Machine, GoesBy}
 use Rattle.meaning.specs.Scripts.{MeansEvent}
 use Rattle.commands.specs.Reasons.{capped, counts, feeds, numbered, reason_of}
 use Rattle.commands.specs.Streams.{IsServedTranscript, IsNumberedTranscript, IsServedSession, IsServedScript, spoken}
-use Rattle.commands.specs.Streams.{HasNoFeed, AreWholeLines, Finished, CutShort, IsCut, Unfinished}
+use Rattle.commands.specs.Streams.{HasNoFeed, AreWholeLines, Finished, CutShort, CutOff, Unfinished}
 use Rattle.commands.specs.declared.error.SessionError.{SessionError}
 use Rattle.commands.specs.declared.error.SessionError.TheVariants.{Read, Write, NoMemory}
 use Rattle.commands.specs.declared.answer.Tally.{Tally}
@@ -82,10 +82,40 @@ WritesText bytes result sink full (Ok v) =
     × (bytes v ≡ written ++ unwritten) × (0 < length unwritten)))
 WritesText bytes result sink full (Err error) = (result ≡ Err NoMemory) × (full ≡ sink)
 
--- What was heard in the line of this number was answered and counted, and a beginning of its text was written.
+-- Texts that wait to be written.
+
+-- Of what waited this was written, and the rest waits still; or the writer refused the rest.
+abbrev pub IsFlushed : Option (List ℕ) → Option (List ℕ) → List ℕ → List ℕ → Result (Unit {0}) SessionError → Type 0
+IsFlushed sink full waiting after (Ok unit) =
+    (written : List ℕ) × Appends sink full written × (waiting ≡ written ++ after)
+IsFlushed sink full waiting after (Err error) =
+    (error ≡ Write) × (written : List ℕ) × (unwritten : List ℕ) × Appends sink full written
+    × (waiting ≡ written ++ unwritten) × (0 < length unwritten)
+
+-- What waited was written, and there is no memory for a text more; or the writer refused the rest of it.
+abbrev pub IsGivenUp : Option (List ℕ) → Option (List ℕ) → List ℕ → SessionError → Type 0
+IsGivenUp sink full waiting Read = ⊥
+IsGivenUp sink full waiting Write =
+    (written : List ℕ) × (unwritten : List ℕ) × Appends sink full written × (waiting ≡ written ++ unwritten)
+    × (0 < length unwritten)
+IsGivenUp sink full waiting NoMemory = Appends sink full waiting
+
+-- A text was added to what waited, and some of all this was written; or the writer refused the rest of it; or there was
+-- no memory for the text, and what waited was written.
+abbrev pub AddsText : Option (List ℕ) → Option (List ℕ) → List ℕ → List ℕ → List ℕ → Result (Unit {0}) SessionError
+    → Type 0
+AddsText sink full waiting after text (Ok unit) =
+    (written : List ℕ) × Appends sink full written × (waiting ++ text ≡ written ++ after)
+AddsText sink full waiting after text (Err Read) = ⊥
+AddsText sink full waiting after text (Err Write) =
+    (written : List ℕ) × (unwritten : List ℕ) × Appends sink full written × (waiting ++ text ≡ written ++ unwritten)
+    × (0 < length unwritten)
+AddsText sink full waiting after text (Err NoMemory) = Appends sink full waiting
+
+-- What was heard in the line of this number was answered and counted, and its text was added to what waited.
 pub record Told {S : Type 0} (result : Result (Unit {0}) SessionError) (machine : S
     → Machine) (old new : S) (sink full : Option (List ℕ)) (moment : Moment) (who after : Option ℕ)
-    (tally counted : Tally) (number : ℕ) (heard : Heard) : Type 0 where
+    (tally counted : Tally) (number : ℕ) (heard : Heard) (waiting waits : List ℕ) : Type 0 where
   pub acts : List Act
   pub said : Spoken
   pub hears : Hears moment who heard acts said after
@@ -93,13 +123,8 @@ pub record Told {S : Type 0} (result : Result (Unit {0}) SessionError) (machine 
   pub refused : counted.refused ≡ tally.refused || said.refused
   pub broke : counted.broke ≡ tally.broke || said.broke
   pub reason : counted.reason ≡ counts tally.reason number said.refused
-  pub written : List ℕ
-  pub unwritten : List ℕ
-  pub appended : Appends sink full written
-  pub parts : said.text ≡ written ++ unwritten
-  pub whole : OnOk result (unwritten ≡ [])
-  pub cut : IfErr result (λ error. IsCut error written unwritten)
-  pub line : OnErr result (heard ≢ Nothing)
+  pub adds : AddsText sink full waiting waits said.text result
+  pub line : IfErr result (λ error. error ≡ NoMemory → heard ≢ Nothing)
 
 -- What is done at the end of the input was done.
 pub record Closed {S : Type 0} (language : Language) (machine : S
@@ -110,7 +135,7 @@ pub record Closed {S : Type 0} (language : Language) (machine : S
 
 -- Bytes of the input.
 
--- In mid-stream: what was read, and what was written for its lines that have ended.
+-- In mid-stream: what was read, and what was written for its lines that have ended, before what waits to be written.
 pub record SoFar (language : Language) (moment : Moment) (talk : Talk) (read written : List ℕ)
     (acts : List Act) : Type 0 where
   pub front : List ℕ
@@ -120,11 +145,18 @@ pub record SoFar (language : Language) (moment : Moment) (talk : Talk) (read wri
   pub unended : HasNoFeed seen
   pub held : IsPartialLine talk.held seen
   pub line : talk.line ≡ capped (feeds front + 1)
-  pub transcript : IsServedTranscript language moment None (lines front) acts (spoken written talk.tally) talk.who
+  pub transcript : IsServedTranscript language moment None (lines front) acts
+      (spoken (written ++ talk.waiting.items) talk.tally) talk.who
   pub refused : List ℕ
-  pub refuses : IsNumberedTranscript language moment None (numbered front) acts (spoken written talk.tally) talk.who
-      refused
+  pub refuses : IsNumberedTranscript language moment None (numbered front) acts
+      (spoken (written ++ talk.waiting.items) talk.tally) talk.who refused
   pub reason : talk.tally.reason ≡ reason_of refused
+
+-- Where it breaks off, by the error: the writer refused some text, or there was no memory for one.
+abbrev pub IsBreak : Language → Type 0 → Moment → List ℕ → List ℕ → List Act → SessionError → Type 0
+IsBreak language at_end moment read written acts Read = ⊥
+IsBreak language at_end moment read written acts Write = CutOff language at_end moment read written acts
+IsBreak language at_end moment read written acts NoMemory = Unfinished language at_end moment read written acts
 
 -- Whatever there was so far, it goes on by these bytes,
 pub record StepsOn {S : Type 0} (language : Language) (machine : S → Machine) (old new : S)
@@ -145,7 +177,7 @@ pub record BreaksOff {S : Type 0} (language : Language) (at_end : Type 0) (machi
   pub written : List ℕ
   pub appended : Appends sink full written
   pub breaks : (read past : List ℕ) (done : List Act) → SoFar language moment talk read past done
-      → Unfinished language at_end moment error (read ++ bytes) (past ++ written) (done ++ acts)
+      → IsBreak language at_end moment (read ++ bytes) (past ++ written) (done ++ acts) error
 
 -- or ends.
 pub record EndsWell {S : Type 0} (language : Language) (machine : S → Machine) (old new : S)
@@ -162,9 +194,8 @@ pub record EndsWell {S : Type 0} (language : Language) (machine : S → Machine)
 abbrev pub Ends : Language → Type 0 → Moment → List ℕ → List ℕ → List Act → Result Tally SessionError → Type 0
 Ends language at_end moment read written acts (Ok tally) = at_end × Finished language moment read written acts tally
 Ends language at_end moment read written acts (Err Read) = CutShort language moment read written acts
-Ends language at_end moment read written acts (Err Write) = Unfinished language at_end moment Write read written acts
-Ends language at_end moment read written acts (Err NoMemory) = Unfinished language at_end moment NoMemory
-    read written acts
+Ends language at_end moment read written acts (Err Write) = CutOff language at_end moment read written acts
+Ends language at_end moment read written acts (Err NoMemory) = Unfinished language at_end moment read written acts
 
 -- What was taken from the reader and put into the writer, and what became of the service.
 pub record Talked {S : Type 0} (language : Language) (source left sink full : Option (List ℕ)) (machine : S

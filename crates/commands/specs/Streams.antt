@@ -94,15 +94,30 @@ pub record CutShort (language : Language) (moment : Moment) (read written : List
   pub transcript : IsServedTranscript language moment None (lines front) acts said who
   pub whole : written ≡ said.text
 
--- Of a line's text this was written and this was not: the writer refused some of it, or there was no memory for it.
+-- Of a text this was written and this was not: the writer refused some of it, or there was no memory for it.
 abbrev pub IsCut : SessionError → List ℕ → List ℕ → Type 0
 IsCut Read written unwritten = ⊥
 IsCut Write written unwritten = 0 < length unwritten
 IsCut NoMemory written unwritten = written ≡ []
 
--- Lines were answered, and written but for the end of the last one's text; these lines had ended, or the input had.
-pub record Unfinished (language : Language) (at_end : Type 0) (moment : Moment) (error : SessionError)
-    (read written : List ℕ) (acts : List Act) : Type 0 where
+-- Lines were answered, and the writer holds a beginning of their text: it refused the rest.
+pub record CutOff (language : Language) (at_end : Type 0) (moment : Moment) (read written : List ℕ)
+    (acts : List Act) : Type 0 where
+  pub front : List ℕ
+  pub behind : List ℕ
+  pub parted : read ≡ front ++ behind
+  pub ended : AreWholeLines front ⊎ ((behind ≡ []) × at_end)
+  pub said : Spoken
+  pub who : Option ℕ
+  pub transcript : IsServedTranscript language moment None (lines front) acts said who
+  pub unwritten : List ℕ
+  pub parts : said.text ≡ written ++ unwritten
+  pub some : 0 < length unwritten
+
+-- Lines were answered, and there was no memory for the text of the last one: nothing of it is written, and all of the
+-- text before it is. These lines had ended, or the input had.
+pub record Unfinished (language : Language) (at_end : Type 0) (moment : Moment) (read written : List ℕ)
+    (acts : List Act) : Type 0 where
   pub front : List ℕ
   pub behind : List ℕ
   pub parted : read ≡ front ++ behind
@@ -119,8 +134,4 @@ pub record Unfinished (language : Language) (at_end : Type 0) (moment : Moment) 
   pub who : Option ℕ
   pub says : LineSays language moment mid line more here who
   pub acts_are : acts ≡ first ++ more
-  pub part : List ℕ
-  pub unwritten : List ℕ
-  pub parts : here.text ≡ part ++ unwritten
-  pub written_is : written ≡ earlier.text ++ part
-  pub cut : IsCut error part unwritten
+  pub written_is : written ≡ earlier.text

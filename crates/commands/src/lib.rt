@@ -17,9 +17,11 @@
 //!    rises by one for each call that is answered Device, and for nothing else. (`CountsFailures`)
 //! 5. The text is a function of the lines, the state and the moment, where no call met want of memory or a
 //!    fault of the disk. (`served_texts_are_functions`)
-//! 6. Where it breaks off the writer holds a beginning of that text. At `Read` it holds all of it for the
-//!    lines that had ended, and the bytes behind them are not answered. At `Write` and `NoMemory` nothing is
-//!    missing but the end of the last line's text, whose calls were made. (`CutShort`, `Unfinished`)
+//! 6. The texts of all lines that one read ends are written before the next read, by one call if they are short. If the
+//!    session breaks off, the writer holds a beginning of the text. At `Read` it holds all of it for the lines that had
+//!    ended, and the bytes after them are not answered. At `NoMemory` it lacks the text of the last line that was
+//!    answered, and no other. At `Write` it may lack the texts of several lines, whose calls were made. (`CutShort`,
+//!    `Unfinished`, `CutOff`)
 //! 7. What is said of calls is said over any service of files, as far as it keeps its promises; what is said
 //!    of bytes is said of readers and writers that tell theirs. A service may put or show words of a block at
 //!    once, as the calls that these stand for. (`AreShown`, `HasDone`)
@@ -30,8 +32,8 @@
 //! 10. A start over what a crash left in the course of a session or a script, or of starts after it that were stopped
 //!    themselves, finds the files after some of its acts, or after these and the one that was running.
 //! (`start_after_acts`)
-//! 11. `put` reads and tests all of its input before its first call, and `get` and `list` write nothing before their
-//!    last one. Each does a plan by calls of job 1, which logs in for it, and writes what that says; what a crash
+//! 11. `put` reads and tests all of its input before its first call, and `get`, `delete` and `list` write nothing
+//!    before their last one. Each does a plan by calls of job 1, which logs in for it, and writes what that says; what a crash
 //!    leaves is said as of a session. (`Delivery`, `Errand`, `Survey`) `list` of all directories says that the service
 //!    has stopped only if it has failed. (`AreAsked`) `check` writes what a volume has. (`Checked`) If the input of
 //!    `put` can't be a file, the tally has the first byte or word that doesn't fit, or how much a file holds.
@@ -73,6 +75,7 @@ mod survey;
 mod tables;
 mod text;
 mod typing;
+mod waiting;
 
 pub use answer::{Tally, is_broken};
 pub use dates::date_named;
@@ -83,7 +86,7 @@ pub use laws::{
 };
 pub use meaning::{Encoding, Style};
 pub use monitor::{Area, Monitor, StartError};
-pub use monitored::{check, get, list, put, script, session};
+pub use monitored::{check, delete, get, list, put, script, session};
 pub use names::{file_named, owner_named};
 pub use reason::{Misfit, Reason, RefusedLines};
 pub use restart::start_after_acts;

@@ -12,13 +12,14 @@ use crate::obeying::obey;
 use crate::orders::ordered_by;
 use crate::service::FileService;
 use crate::stream::write_text;
+use crate::waiting::{flush, say};
 use meaning::{Call, Command, Event};
 use std::alloc::{AllocError, Global};
 use std::io::{Read, Write};
 use words36::{Moment, Ppn};
 
 /// How many bytes are read at a time.
-const PIECE_BYTES: usize = 256;
+const PIECE_BYTES: usize = 4096;
 
 /// What was heard where a line might have ended.
 #[derive(Clone, Copy, Debug, PartialEq, Eq)]
@@ -31,13 +32,14 @@ pub enum Heard {
     Ordered(Option<Event>),
 }
 
-/// How far an input is answered.
+/// How far an input is answered, and the texts of answered lines that aren't written yet.
 #[derive(Drop)]
 pub struct Talk {
     held: PartialLine,
     line: u64,
     who: Option<Ppn>,
     tally: Tally,
+    waiting: Vec<u8>,
 }
 
 /// What is heard of the line that there is, or of none.
@@ -66,7 +68,8 @@ pub fn print<W: Write>(
     }
 }
 
-/// Answers what was heard in a line of this number: makes its calls, writes what it prints, and counts the line.
+/// Answers what was heard in a line of this number: makes its calls, adds what it prints to the texts that wait, and
+/// counts the line.
 fn tell<S: FileService, W: Write>(
     alloc: Global,
     service: &mut S,
@@ -80,7 +83,8 @@ fn tell<S: FileService, W: Write>(
     ensures held { talk.new.held ≡ talk.old.held }
     ensures line { talk.new.line ≡ talk.old.line }
     ensures told { Told result S.machine service.old service.new (W.contents writer.old) (W.contents writer.new)
-        moment talk.old.who talk.new.who talk.old.tally talk.new.tally number heard }
+        moment talk.old.who talk.new.who talk.old.tally talk.new.tally number heard talk.old.waiting.items
+        talk.new.waiting.items }
 {
     match heard {
         Heard::Nothing => Ok(()),
@@ -88,13 +92,13 @@ fn tell<S: FileService, W: Write>(
             let mut line = Tally::none();
             let text = answer(alloc, service, moment, &mut talk.who, &mut line, meant);
             talk.tally = talk.tally.with_line(line, number);
-            print(writer, text)
+            say(writer, &mut talk.waiting, text)
         }
         Heard::Ordered(order) => {
             let mut line = Tally::none();
             let text = obey(alloc, service, &mut line, order);
             talk.tally = talk.tally.with_line(line, number);
-            print(writer, text)
+            say(writer, &mut talk.waiting, text)
         }
     }
 }
@@ -126,7 +130,7 @@ fn take_byte<S: FileService, W: Write>(
 }
 
 /// Takes some bytes of the input, and answers each line that ends in them.
-fn take_piece<S: FileService, W: Write>(
+fn take_bytes<S: FileService, W: Write>(
     alloc: Global,
     service: &mut S,
     writer: &mut W,
@@ -146,6 +150,26 @@ fn take_piece<S: FileService, W: Write>(
     Ok(())
 }
 
+/// Takes the bytes that were read by one call, answers each line that ends in them, and writes the texts.
+fn take_piece<S: FileService, W: Write>(
+    alloc: Global,
+    service: &mut S,
+    writer: &mut W,
+    moment: Moment,
+    language: Language,
+    talk: &mut Talk,
+    piece: &[u8],
+) -> Result<(), SessionError>
+    ensures ok { OnOk result (StepsOn language S.machine service.old service.new (W.contents writer.old)
+        (W.contents writer.new) moment talk.old talk.new piece.now) }
+    ensures written { OnOk result (talk.new.waiting.items ≡ []) }
+    ensures err { IfErr result (λ error. BreaksOff language ⊥ S.machine service.old service.new (W.contents writer.old)
+        (W.contents writer.new) moment talk.old error piece.now) }
+{
+    take_bytes(alloc, service, writer, moment, language, talk, piece)?;
+    flush(writer, &mut talk.waiting)
+}
+
 /// Does what is done at the end of an input: of commands the job is reset.
 fn close<S: FileService>(alloc: Global, service: &mut S, moment: Moment, language: Language)
     ensures { Closed language S.machine service.old service.new moment }
@@ -158,7 +182,7 @@ fn close<S: FileService>(alloc: Global, service: &mut S, moment: Moment, languag
     }
 }
 
-/// Answers the line that the end of the input ends, and does what is done there.
+/// Answers the line that the end of the input ends, writes all texts, and then does what is done at the end.
 fn finish<S: FileService, W: Write>(
     alloc: Global,
     service: &mut S,
@@ -175,11 +199,12 @@ fn finish<S: FileService, W: Write>(
     let heard = heard_of(language, moment, talk.held.last());
     let number = talk.line;
     tell(alloc, service, writer, moment, talk, number, heard)?;
+    flush(writer, &mut talk.waiting)?;
     close(alloc, service, moment, language);
     Ok(talk.tally)
 }
 
-/// Serves the lines of a reader until its end, and writes what they print.
+/// Serves the lines of a reader until its end, and writes what they print, before it reads more.
 fn talk_in<R: Read, W: Write, S: FileService>(
     alloc: Global,
     reader: &mut R,
@@ -197,6 +222,7 @@ fn talk_in<R: Read, W: Write, S: FileService>(
         line: 1,
         who: None,
         tally: Tally::none(),
+        waiting: Vec::new(alloc),
     };
     let mut piece = [0u8; PIECE_BYTES];
     for _ in 0..u64::MAX {
@@ -224,8 +250,9 @@ fn talk_in<R: Read, W: Write, S: FileService>(
 ///
 /// # Errors
 ///
-/// `Read` or `Write` where the reader or the writer failed, `NoMemory` where a text found no room. A line
-/// that a fault of the reader cuts short isn't answered, and no job is reset then.
+/// `Read` or `Write` if the reader or the writer failed, `NoMemory` if a text found no room. A line that a fault of the
+/// reader cuts short isn't answered, and no job is reset then. If the writer failed, it may lack the texts of several
+/// lines, whose calls were made.
 pub fn converse<R: Read, W: Write, S: FileService>(
     alloc: Global,
     reader: &mut R,

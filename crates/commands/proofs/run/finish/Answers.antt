@@ -3,22 +3,36 @@ use Rattle.std.proofs.lemmas.Result.{err_from_is_err_and}
 use Rattle.meaning.specs.Lines.{Line}
 use Rattle.commands.specs.Sessions.{HeardIn}
 use Rattle.commands.proofs.SayingLaws.{heard_fits}
-use Rattle.commands.proofs.StepLaws.{break_end, end_well}
+use Rattle.commands.proofs.StepLaws.{break_end, end_well, told_flushed, told_unwritten}
 use Rattle.commands.proofs.run.finish.Goals as goal
 
 pub returns-clause-ok : goal.returns-clause-ok
-returns-clause-ok g c = end_well c.args.language g.S.FileService.machine tt _ _ _ _ _ c.args.moment c.args.talk.now
-    c.tell.new.talk c.heard_of-heard.result
+returns-clause-ok g c = end_well c.args.language g.S.FileService.machine _ _ _ _ _ c.args.moment c.args.talk.now
+    c.tell.new.talk c.heard_of-heard.result c.flush.new.waiting.items
     (λ seen h. subst (λ (l : List Line). HeardIn c.args.language c.args.moment l c.heard_of-heard.result)
-    (c.last.ensures seen h) c.heard_of-heard.ensures) c.in_ok-tell.ensures.told c.close.ensures
+    (c.last.ensures seen h) c.heard_of-heard.ensures)
+    (told_flushed g.S.FileService.machine _ _ _ (g.W.Write.contents c.tell.new.writer) _ c.args.moment _ _ _ _ _ _ _
+    c.tell.new.talk.waiting.items _ c.in_ok-tell.ensures.told c.in_ok-flush.ensures.written)
+    c.in_ok-flush.ensures.all c.close.ensures
 
 pub returns-in_err-tell-clause-err : goal.returns-in_err-tell-clause-err
 returns-in_err-tell-clause-err g c =
     let p = err_from_is_err_and c.from_residual.result c.from_residual.ensures.1 in
     rw (p.1, p.2) (break_end c.args.language g.S.FileService.machine _ _ _ _ _ c.args.moment c.args.talk.now
-    c.tell.new.talk c.heard_of-heard.result
+    c.tell.new.talk c.heard_of-heard.result _
     (λ seen h. subst (λ (l : List Line). HeardIn c.args.language c.args.moment l c.heard_of-heard.result)
     (c.last.ensures seen h) c.heard_of-heard.ensures) c.in_err-tell.ensures.told)
+
+pub returns-in_err-flush-clause-err : goal.returns-in_err-flush-clause-err
+returns-in_err-flush-clause-err g c =
+    let p = err_from_is_err_and c.from_residual-in_err-flush.result c.from_residual-in_err-flush.ensures.1 in
+    rw (p.1, p.2) (break_end c.args.language g.S.FileService.machine c.in_err-flush.field-0.0 _ _ _ _ c.args.moment
+    c.args.talk.now c.tell.new.talk c.heard_of-heard.result c.flush.new.waiting.items
+    (λ seen h. subst (λ (l : List Line). HeardIn c.args.language c.args.moment l c.heard_of-heard.result)
+    (c.last.ensures seen h) c.heard_of-heard.ensures)
+    (told_unwritten g.S.FileService.machine _ _ _ (g.W.Write.contents c.tell.new.writer) _ c.args.moment _ _ _ _ _ _ _
+    c.tell.new.talk.waiting.items _ c.in_ok-tell.ensures.told c.in_err-flush.field-0.0
+    c.in_err-flush.ensures.written))
 
 pub tell-requires : goal.tell-requires
 tell-requires g c = heard_fits _ _ _ c.heard_of-heard.result c.heard_of-heard.ensures

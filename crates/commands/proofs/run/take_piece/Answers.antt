@@ -1,22 +1,14 @@
-use Rattle.std.proofs.Common.{arith}
-use Rattle.std.proofs.lemmas.Result.{err_from_is_err_and}
-use Rattle.commands.proofs.StepLaws.{steps_none, steps_at, breaks_at, steps_all}
+use Rattle.std.proofs.Common.{refl}
+use Rattle.commands.proofs.StepLaws.{steps_flushed, steps_unwritten}
 use Rattle.commands.proofs.run.take_piece.Goals as goal
 
-pub loop-byte-init : goal.loop-byte-init
-loop-byte-init g c = steps_none c.args.language g.S.FileService.machine g.met.S.FileService.stands _ _
-    c.args.moment c.args.talk.now
-
-pub loop-byte-preserved : goal.loop-byte-preserved
-loop-byte-preserved g c = steps_at c.args.language g.S.FileService.machine _ _ _ _ _ _ _ _ _ _ c.args.piece.now
-    c.loop-byte.byte-index c.loop-byte-test.true c.loop-byte.invariant c.in_ok-take_byte.ensures.ok
-
 pub returns-clause-ok : goal.returns-clause-ok
-returns-clause-ok g c = steps_all c.args.language g.S.FileService.machine _ _ _ _ _ _ _ c.args.piece.now
-    c.loop-byte.byte-index (omega arith) c.loop-byte.invariant
+returns-clause-ok g c = steps_flushed c.args.language g.S.FileService.machine _ _ _
+    (g.W.Write.contents c.take_bytes.new.writer) _ c.args.moment c.args.talk.now c.take_bytes.new.talk
+    (record c.take_bytes.new.talk { waiting = c.flush.new.waiting }) c.flush.result c.args.piece.now refl refl refl refl
+    c.in_ok-take_bytes.ensures.ok c.flush.ensures.written
 
-pub returns-in_err-take_byte-clause-err : goal.returns-in_err-take_byte-clause-err
-returns-in_err-take_byte-clause-err g c =
-    let p = err_from_is_err_and c.from_residual.result c.from_residual.ensures.1 in
-    rw (p.1, p.2) (breaks_at c.args.language g.S.FileService.machine _ _ _ _ _ _ _ _ _ _ c.args.piece.now
-    c.loop-byte.byte-index c.loop-byte-test.true c.loop-byte.invariant c.in_err-take_byte.ensures.err)
+pub returns-clause-err : goal.returns-clause-err
+returns-clause-err g c = steps_unwritten c.args.language g.S.FileService.machine _ _ _
+    (g.W.Write.contents c.take_bytes.new.writer) _ c.args.moment c.args.talk.now c.take_bytes.new.talk
+    c.flush.new.waiting.items c.flush.result c.args.piece.now c.in_ok-take_bytes.ensures.ok c.flush.ensures.written

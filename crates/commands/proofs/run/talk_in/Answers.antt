@@ -7,7 +7,7 @@ use Rattle.commands.proofs.run.talk_in.Goals as goal
 
 pub loop-init : goal.loop-init
 loop-init g c = stream_starts c.args.language g.S.FileService.machine g.met.S.FileService.stands _ _ _
-    c.args.moment _ c.new.ensures refl refl c.none.ensures
+    c.args.moment _ c.new.ensures refl refl c.none.ensures c.new-2.ensures.items
 
 pub returns-in_default : goal.returns-in_default
 returns-in_default g c = stream_stops c.args.language g.S.FileService.machine _ _ _ _ _ _ _ c.args.moment
@@ -21,7 +21,7 @@ returns-then-count-eq0 g c =
 
 pub loop-preserved : goal.loop-preserved
 loop-preserved g c = stream_more c.args.language g.S.FileService.machine _ _ _ _ _ _ _ _ _ c.args.moment
-    _ _ _ c.loop.invariant c.in-Ok.ensures.bytes.0 c.in_ok-take_piece.ensures.ok
+    _ _ _ c.loop.invariant c.in-Ok.ensures.bytes.0 c.in_ok-take_piece.ensures.ok c.in_ok-take_piece.ensures.written
 
 pub returns : goal.returns
 returns g c = stream_stops c.args.language g.S.FileService.machine _ _ _ _ _ _ _ c.args.moment _ c.loop.invariant

@@ -1,6 +1,6 @@
 use Rattle.std.proofs.Common.{take}
 use Rattle.commands.specs.Sessions.{StepsOn}
-use Rattle.commands.proofs.run.take_piece.Given as goal
+use Rattle.commands.proofs.run.take_bytes.Given as goal
 
 abbrev pub invariant-loop-byte : goal.invariant-loop-byte
 invariant-loop-byte g l = StepsOn l.fn.language g.S.FileService.machine l.fn.service l.service
