@@ -30,7 +30,6 @@ pub record InStream {S : Type 0} (source left sink full : Option (List ℕ)) (ma
   pub orders : read ≡ orders_of turns ++ waiting.held.items
   pub answers : written ≡ answers_of turns
   pub counts : Counts fresh waiting.tally turns
-  pub rest : IsNotWhole waiting.held.items
   pub waits : waiting.answers.items ≡ []
 
 -- what is taken from a list of turns and a rest, and bytes after these
@@ -41,9 +40,8 @@ joined read turns held piece front after p q = ap (λ l. l ++ piece) p ∙ appen
 
 module _ {S : Type 0} (machine : S → Machine) where
   pub stream_starts : AlwaysStands machine → (source sink : Option (List ℕ)) (m : S) (waiting : Waiting)
-      → IsNotWhole waiting.held.items → waiting.held.items ≡ [] → waiting.answers.items ≡ [] → waiting.tally ≡ fresh
-      → InStream source source sink sink machine m m waiting
-  stream_starts stands source sink m waiting rest held waits tally = record {
+      → waiting.held.items ≡ [] → waiting.answers.items ≡ [] → waiting.tally ≡ fresh → InStream source source sink sink machine m m waiting
+  stream_starts stands source sink m waiting held waits tally = record {
     read = [];
     written = [];
     turns = [];
@@ -53,7 +51,6 @@ module _ {S : Type 0} (machine : S → Machine) where
     orders = sym held;
     answers = refl;
     counts = subst (λ t. Counts fresh t []) (sym tally) (counts_none fresh);
-    rest = rest;
     waits = waits;
   }
 
@@ -74,22 +71,21 @@ module _ {S : Type 0} (machine : S → Machine) where
         ∙ ap (λ l. answers_of s.turns ++ l) (sym (t.steps.answers ∙ append-nil t.steps.written))
         ∙ sym (answers_on s.turns t.steps.turns);
     counts = counts_on fresh waiting.tally after.tally s.turns t.steps.turns s.counts t.steps.counts;
-    rest = t.rest;
     waits = t.written;
   }
 
   -- the reader failed
   pub stream_stops : (source left rest sink full : Option (List ℕ)) (old now : S) (waiting : Waiting)
-      → InStream source left sink full machine old now waiting → Keeps left rest
+      → InStream source left sink full machine old now waiting → IsPart waiting.held.items → Keeps left rest
       → Exchange source rest sink full machine old now (Err Read)
-  stream_stops source left rest sink full old now waiting s k = record {
+  stream_stops source left rest sink full old now waiting s part k = record {
     read = s.read;
     written = s.written;
     turns = s.turns;
     consumed = Consumes-kept source left rest s.read s.consumed k;
     appended = s.appended;
     takes = s.takes;
-    ends = record { rest = waiting.held.items; orders = s.orders; part = s.rest; answers = s.answers };
+    ends = record { rest = waiting.held.items; orders = s.orders; part = part; answers = s.answers };
   }
 
   ends_broken : (at_end : Type 0) (error : SessionError) (read written unwritten : List ℕ) (turns : List Turn)
@@ -241,5 +237,5 @@ rest_is_long at_end [] long = absurd (no_bytes long)
     no_bytes (header, fits, more, is, many) = cc
 rest_is_long at_end (byte ∷ bytes) long = inr long
 
-pub nothing_held : (held : List ℕ) → held ≡ [] → IsNotWhole held
-nothing_held held none = inl (λ frame more is begins. cc)
+pub nothing_held : (held : List ℕ) → held ≡ [] → IsPart held
+nothing_held held none = λ frame more is begins. cc

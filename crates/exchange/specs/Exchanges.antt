@@ -193,7 +193,7 @@ pub record Finished (at_end : Type 0) (read written : List ℕ) (turns : List Tu
 pub record CutShort (read written : List ℕ) (turns : List Turn) : Type 0 where
   pub rest : List ℕ
   pub orders : read ≡ orders_of turns ++ rest
-  pub part : IsNotWhole rest
+  pub part : IsPart rest
   pub answers : written ≡ answers_of turns
 
 -- The writer failed: it holds a beginning of the answers.

@@ -108,9 +108,6 @@ pub fn serve_wire<R: Read, W: Write, S: FileService>(
     };
     let mut piece = [0u8; PIECE_BYTES];
     for _ in 0..u64::MAX {
-        if announces_too_much(&waiting.held) {
-            return finish(writer, &mut waiting);
-        }
         let Ok(count) = reader.read(&mut piece) else {
             return Err(SessionError::Read);
         };
@@ -118,6 +115,9 @@ pub fn serve_wire<R: Read, W: Write, S: FileService>(
             return finish(writer, &mut waiting);
         }
         take_piece(alloc, service, writer, &mut waiting, &piece[..count])?;
+        if announces_too_much(&waiting.held) {
+            return finish(writer, &mut waiting);
+        }
     }
     Err(SessionError::Read)
 }
