@@ -183,6 +183,7 @@ impl Table {
         requires used { used_in_space self.old < self.old.booked }
         requires room { self.old.booked ≤ space self.old.size }
         ensures free { (result < self.old.size) × IsFree self.old result }
+        ensures lowest { (m : ℕ) → m < result → IsFree self.old m → ⊥ }
         ensures held { self.new ≡ with_held self.old result (holds self.old result + 1) }
     {
         match self.take() {

@@ -232,17 +232,18 @@ module _ {size : ℕ} {c : VolumeCore} (whole : IsWholeCore size c) (ppn : ℕ) 
       ∙ (λ i. growth (entries_with c (sym same i) to)) in
       subst (λ (n : ℕ). IsTrue over ↔ IsOver c to n) (λ i. cost_is i + more_is i) says
 
+-- numbers that are told apart are not the same
+pub told_apart : (a b : ℕ) → eqb a b ≡ false → a ≡ b → ⊥
+told_apart a b = grind (arith, nat_tests)
+
 -- the answer, if it has to be another directory
 pub apart_over : (ppn to : ℕ) (over : Bool) (P : Type 0) → eqb ppn to ≡ false → (IsTrue over ↔ P)
     → ((not over ≡ false) ↔ ((ppn ≡ to → ⊥) × P))
 apart_over ppn to over P apart says = (
-  λ is. (λ same. differ apart same, says.0 (by over is)),
+  λ is. (told_apart ppn to apart, says.0 (by over is)),
   λ both. ap not (says.1 both.1),
 )
   where
-    differ : eqb ppn to ≡ false → ppn ≡ to → ⊥
-    differ = grind (arith, nat_tests)
-
     by : (b : Bool) → not b ≡ false → b ≡ true
     by true is = refl
     by false is = cc

@@ -1,5 +1,5 @@
-ghost use Rattle.std.specs.Prelude.{◌≡◌, ◌↔◌, ◌<◌, ◌≤◌, ◌+◌, ◌^◌, ℕ, false, None, Some, IfSome, IsSome, IsTrue, length};
-ghost use Rattle.std.specs.Prelude.{filter_map, slice_get};
+ghost use Rattle.std.specs.Prelude.{◌≡◌, ◌↔◌, ◌<◌, ◌≤◌, ◌+◌, ◌^◌, ℕ, false, true, None, Some, IfSome, IsSome, IsTrue};
+ghost use Rattle.std.specs.Prelude.{filter_map, length, slice_get};
 ghost use Rattle.std.specs.Ordering.{nat_cmp};
 ghost use Rattle.std.specs.FinMap.Entries.{find};
 ghost use Rattle.meaning.specs.Costs.{directory_cost};
@@ -156,9 +156,10 @@ fn is_over(core: &LiveMap, ppn: Ppn, more: u64) -> bool
 /// Whether what `begin` books for a version is more than the quota of its directory leaves.
 fn begin_is_over(core: &LiveMap, kind: Kind, ppn: Ppn, name: &FileName) -> bool
     requires whole { IsWholeCore core.now.table.size (core_of core.now) }
-    ensures { (d : KnownDirectory) → IsDirectoryOf (core_of core.now) ppn d → (old : Before) → IsNamed d name.now old
-        → (IsTrue result ↔ IsOver (core_of core.now) ppn
+    ensures value { (d : KnownDirectory) → IsDirectoryOf (core_of core.now) ppn d → (old : Before)
+        → IsNamed d name.now old → (IsTrue result ↔ IsOver (core_of core.now) ppn
         (begin_cost kind (entries_with (core_of core.now) d ppn) old)) }
+    ensures absent { find nat_cmp ppn (core_of core.now).known.master.entries ≡ None → result ≡ false }
 {
     if quota_in_core(core, ppn) == 0 {
         return false;
@@ -258,6 +259,7 @@ impl<D: Disk> Volume<D> {
         ensures value { (d : KnownDirectory) → IsDirectoryOf self.now.core ppn d → (old : Before)
             → IsNamed d file.now old → ((result ≡ false)
             ↔ IsOver self.now.core ppn (begin_cost kind (entries_with self.now.core d ppn) old)) }
+        ensures absent { find nat_cmp ppn self.now.core.known.master.entries ≡ None → result ≡ true }
     {
         !begin_is_over(&self.map, kind, ppn, file)
     }
@@ -279,6 +281,7 @@ impl<D: Disk> Volume<D> {
             → IsDirectoryOf self.now.core to t → (old : Before) → IsNamed d name.now old
             → ((result ≡ false) ↔ ((ppn ≡ to → ⊥) × IsOver self.now.core to
             (cost_before old + growth (entries_with self.now.core t to)))) }
+        ensures within { ppn ≡ to → result ≡ true }
     {
         if ppn == to {
             return true;

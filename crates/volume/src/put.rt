@@ -252,6 +252,8 @@ pub(crate) fn put_in_core<D: Disk>(
         × ((D.state disk.new).honest → (body : List ℕ) → length body ≡ p.version.words
         → HasBody (D.state disk.old).contents p.version.blocks body
         → HasBody (D.state disk.new).contents v.blocks (splice body block words.now))) }
+    // No words change nothing.
+    ensures nothing { length words.now ≡ 0 → (disk.new ≡ disk.old) × (core_of map.new ≡ core_of map.old) }
     // It is there still, whatever the answer.
     ensures stays { IsSome (pending_at (core_of map.new).pending key) }
     // All other versions stay, and their blocks do.
@@ -347,6 +349,8 @@ impl<D: Disk> Volume<D> {
             × ((D.state self.new.disk).honest → (body : List ℕ) → length body ≡ p.version.words
             → HasBody (D.state self.old.disk).contents p.version.blocks body
             → HasBody (D.state self.new.disk).contents v.blocks (splice body block words.now))) }
+        // No words change nothing.
+        ensures nothing { length words.now ≡ 0 → (self.new.disk ≡ self.old.disk) × (self.new.core ≡ self.old.core) }
         // It is there still, whatever the answer.
         ensures stays { IsSome (pending_at self.new.core.pending pending.key) }
         // All other versions stay, and their blocks do.

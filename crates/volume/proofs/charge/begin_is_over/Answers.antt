@@ -1,4 +1,5 @@
-use Rattle.std.proofs.Common.{◌∙◌, arith}
+use Rattle.std.proofs.Common.{◌∙◌, sym, arith}
+use Rattle.meaning.proofs.MapLaws.{some_none}
 use Rattle.volume.specs.LiveCores.{core_of}
 use Rattle.volume.proofs.Beginnings.{known_place}
 use Rattle.volume.proofs.Charges.{begun_over}
@@ -11,8 +12,8 @@ begin_cost-cost-requires-clause-few c d at =
     let few = entries_few m.table.size (core_of m) c.args.ppn c.in-Ok.place d c.requires.whole at in
     omega arith
 
-pub returns : goal.returns
-returns c d there old named =
+pub returns-clause-value : goal.returns-clause-value
+returns-clause-value c d there old named =
     let m = c.args.core.now in
     let whole = c.requires.whole in
     let stands = c.in-Ok.ensures.found in
@@ -20,3 +21,6 @@ returns c d there old named =
     begun_over whole c.args.ppn c.args.name.now c.in-Ok-find_before.ensures.before d there old named c.args.kind
     c.in-Ok.place stands.0 e.0 c.from.result stands.1.is e.1
     (c.from.ensures ∙ c.begin_cost-cost.ensures.value e.0 e.1) c.is_over.result c.is_over.ensures
+
+pub returns-clause-absent : goal.returns-clause-absent
+returns-clause-absent c none = absurd (some_none (sym c.in-Ok.ensures.found.1.found ∙ none))

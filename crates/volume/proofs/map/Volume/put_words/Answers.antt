@@ -28,6 +28,9 @@ returns-clause-rests g c = rw (← c.self.view_is) c.put_in_core.ensures.rests
 pub returns-clause-put : goal.returns-clause-put
 returns-clause-put g c = rw (← c.self.view_is) c.put_in_core.ensures.put
 
+pub returns-clause-nothing : goal.returns-clause-nothing
+returns-clause-nothing g c = rw (← c.self.view_is) c.put_in_core.ensures.nothing
+
 pub returns-clause-stays : goal.returns-clause-stays
 returns-clause-stays g c = c.put_in_core.ensures.stays
 

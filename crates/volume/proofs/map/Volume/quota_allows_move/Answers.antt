@@ -4,7 +4,7 @@ use Rattle.volume.specs.Beginning.{entries_with}
 use Rattle.volume.specs.Charging.{IsOver}
 use Rattle.volume.specs.Known.{cost_before}
 use Rattle.volume.specs.LiveCores.{core_of}
-use Rattle.volume.proofs.Charges.{apart_over}
+use Rattle.volume.proofs.Charges.{apart_over, told_apart}
 use Rattle.volume.proofs.map.Volume.quota_allows_move.Goals as goal
 
 pub returns : goal.returns
@@ -14,4 +14,5 @@ returns g c = record {
       apart_over c.args.ppn c.args.to c.move_is_over.result
       (IsOver core c.args.to (cost_before old + growth (entries_with core t c.args.to)))
       (sym c.eq.ensures ∙ c.if-eq.false) (c.move_is_over.ensures d t there there_t old named));
+  within = λ same. absurd (told_apart c.args.ppn c.args.to (sym c.eq.ensures ∙ c.if-eq.false) same);
 }
