@@ -2,4 +2,6 @@ mod AsciiLaws
 pub mod BlockLaws
 mod Digits
 pub mod NineLaws
+pub mod OctetLaws
+mod OctetRows
 mod SixbitLaws

@@ -2,5 +2,6 @@ pub mod Ascii
 pub mod Blocks
 pub mod Dates
 pub mod Nines
+pub mod Octets
 pub mod Sixbit
 pub mod Words
