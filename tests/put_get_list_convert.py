@@ -1,5 +1,5 @@
 #!/usr/bin/env python3
-"""Tests put, get, list, check, convert, migrate and quotas: what is printed, the exit status, and the bytes left.
+"""Tests put, get, delete, list, check, convert, migrate and quotas: what is printed, the exit status, and the bytes left.
 
 usage: tests/put_get_list_convert.py PROGRAM
 
@@ -201,6 +201,20 @@ def row(tries):
              b"1 DEP 301 647064000000\n1 LOOKUP 1 300\n1 EXA 302\n1 EXA 303\n")
     tries.expect(["put", "D.IMG", "10,20", "BAR.TXT", "--date", "4095", "--minute", "605"], HELLO, [b"OK\n"], 0)
     tries.expect(["calls", "D.IMG"], calls, [b"DONE\n" * 7 + b"VALUE 057011357777\nVALUE 777776000000\n"], 0)
+
+
+def deletes(tries):
+    """A file is deleted, and deleted once more; a new one has the room again."""
+    tries.write("E.IMG", image_of())
+    for output, status in [(b"OK\n", 0), (b"?File not found\n", 1)]:
+        tries.expect(["delete", "E.IMG", "[10,20]", "foo.txt"], b"", [output], status)
+    tries.expect(["check", "E.IMG"], b"", [b"Volume of 64 blocks, room 47\n"], 0)
+    tries.expect(["get", "E.IMG", "10,20", "FOO.TXT"], b"", [b"?File not found\n"], 1)
+    tries.expect(["delete", "E.IMG", "10,20", "FOO.TXT", "--date", "1"], b"", [b""], 2)
+    tries.expect(["put", "E.IMG", "10,20", "FOO.TXT"], HELLO, [b"OK\n"], 0)
+    tries.expect(["run", "E.IMG"], b"LOGIN [10,20]\nPROTECT FOO.TXT<277>\n", [b"Job 1 [10,20]\nOK\n"], 0)
+    tries.expect(["delete", "E.IMG", "10,20", "FOO.TXT"], b"", [b"?Protection failure\n"], 1)
+    tries.expect(["get", "E.IMG", "10,20", "FOO.TXT"], b"", [HELLO], 0)
 
 
 def lists(tries):
@@ -477,9 +491,12 @@ def refusals(tries):
     tries.write("R.IMG", before)
     tries.expect(put + ["FOO.TXT", "--date", "4096"], HELLO, [b"?Date out of range\n"], 1)
     tries.expect(get + ["FOO.TXT", "--date", "4096"], b"", [b"?Date out of range\n"], 1)
-    tries.expect(get + ["BAR.TXT"], b"", [b"?File not found\n"], 1)
     tries.expect(["put", "R.IMG", "11,5", "FOO"], HELLO, [b"?No such directory\n"], 1)
-    tries.expect(["get", "R.IMG", "11,5", "FOO"], b"", [b"?No such directory\n"], 1)
+    for command in ["get", "delete"]:
+        tries.expect([command, "R.IMG", "11,5", "FOO"], b"", [b"?No such directory\n"], 1)
+        tries.expect([command, "R.IMG", "10,20", "BAR.TXT"], b"", [b"?File not found\n"], 1)
+        tries.expect([command, "R.IMG", "10", "FOO.TXT"], b"", [b""], 2)
+        tries.expect([command, "R.IMG", "10,20", "FOO.TEXT"], b"", [b""], 2)
     for name in ["", "TOOLONG", "FOO.TEXT", "FOO[10,20]", "F O", "*"]:
         tries.expect(put + [name], HELLO, [b""], 2)
     for owner in ["0,20", "10", "10,8", "[10,20", "[0,20]", "1000000,1"]:
@@ -509,7 +526,7 @@ def main():
         return 2
     with tempfile.TemporaryDirectory() as folder:
         tries = Tries(os.path.abspath(sys.argv[1]), folder)
-        for part in [check, row, lists, tables, days, back, converts, migrates, layouts, quotas, progress, refusals]:
+        for part in [check, row, deletes, lists, tables, days, back, converts, migrates, layouts, quotas, progress, refusals]:
             part(tries)
     print(f"put_get_list_convert: {tries.count - tries.failed} as they should be, {tries.failed} not")
     return 1 if tries.failed else 0

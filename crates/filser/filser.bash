@@ -2,7 +2,7 @@
 _filser() {
     local word=${COMP_WORDS[COMP_CWORD]} command=${COMP_WORDS[1]-}
     if [ "$COMP_CWORD" -eq 1 ]; then
-        mapfile -t COMPREPLY < <(compgen -W 'init run calls wire put get list check convert migrate help -h --help -V --version' -- "$word")
+        mapfile -t COMPREPLY < <(compgen -W 'init run calls wire put get delete list check convert migrate help -h --help -V --version' -- "$word")
         return
     fi
     local options='--form --help'
@@ -16,7 +16,7 @@ _filser() {
     if [[ $word == -* ]]; then
         mapfile -t COMPREPLY < <(compgen -W "$options" -- "$word")
     elif [ "$command" = help ]; then
-        mapfile -t COMPREPLY < <(compgen -W 'init run calls wire put get list check convert migrate' -- "$word")
+        mapfile -t COMPREPLY < <(compgen -W 'init run calls wire put get delete list check convert migrate' -- "$word")
     elif [ "$COMP_CWORD" -eq 2 ] || { [ "$command" = convert ] && [ "$COMP_CWORD" -eq 3 ]; }; then
         compopt -o filenames
         mapfile -t COMPREPLY < <(compgen -f -- "$word")

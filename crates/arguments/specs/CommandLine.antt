@@ -79,17 +79,23 @@ wire_app = formed (with_rule (new_app (codes "wire")) (wanted (codes "IMAGE")))
 abbrev pub flag : Text → Rule
 flag id = record (new_rule id) { long = Some id; action = Some SetTrue }
 
--- a file of a directory, and what its bytes say
+-- a file of a directory
+unfoldable pub located : App → App
+located app =
+    with_rule (with_rule (with_rule app (wanted (codes "IMAGE"))) (wanted (codes "PPN"))) (wanted (codes "NAME"))
+
+-- the same, and what its bytes say
 unfoldable pub filed : App → App
-filed app =
-    with_rule (with_rule (with_rule (with_rule app (wanted (codes "IMAGE"))) (wanted (codes "PPN")))
-    (wanted (codes "NAME"))) (flag (codes "words"))
+filed app = with_rule (located app) (flag (codes "words"))
 
 unfoldable pub put_app : App
 put_app = formed (dated (filed (new_app (codes "put"))))
 
 unfoldable pub get_app : App
 get_app = formed (dated (filed (new_app (codes "get"))))
+
+unfoldable pub delete_app : App
+delete_app = formed (located (new_app (codes "delete")))
 
 unfoldable pub list_app : App
 list_app = formed (with_rule (with_rule (with_rule (new_app (codes "list")) (wanted (codes "IMAGE")))
@@ -104,8 +110,8 @@ convert_app = formed (with_rule (with_rule (new_app (codes "convert")) (wanted (
 unfoldable pub migrate_app : App
 migrate_app = formed (with_rule (new_app (codes "migrate")) (wanted (codes "IMAGE")))
 
--- the subcommands: the one that makes an image, those that serve an input on it, that bring a file in and out, that
--- look, and those that convert and migrate
+-- the subcommands: the one that makes an image, those that serve an input on it, that are for one file, that look, and
+-- those that convert and migrate
 unfoldable pub making : App → App
 making app = with_subcommand app init_app.top
 
@@ -113,7 +119,7 @@ unfoldable pub serving : App → App
 serving app = with_subcommand (with_subcommand (with_subcommand app run_app.top) calls_app.top) wire_app.top
 
 unfoldable pub filing : App → App
-filing app = with_subcommand (with_subcommand app put_app.top) get_app.top
+filing app = with_subcommand (with_subcommand (with_subcommand app put_app.top) get_app.top) delete_app.top
 
 unfoldable pub looking : App → App
 looking app = with_subcommand (with_subcommand app list_app.top) check_app.top

@@ -2,7 +2,7 @@
 ghost use Rattle.std.specs.Prelude.{◌≡◌, IfOk, Some, codes, false};
 ghost use Rattle.clap.specs.Words.{app_of, new_rule, rule_of, with_rule};
 ghost use Rattle.clap.specs.declared.builder.command.Command.TheViews.{out-Command as fields_of};
-ghost use Rattle.arguments.specs.CommandLine.{date_rule, dated, filed, flag, form_rule, formed, laid_out};
+ghost use Rattle.arguments.specs.CommandLine.{date_rule, dated, filed, flag, form_rule, formed, laid_out, located};
 ghost use Rattle.arguments.specs.CommandLine.{layout_rule, numbered, optional, sized, wanted};
 
 use clap::{Arg, ArgAction, Command};
@@ -158,16 +158,24 @@ fn words<'a>(alloc: Global) -> Arg<'a>
 }
 
 /// A command on one file of a directory.
-#[tactic(auto, unfolding(crate::specs::CommandLine::filed))]
-pub(crate) fn filed<'a>(alloc: Global, command: Command<'a>) -> Result<Command<'a>, AllocError>
-    ensures app { IfOk result (λ c. app_of c ≡ filed (app_of command.entry)) }
+#[tactic(auto, unfolding(crate::specs::CommandLine::located))]
+pub(crate) fn located<'a>(alloc: Global, command: Command<'a>) -> Result<Command<'a>, AllocError>
+    ensures app { IfOk result (λ c. app_of c ≡ located (app_of command.entry)) }
     ensures local { IfOk result (λ c. (fields_of c).has_globals ≡ (fields_of command.entry).has_globals) }
 {
     let command = with_argument(command, wanted(alloc, "IMAGE", "The image file"))?;
     let owner = wanted(alloc, "PPN", "The directory, in octal, as 10,20 or [10,20]");
     let command = with_argument(command, owner)?;
-    let command = with_argument(command, wanted(alloc, "NAME", "The file, as FOO.TXT"))?;
-    with_argument(command, words(alloc))
+    with_argument(command, wanted(alloc, "NAME", "The file, as FOO.TXT"))
+}
+
+/// A command on the bytes of one file.
+#[tactic(auto, unfolding(crate::specs::CommandLine::filed))]
+pub(crate) fn filed<'a>(alloc: Global, command: Command<'a>) -> Result<Command<'a>, AllocError>
+    ensures app { IfOk result (λ c. app_of c ≡ filed (app_of command.entry)) }
+    ensures local { IfOk result (λ c. (fields_of c).has_globals ≡ (fields_of command.entry).has_globals) }
+{
+    with_argument(located(alloc, command)?, words(alloc))
 }
 
 /// The flag that lists are tables.

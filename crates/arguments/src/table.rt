@@ -4,11 +4,11 @@ ghost use Rattle.std.specs.Prelude.{◌≡◌, IfOk, codes, false};
 ghost use Rattle.clap.specs.Words.{app_of, with_subcommand};
 ghost use Rattle.clap.specs.declared.builder.command.Command.TheViews.{out-Command as fields_of};
 ghost use Rattle.arguments.specs.CommandLine.{calls_app, check_app, command_line, convert_app, converting};
-ghost use Rattle.arguments.specs.CommandLine.{filing, get_app, init_app, list_app, looking, making, migrate_app};
+ghost use Rattle.arguments.specs.CommandLine.{delete_app, filing, get_app, init_app, list_app, looking, making, migrate_app};
 ghost use Rattle.arguments.specs.CommandLine.{put_app, run_app, serving, versioned, wire_app};
 
 use crate::arguments::{
-    about, dated, filed, formed, laid_out, place, shown, sized, tsv, wanted, with_argument,
+    about, dated, filed, formed, laid_out, located, place, shown, sized, tsv, wanted, with_argument,
 };
 use clap::Command;
 use std::alloc::{AllocError, Global};
@@ -166,6 +166,16 @@ fn get_command<'a>(alloc: Global) -> Result<Command<'a>, AllocError>
     formed(alloc, dated(alloc, command)?)
 }
 
+#[tactic(auto, unfolding(crate::specs::CommandLine::delete_app))]
+fn delete_command<'a>(alloc: Global) -> Result<Command<'a>, AllocError>
+    ensures app { IfOk result (λ c. app_of c ≡ delete_app) }
+    ensures local { IfOk result (λ c. (fields_of c).has_globals ≡ false) }
+{
+    let command = about(Command::new(alloc, "delete"), "Delete a file");
+    let command = shown(command, "Example:\n  filser delete DISK.IMG 10,20 FOO.TXT");
+    formed(alloc, located(alloc, command)?)
+}
+
 #[tactic(auto, unfolding(crate::specs::CommandLine::list_app))]
 fn list_command<'a>(alloc: Global) -> Result<Command<'a>, AllocError>
     ensures app { IfOk result (λ c. app_of c ≡ list_app) }
@@ -242,13 +252,14 @@ fn with_serving<'a>(alloc: Global, command: Command<'a>) -> Result<Command<'a>, 
     with_one(command, wire_command(alloc)?)
 }
 
-/// Adds those that bring a file in and out.
+/// Adds those for one file.
 #[tactic(auto, unfolding(crate::specs::CommandLine::filing))]
 fn with_filing<'a>(alloc: Global, command: Command<'a>) -> Result<Command<'a>, AllocError>
     ensures { IfOk result (λ c. app_of c ≡ filing (app_of command.entry)) }
 {
     let command = with_one(command, put_command(alloc)?)?;
-    with_one(command, get_command(alloc)?)
+    let command = with_one(command, get_command(alloc)?)?;
+    with_one(command, delete_command(alloc)?)
 }
 
 /// Adds those that change no file.

@@ -3,15 +3,17 @@ use Rattle.std.specs.Prelude.{◌≡◌, ◌⊎◌, ◌<◌, ℕ, false, List, [
 use Rattle.std.specs.Prelude.{Some, None, Result, Ok, Err, codes, ◌≤◌}
 use Rattle.words36.specs.declared.moment.Moment.{Moment}
 use Rattle.std.specs.Io.KnownBytes.{Appends, Consumes, IsAtEnd}
-use Rattle.meaning.specs.Errands.{AreWords, surveys_of, volume_line}
+use Rattle.meaning.specs.Errands.{AreWords, enters, surveys_of, volume_line}
 use Rattle.meaning.specs.Jobs.{State}
 use Rattle.meaning.specs.Maps.{keys}
-use Rattle.meaning.specs.Plans.{Act, Plan, Say, Leads, Conducts}
+use Rattle.meaning.specs.Plans.{Act, Plan, Say, Leads, Conducts, begins, each}
 use Rattle.meaning.specs.Room.{room}
 use Rattle.meaning.specs.Runs.{Serving, Broken}
 use Rattle.meaning.specs.Texts.{Spoken, complains}
 use Rattle.meaning.specs.declared.call.Reply.{Reply}
 use Rattle.meaning.specs.declared.call.Reply.TheVariants.{NoMemory as NoMemoryReply, Failed}
+use Rattle.meaning.specs.declared.command.Command.TheVariants.{Delete as DeleteLine}
+use Rattle.meaning.specs.declared.command.Spec.{Spec}
 use Rattle.meaning.specs.declared.encoding.Encoding.{Encoding}
 use Rattle.meaning.specs.declared.style.Style.{Style}
 use Rattle.commands.specs.Asking.{Led}
@@ -23,6 +25,10 @@ use Rattle.commands.specs.declared.error.SessionError.{SessionError}
 use Rattle.commands.specs.declared.error.SessionError.TheVariants.{Read, Write, NoMemory}
 use Rattle.commands.specs.declared.reason.Misfit.TheVariants.{Excess}
 use Rattle.commands.specs.declared.reason.Reason.TheVariants.{Input}
+
+-- A file is deleted, as by DELETE.
+abbrev pub deletes_file : Moment → ℕ → Spec → Plan
+deletes_file moment owner spec = each moment (enters owner) (begins moment owner (DeleteLine spec))
 
 -- nothing was counted yet
 abbrev pub fresh : Tally

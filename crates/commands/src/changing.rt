@@ -1,5 +1,5 @@
 ghost use Rattle.std.specs.Prelude.{◌<◌, ◌++◌, Some};
-ghost use Rattle.meaning.specs.Plans.{Plan, each, finds as found};
+ghost use Rattle.meaning.specs.Plans.{Plan, deletes, each, finds as found};
 ghost use Rattle.meaning.specs.declared.command.Command.TheVariants.{Rename as RenameLine, Delete as DeleteLine};
 ghost use Rattle.meaning.specs.declared.command.Command.TheVariants.{Protect as ProtectLine};
 ghost use Rattle.commands.specs.Asking.{Led, followed};
@@ -27,6 +27,19 @@ fn change<S: FileService>(
 {
     ask_all(alloc, service, &finds(moment, spec))?;
     ask_all(alloc, service, changes)
+}
+
+/// Looks a file up, and deletes it.
+pub fn remove<S: FileService>(
+    alloc: Global,
+    service: &mut S,
+    moment: Moment,
+    spec: Spec,
+) -> Result<(), Reply>
+    ensures { (next : Plan) → Led S.machine service.old service.new (each moment (deletes moment spec) next)
+        (followed moment result (λ unit. next)) }
+{
+    change(alloc, service, moment, spec, &removes(moment))
 }
 
 /// Answers RENAME, for a job that is logged in.
@@ -58,7 +71,7 @@ pub fn delete<S: FileService>(
     ensures { Spoke (λ bytes. bytes.items) result S.machine service.old service.new moment (Some me)
         (Some me) tally.old tally.new (Some (DeleteLine spec)) }
 {
-    let deleted = change(alloc, service, moment, spec, &removes(moment));
+    let deleted = remove(alloc, service, moment, spec);
     conclude(alloc, service, moment, tally, deleted)
 }
 

@@ -4,10 +4,11 @@ ghost use Rattle.meaning.specs.Plans.{Say};
 ghost use Rattle.meaning.specs.Texts.{refuses};
 ghost use Rattle.commands.specs.Asking.{Concludes};
 ghost use Rattle.meaning.specs.declared.encoding.Encoding.{Encoding as Encodings};
-ghost use Rattle.commands.specs.Errands.{Delivery, Errand, no_room};
+ghost use Rattle.commands.specs.Errands.{Delivery, Errand, deletes_file, no_room};
 ghost use Rattle.commands.specs.Reasons.{HasWords, IsInputReason, words_said};
 
 use crate::answer::{Tally, is_broken, refuse};
+use crate::changing::remove;
 use crate::concluding::conclude;
 use crate::input_words::{most_bytes, read_input, unfit, words_of};
 use crate::putting::{enter, put_file};
@@ -59,6 +60,49 @@ pub fn write_out<W: Write, S: FileService>(
 {
     let mut tally = Tally::none();
     let text = get_file(alloc, service, moment, &mut tally, owner, encoding, spec);
+    print(writer, text)?;
+    Ok(tally)
+}
+
+/// Logs in, and deletes a file.
+fn delete_file<S: FileService>(
+    alloc: Global,
+    service: &mut S,
+    moment: Moment,
+    tally: &mut Tally,
+    owner: Ppn,
+    spec: Spec,
+) -> Result<Vec<u8>, AllocError>
+    ensures { Concludes (λ bytes. bytes.items) result S.machine service.old service.new
+        (deletes_file moment owner spec) tally.old tally.new }
+{
+    match enter(alloc, service, owner) {
+        Ok(()) => {
+            let deleted = remove(alloc, service, moment, spec);
+            conclude(alloc, service, moment, tally, deleted)
+        }
+        Err(reply) => conclude(alloc, service, moment, tally, Err(reply)),
+    }
+}
+
+/// Deletes a file by a job that logs in for it, and writes how that went.
+///
+/// # Errors
+///
+/// As of `write_out`; the calls were made.
+pub fn write_deleted<W: Write, S: FileService>(
+    alloc: Global,
+    writer: &mut W,
+    service: &mut S,
+    moment: Moment,
+    owner: Ppn,
+    spec: Spec,
+) -> Result<Tally, SessionError>
+    ensures { Errand (W.contents writer.old) (W.contents writer.new) S.machine service.old service.new
+        (deletes_file moment owner spec) result }
+{
+    let mut tally = Tally::none();
+    let text = delete_file(alloc, service, moment, &mut tally, owner, spec);
     print(writer, text)?;
     Ok(tally)
 }

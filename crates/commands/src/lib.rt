@@ -30,8 +30,8 @@
 //! 10. A start over what a crash left in the course of a session or a script, or of starts after it that were stopped
 //!    themselves, finds the files after some of its acts, or after these and the one that was running.
 //! (`start_after_acts`)
-//! 11. `put` reads and tests all of its input before its first call, and `get` and `list` write nothing before their
-//!    last one. Each does a plan by calls of job 1, which logs in for it, and writes what that says; what a crash
+//! 11. `put` reads and tests all of its input before its first call, and `get`, `delete` and `list` write nothing
+//!    before their last one. Each does a plan by calls of job 1, which logs in for it, and writes what that says; what a crash
 //!    leaves is said as of a session. (`Delivery`, `Errand`, `Survey`) `list` of all directories says that the service
 //!    has stopped only if it has failed. (`AreAsked`) `check` writes what a volume has. (`Checked`) If the input of
 //!    `put` can't be a file, the tally has the first byte or word that doesn't fit, or how much a file holds.
@@ -83,7 +83,7 @@ pub use laws::{
 };
 pub use meaning::{Encoding, Style};
 pub use monitor::{Area, Monitor, StartError};
-pub use monitored::{check, get, list, put, script, session};
+pub use monitored::{check, delete, get, list, put, script, session};
 pub use names::{file_named, owner_named};
 pub use reason::{Misfit, Reason, RefusedLines};
 pub use restart::start_after_acts;

@@ -2,11 +2,11 @@ ghost use Rattle.commands.specs.Machines.{Machine};
 ghost use Rattle.monitor.specs.States.{MonitorState};
 ghost use Rattle.commands.specs.Monitors.{machine_of};
 ghost use Rattle.commands.specs.Sessions.{Session, Script};
-ghost use Rattle.commands.specs.Errands.{Checked, Delivery, Errand, Survey};
+ghost use Rattle.commands.specs.Errands.{Checked, Delivery, Errand, Survey, deletes_file};
 ghost use Rattle.meaning.specs.Errands.{gets, keeps, own_file};
 
 use crate::answer::{SESSION_JOB, Tally};
-use crate::errands::{read_in, write_lists, write_out, write_refusal};
+use crate::errands::{read_in, write_deleted, write_lists, write_out, write_refusal};
 use crate::run::{converse, play, print};
 use crate::service::FileService;
 use crate::{SessionError, text};
@@ -117,6 +117,28 @@ pub fn get<W: Write, D: Disk>(
 {
     let spec = Spec { name, owner: None };
     write_out(alloc, writer, monitor, moment, owner, encoding, spec)
+}
+
+/// Deletes a file, by job 1, which logs in for it as the owner of a directory, at a moment, and writes `OK`, or why not.
+/// Of the calls that are made what is said of those of a session is said.
+///
+/// # Errors
+///
+/// `Write` if the writer failed, `NoMemory` if the text found no room: the calls were made.
+pub fn delete<W: Write, D: Disk>(
+    alloc: Global,
+    writer: &mut W,
+    monitor: &mut Monitor<D>,
+    moment: Moment,
+    owner: Ppn,
+    name: FileName,
+) -> Result<Tally, SessionError>
+    ensures { Errand (W.contents writer.old) (W.contents writer.new)
+        (λ (m : MonitorState D). machine_of (D.state m.disk) m.map m.failed m.jobs) monitor.old monitor.new
+        (deletes_file moment owner (own_file name)) result }
+{
+    let spec = Spec { name, owner: None };
+    write_deleted(alloc, writer, monitor, moment, owner, spec)
 }
 
 /// Makes a file of all that a reader has, by job 1, which logs in for it as the owner of a directory, at a moment; a

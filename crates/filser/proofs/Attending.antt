@@ -6,7 +6,7 @@ use Rattle.commands.specs.declared.answer.Tally.{Tally}
 use Rattle.commands.specs.declared.error.SessionError.{SessionError}
 use Rattle.filser.specs.Tasks.{Attends}
 use Rattle.filser.specs.declared.task.Task.{Task}
-use Rattle.filser.specs.declared.task.Task.TheVariants.{Run, Calls, Wire, Put, Get, List as ListAll, Check}
+use Rattle.filser.specs.declared.task.Task.TheVariants.{Run, Calls, Wire, Put, Get, Delete, List as ListAll, Check}
 
 -- its disk was honest before where it is afterwards
 pub was_honest : {D : Type 0} (state : D → DiskState) (task : Task) (source left sink full : Option (List ℕ))
@@ -17,6 +17,7 @@ was_honest state (Calls at) source left sink full first last result p h = p.goes
 was_honest state Wire source left sink full first last result p h = p.takes.goes.was_honest h
 was_honest state (Put file at) source left sink full first last result p h = p.goes.was_honest h
 was_honest state (Get file at) source left sink full first last result p h = p.1.goes.was_honest h
+was_honest state (Delete owner name) source left sink full first last result p h = p.3.goes.was_honest h
 was_honest state (ListAll place style) source left sink full first last result p h = p.3.errand.goes.was_honest h
 was_honest {D = D} state Check source left sink full first last result p h =
     subst (λ (m : MonitorState D). (state m.disk).honest) p.2 h

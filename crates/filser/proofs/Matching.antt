@@ -19,14 +19,14 @@ use Rattle.meaning.specs.declared.layout.Layout.{Layout}
 use Rattle.commands.specs.DayTexts.{IsDayText}
 use Rattle.commands.specs.Files.{IsFileName, IsOwnerName}
 use Rattle.arguments.specs.CommandLine.{command_line, making, serving, filing, looking, init_app, run_app, calls_app}
-use Rattle.arguments.specs.CommandLine.{put_app, get_app, list_app, check_app, convert_app, converting, dated, filed}
-use Rattle.arguments.specs.CommandLine.{formed, laid_out, migrate_app, sized, wire_app}
+use Rattle.arguments.specs.CommandLine.{put_app, get_app, delete_app, list_app, check_app, convert_app, converting, dated, filed}
+use Rattle.arguments.specs.CommandLine.{formed, laid_out, located, migrate_app, sized, wire_app}
 use Rattle.filser.specs.Requests.{Asks, IsAsked, IsTask, IsAt, IsNamedFile, IsListedPlace, HasForm, HasText, HasNumber}
-use Rattle.filser.specs.Requests.{HasLayout}
+use Rattle.filser.specs.Requests.{HasLayout, LacksOwned}
 use Rattle.filser.specs.Requests.{HasDate, IsDateNumber, IsMistaken, IsUsage, NamesNoDate, SaysDate, Spells, task_name}
 use Rattle.filser.specs.declared.task.NamedFile.{NamedFile}
 use Rattle.filser.specs.declared.task.Task.{Task}
-use Rattle.filser.specs.declared.task.Task.TheVariants.{Run, Calls, Wire, Put, Get, List as ListAll, Check}
+use Rattle.filser.specs.declared.task.Task.TheVariants.{Run, Calls, Wire, Put, Get, Delete, List as ListAll, Check}
 use Rattle.filser.specs.declared.error.RequestError.{RequestError}
 use Rattle.filser.specs.declared.error.WrongArgument.{WrongArgument}
 use Rattle.filser.specs.declared.error.RequestError.TheVariants.{Usage}
@@ -36,13 +36,13 @@ use Rattle.filser.specs.declared.asked.Request.TheVariants.{Fresh, Init, Work, C
 -- The command line is one of those whose matches `clap` computes.
 
 pub line-simple : is_simple command_line ≡ true
-unfolding clap_on_literals command_line making serving filing looking init_app dated filed run_app calls_app wire_app
-    put_app get_app list_app check_app convert_app migrate_app converting formed sized laid_out
+unfolding clap_on_literals command_line making serving filing looking init_app dated located filed run_app calls_app
+    wire_app put_app get_app delete_app list_app check_app convert_app migrate_app converting formed sized laid_out
 line-simple = refl
 
 pub line-free : is_simple_and_free command_line ≡ true
-unfolding clap_on_literals command_line making serving filing looking init_app dated filed run_app calls_app wire_app
-    put_app get_app list_app check_app convert_app migrate_app converting formed sized laid_out
+unfolding clap_on_literals command_line making serving filing looking init_app dated located filed run_app calls_app
+    wire_app put_app get_app delete_app list_app check_app convert_app migrate_app converting formed sized laid_out
 line-free = refl
 
 -- Texts and numbers.
@@ -116,17 +116,19 @@ out_of_range rows id least most m parsed outside n has =
 -- Arguments that name a file, a directory or a moment, and don't.
 
 pub no_owner : (rows : List Row) (text : Text) → HasText rows (codes "PPN") text
-    → ((owner : ℕ) → IsOwnerName text owner → ⊥) → (f : NamedFile) → IsNamedFile rows f → ⊥
-no_owner rows text has none f named =
-    let same = same_some named.owner.0 text (sym named.owner.1 ∙ has) in
-    none f.owner (subst (λ (t : Text). IsOwnerName t f.owner) same named.owner.2)
+    → ((owner : ℕ) → IsOwnerName text owner → ⊥) → LacksOwned rows
+no_owner rows text has none owner file owned =
+   let same = same_some owned.0.0 text (sym owned.0.1 ∙ has) in
+   none owner (subst (λ (t : Text). IsOwnerName t owner) same owned.0.2)
 
 pub no_name : (rows : List Row) (text : Text) → HasText rows (codes "NAME") text
-    → ((name ext : ℕ) → IsFileName (map upper text) name ext → ⊥) → (f : NamedFile) → IsNamedFile rows f → ⊥
-no_name rows text has none f named =
-    let same = same_some named.name.0 text (sym named.name.1 ∙ has) in
-    none f.name.name f.name.ext (subst (λ (t : Text). IsFileName (map upper t) f.name.name f.name.ext) same
-    named.name.2)
+    → ((name ext : ℕ) → IsFileName (map upper text) name ext → ⊥) → LacksOwned rows
+no_name rows text has none owner file owned =
+   let same = same_some owned.1.0 text (sym owned.1.1 ∙ has) in
+   none file.name file.ext (subst (λ (t : Text). IsFileName (map upper t) file.name file.ext) same owned.1.2)
+
+pub no_named : (rows : List Row) → LacksOwned rows → (f : NamedFile) → IsNamedFile rows f → ⊥
+no_named rows none f named = none f.owner f.name (named.owner, named.name)
 
 pub no_place : (rows : List Row) (text : Text) → HasText rows (codes "PPN") text
     → ((owner : ℕ) → IsOwnerName text owner → ⊥) → (place : Option ℕ) → IsListedPlace rows place → ⊥
@@ -158,6 +160,7 @@ task_mark (Calls at) = 293
 task_mark Wire = 329
 task_mark (Put file at) = 346
 task_mark (Get file at) = 305
+task_mark (Delete owner file) = 302
 task_mark (ListAll place style) = 318
 task_mark Check = 307
 
@@ -167,6 +170,7 @@ marked (Calls at) = refl
 marked Wire = refl
 marked (Put file at) = refl
 marked (Get file at) = refl
+marked (Delete owner file) = refl
 marked (ListAll place style) = refl
 marked Check = refl
 
@@ -180,6 +184,8 @@ init_is_no_task name (Run at) is asked = other_task name (codes "init") (Run at)
 init_is_no_task name (Calls at) is asked = other_task name (codes "init") (Calls at) 325 refl
     (λ e. omega arith) is asked
 init_is_no_task name Wire is asked = other_task name (codes "init") Wire 325 refl (λ e. omega arith) is asked
+init_is_no_task name (Delete owner file) is asked = other_task name (codes "init") (Delete owner file) 325 refl
+    (λ e. omega arith) is asked
 init_is_no_task name (Put file at) is asked = other_task name (codes "init") (Put file at) 325 refl (λ e. omega arith)
     is asked
 init_is_no_task name (Get file at) is asked = other_task name (codes "init") (Get file at) 325 refl (λ e. omega arith)
@@ -216,6 +222,8 @@ convert_is_no_task name (Run at) is asked = other_task name (codes "convert") (R
 convert_is_no_task name (Calls at) is asked = other_task name (codes "convert") (Calls at) 321 refl (λ e. omega arith)
     is asked
 convert_is_no_task name Wire is asked = other_task name (codes "convert") Wire 321 refl (λ e. omega arith) is asked
+convert_is_no_task name (Delete owner file) is asked = other_task name (codes "convert") (Delete owner file) 321 refl
+    (λ e. omega arith) is asked
 convert_is_no_task name (Put file at) is asked = other_task name (codes "convert") (Put file at) 321 refl
     (λ e. omega arith) is asked
 convert_is_no_task name (Get file at) is asked = other_task name (codes "convert") (Get file at) 321 refl
@@ -259,6 +267,8 @@ no_run name rows is none (Run at) asked = none at asked.1
 no_run name rows is none (Calls at) asked = other_task name (codes "run") (Calls at) 348 refl (λ e. omega arith) is
     asked.0
 no_run name rows is none Wire asked = other_task name (codes "run") Wire 348 refl (λ e. omega arith) is asked.0
+no_run name rows is none (Delete owner file) asked = other_task name (codes "run") (Delete owner file) 348 refl
+    (λ e. omega arith) is asked.0
 no_run name rows is none (Put file at) asked = other_task name (codes "run") (Put file at) 348 refl
     (λ e. omega arith) is
     asked.0
@@ -275,6 +285,8 @@ no_calls name rows is none (Run at) asked = other_task name (codes "calls") (Run
     asked.0
 no_calls name rows is none (Calls at) asked = none at asked.1
 no_calls name rows is none Wire asked = other_task name (codes "calls") Wire 293 refl (λ e. omega arith) is asked.0
+no_calls name rows is none (Delete owner file) asked = other_task name (codes "calls") (Delete owner file) 293 refl
+    (λ e. omega arith) is asked.0
 no_calls name rows is none (Put file at) asked = other_task name (codes "calls") (Put file at) 293 refl
     (λ e. omega arith) is asked.0
 no_calls name rows is none (Get file at) asked = other_task name (codes "calls") (Get file at) 293 refl
@@ -289,6 +301,8 @@ no_put name rows is none (Run at) asked = other_task name (codes "put") (Run at)
 no_put name rows is none (Calls at) asked = other_task name (codes "put") (Calls at) 346 refl (λ e. omega arith) is
     asked.0
 no_put name rows is none Wire asked = other_task name (codes "put") Wire 346 refl (λ e. omega arith) is asked.0
+no_put name rows is none (Delete owner file) asked = other_task name (codes "put") (Delete owner file) 346 refl
+    (λ e. omega arith) is asked.0
 no_put name rows is none (Put file at) asked = none file at asked.1.0 asked.1.1
 no_put name rows is none (Get file at) asked = other_task name (codes "put") (Get file at) 346 refl
     (λ e. omega arith) is
@@ -303,6 +317,8 @@ no_get name rows is none (Run at) asked = other_task name (codes "get") (Run at)
 no_get name rows is none (Calls at) asked = other_task name (codes "get") (Calls at) 305 refl (λ e. omega arith) is
     asked.0
 no_get name rows is none Wire asked = other_task name (codes "get") Wire 305 refl (λ e. omega arith) is asked.0
+no_get name rows is none (Delete owner file) asked = other_task name (codes "get") (Delete owner file) 305 refl
+    (λ e. omega arith) is asked.0
 no_get name rows is none (Put file at) asked = other_task name (codes "get") (Put file at) 305 refl
     (λ e. omega arith) is
     asked.0
@@ -310,6 +326,22 @@ no_get name rows is none (Get file at) asked = none file at asked.1.0 asked.1.1
 no_get name rows is none (ListAll place style) asked = other_task name (codes "get") (ListAll place style) 305 refl
     (λ e. omega arith) is asked.0
 no_get name rows is none Check asked = other_task name (codes "get") Check 305 refl (λ e. omega arith) is asked.0
+
+pub no_delete : (name : Text) (rows : List Row) → name ≡ codes "delete" → LacksOwned rows → (t : Task)
+    → IsTask name rows t → ⊥
+no_delete name rows is none (Run at) asked = other_task name (codes "delete") (Run at) 302 refl (λ e. omega arith) is
+    asked.0
+no_delete name rows is none (Calls at) asked = other_task name (codes "delete") (Calls at) 302 refl (λ e. omega arith)
+    is asked.0
+no_delete name rows is none Wire asked = other_task name (codes "delete") Wire 302 refl (λ e. omega arith) is asked.0
+no_delete name rows is none (Put file at) asked = other_task name (codes "delete") (Put file at) 302 refl
+    (λ e. omega arith) is asked.0
+no_delete name rows is none (Get file at) asked = other_task name (codes "delete") (Get file at) 302 refl
+    (λ e. omega arith) is asked.0
+no_delete name rows is none (Delete owner file) asked = none owner file asked.1
+no_delete name rows is none (ListAll place style) asked = other_task name (codes "delete") (ListAll place style) 302
+    refl (λ e. omega arith) is asked.0
+no_delete name rows is none Check asked = other_task name (codes "delete") Check 302 refl (λ e. omega arith) is asked.0
 
 -- Where `clap` answers, for any app that is the command line.
 

@@ -5,6 +5,7 @@ use Rattle.clap.specs.Words.{IsAmong, Kinds, Row, Text, first_of, kind_of, one_o
 use Rattle.clap.specs.declared.error.Error.{Error}
 use Rattle.clap.specs.declared.error.kind.ErrorKind.TheVariants.{ValueValidation}
 use Rattle.words36.specs.declared.moment.Moment.{Moment}
+use Rattle.words36.specs.declared.names.FileName.{FileName}
 use Rattle.meaning.specs.Lines.{upper}
 use Rattle.imagefile.specs.declared.form.Form.{Form}
 use Rattle.imagefile.specs.declared.form.Form.TheVariants.{Wide, Packed}
@@ -21,7 +22,7 @@ use Rattle.filser.specs.declared.error.WrongArgument.{WrongArgument}
 use Rattle.filser.specs.declared.error.WrongArgument.TheVariants.{Owner, Name, Date}
 use Rattle.filser.specs.declared.task.NamedFile.{NamedFile}
 use Rattle.filser.specs.declared.task.Task.{Task}
-use Rattle.filser.specs.declared.task.Task.TheVariants.{Run, Calls, Wire, Put, Get, List as ListAll, Check}
+use Rattle.filser.specs.declared.task.Task.TheVariants.{Run, Calls, Wire, Put, Get, Delete, List as ListAll, Check}
 
 -- the text of an argument
 abbrev pub HasText : List Row → Text → Text → Type 0
@@ -42,6 +43,13 @@ HasOwner rows owner = (text : Text) × HasText rows (codes "PPN") text × IsOwne
 
 abbrev pub HasFileName : List Row → ℕ → ℕ → Type 0
 HasFileName rows name ext = (text : Text) × HasText rows (codes "NAME") text × IsFileName (map upper text) name ext
+
+-- both of a file
+abbrev pub HasOwned : List Row → ℕ → FileName → Type 0
+HasOwned rows owner file = HasOwner rows owner × HasFileName rows file.name file.ext
+
+abbrev pub LacksOwned : List Row → Type 0
+LacksOwned rows = (owner : ℕ) (file : FileName) → HasOwned rows owner file → ⊥
 
 -- Its bytes are words where that is asked for.
 pub record IsNamedFile (rows : List Row) (file : NamedFile) : Type 0 where
@@ -65,6 +73,7 @@ task_name (Calls at) = codes "calls"
 task_name Wire = codes "wire"
 task_name (Put file at) = codes "put"
 task_name (Get file at) = codes "get"
+task_name (Delete owner name) = codes "delete"
 task_name (ListAll place style) = codes "list"
 task_name Check = codes "check"
 
@@ -89,6 +98,7 @@ HasTask rows (Calls at) = IsAt rows at
 HasTask rows Wire = Unit
 HasTask rows (Put file at) = IsNamedFile rows file × IsAt rows at
 HasTask rows (Get file at) = IsNamedFile rows file × IsAt rows at
+HasTask rows (Delete owner name) = HasOwned rows owner name
 HasTask rows (ListAll place style) = IsListedPlace rows place × IsStyle rows style
 HasTask rows Check = Unit
 

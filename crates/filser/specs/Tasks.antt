@@ -4,14 +4,14 @@ use Rattle.words36.specs.declared.moment.Moment.{Moment}
 use Rattle.blockdisk.specs.Disk.{DiskState}
 use Rattle.meaning.specs.Errands.{gets, keeps, own_file}
 use Rattle.monitor.specs.States.{MonitorState}
-use Rattle.commands.specs.Errands.{Checked, Delivery, Errand, Survey}
+use Rattle.commands.specs.Errands.{Checked, Delivery, Errand, Survey, deletes_file}
 use Rattle.commands.specs.Sessions.{Session, Script}
 use Rattle.commands.specs.declared.answer.Tally.{Tally}
 use Rattle.commands.specs.declared.error.SessionError.{SessionError}
 use Rattle.exchange.specs.Exchanges.{Exchange}
 use Rattle.filser.specs.ServedDisks.{machine_over}
 use Rattle.filser.specs.declared.task.Task.{Task}
-use Rattle.filser.specs.declared.task.Task.TheVariants.{Run, Calls, Wire, Put, Get, List as ListAll, Check}
+use Rattle.filser.specs.declared.task.Task.TheVariants.{Run, Calls, Wire, Put, Get, Delete, List as ListAll, Check}
 
 -- date 0, minute 0
 abbrev pub IsFirstMoment : Moment → Type 0
@@ -32,6 +32,9 @@ Attends state (Put file at) source left sink full first last result =
     (keeps at file.owner file.encoding (own_file file.name)) result
 Attends state (Get file at) source left sink full first last result = (left ≡ source)
     × Errand sink full (machine_over state) first last (gets at file.owner file.encoding (own_file file.name)) result
+Attends state (Delete owner name) source left sink full first last result = (left ≡ source)
+    × (at : Moment) × IsFirstMoment at
+    × Errand sink full (machine_over state) first last (deletes_file at owner (own_file name)) result
 Attends state (ListAll place style) source left sink full first last result = (left ≡ source)
     × (at : Moment) × IsFirstMoment at × Survey sink full (machine_over state) first last at style place result
 Attends state Check source left sink full first last result = (left ≡ source)

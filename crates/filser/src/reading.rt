@@ -6,6 +6,7 @@ ghost use Rattle.clap.specs.declared.error.Error.{Error as ClapError};
 ghost use Rattle.clap.specs.declared.error.kind.ErrorKind.TheVariants.{OutOfMemory};
 ghost use Rattle.arguments.specs.CommandLine.{command_line};
 ghost use Rattle.filser.specs.Requests.{Asks, IsAsked, IsAt, IsNamedFile};
+ghost use Rattle.filser.specs.Requests.{HasOwned, LacksOwned};
 ghost use Rattle.filser.specs.Requests.{IsListedPlace, IsStyle, IsTask, HasForm, HasLayout, HasText};
 ghost use Rattle.filser.specs.Requests.{HasDate, HasNumber, IsFaultIn, IsMistaken, IsUsage, IsWrong, NamesDate};
 ghost use Rattle.filser.specs.Requests.{IsDateNumber, LacksDate, NamesFile, NamesNoDate, NamesOwner, SaysDate};
@@ -31,7 +32,7 @@ use imagefile::Form;
 use meaning::layout::Layout;
 use std::alloc::{AllocError, Global};
 use std::num::IntErrorKind;
-use words36::{Moment, Ppn};
+use words36::{FileName, Moment, Ppn};
 
 /// The last date of the calendar, of fifteen bits.
 const LAST_DATE: u32 = 32767;
@@ -141,6 +142,10 @@ fn task(name: &str, matches: &ArgMatches) -> Option<Task>
         "wire" => Some(Task::Wire),
         "put" => Some(Task::Put(named(matches)?, moment(matches)?)),
         "get" => Some(Task::Get(named(matches)?, moment(matches)?)),
+        "delete" => {
+            let (owner, name) = owned(matches)?;
+            Some(Task::Delete(owner, name))
+        }
         "list" => Some(Task::List(place(matches)?, style(matches))),
         "check" => Some(Task::Check),
         _ => None,
@@ -312,13 +317,22 @@ fn style(matches: &ArgMatches) -> Style
     }
 }
 
-/// The file that is named.
+/// The owner and the name that are given.
+fn owned(matches: &ArgMatches) -> Option<(Ppn, FileName)>
+    ensures { MatchOption result (LacksOwned (rows_of (found_of matches.now)))
+        (λ file. HasOwned (rows_of (found_of matches.now)) file.0 file.1) }
+{
+    let owner = owner_named(text(matches, "PPN")?.as_bytes())?;
+    let name = file_named(text(matches, "NAME")?.as_bytes())?;
+    Some((owner, name))
+}
+
+/// The file that is named, and what its bytes say.
 fn named(matches: &ArgMatches) -> Option<NamedFile>
     ensures { MatchOption result ((f : NamedFiles) → IsNamedFile (rows_of (found_of matches.now)) f → ⊥)
         (IsNamedFile (rows_of (found_of matches.now))) }
 {
-    let owner = owner_named(text(matches, "PPN")?.as_bytes())?;
-    let name = file_named(text(matches, "NAME")?.as_bytes())?;
+    let (owner, name) = owned(matches)?;
     Some(NamedFile {
         owner,
         name,

@@ -15,7 +15,9 @@ use crate::program::refuse_image;
 use crate::reasons::{tell_ending, tell_late_date};
 use crate::{Disks, Host, ImageDisks, OpeningLeave, Refusal, Run, Seen, Status, Task};
 use blockdisk::{Disk, MemDisk};
-use commands::{Monitor, SessionError, Tally, Volume, check, get, list, put, script, session};
+use commands::{
+    Monitor, SessionError, Tally, Volume, check, delete, get, list, put, script, session,
+};
 use exchange::serve_wire;
 use imagefile::Form;
 use std::alloc::Global;
@@ -106,6 +108,7 @@ fn attend<D: Disk, R: Read, W: Write>(
             file.encoding,
             file.name,
         ),
+        Task::Delete(owner, name) => delete(alloc, writer, monitor, no_moment(), owner, name),
         Task::List(place, style) => list(alloc, writer, monitor, no_moment(), style, place),
         Task::Check => check(alloc, writer, monitor),
     }

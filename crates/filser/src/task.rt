@@ -26,6 +26,8 @@ pub enum Task {
     Put(NamedFile, Moment),
     /// `get`: print a file.
     Get(NamedFile, Moment),
+    /// `delete`: delete a file, which is in the directory of this owner.
+    Delete(Ppn, FileName),
     /// `list`: print the list of a directory, or of all that there are, and how.
     List(Option<Ppn>, Style),
     /// `check`: print how many blocks it has, and how many are left.
@@ -37,7 +39,7 @@ impl Task {
     pub fn moment(&self) -> Option<Moment> {
         match self {
             Task::Run(at) | Task::Calls(at) | Task::Put(_, at) | Task::Get(_, at) => Some(*at),
-            Task::Wire | Task::List(_, _) | Task::Check => None,
+            Task::Wire | Task::Delete(_, _) | Task::List(_, _) | Task::Check => None,
         }
     }
 
@@ -45,7 +47,11 @@ impl Task {
     pub fn access(&self) -> Access {
         match self {
             Task::Get(_, _) | Task::List(_, _) | Task::Check => Access::Read,
-            Task::Run(_) | Task::Calls(_) | Task::Wire | Task::Put(_, _) => Access::Write,
+            Task::Run(_)
+            | Task::Calls(_)
+            | Task::Wire
+            | Task::Put(_, _)
+            | Task::Delete(_, _) => Access::Write,
         }
     }
 }

@@ -1,14 +1,11 @@
-use Rattle.std.proofs.Common.{◌++◌, refl, ap}
-use Rattle.meaning.specs.Plans.{ends, ok, finds}
+use Rattle.std.proofs.Common.{refl}
+use Rattle.meaning.specs.Plans.{ends, ok}
 use Rattle.meaning.specs.declared.command.Command.TheVariants.{Delete as DeleteLine}
-use Rattle.commands.proofs.CopyingLaws.{led_each}
 use Rattle.commands.proofs.AnswerLaws.{spoke_concluded}
 use Rattle.commands.proofs.changing.delete.Goals as goal
 
 pub returns : goal.returns
 returns g c = spoke_concluded g.S.FileService.machine g.met.S.FileService.stands
     (λ bytes. bytes.items) c.conclude.result c.args.moment c.args.tally.now c.conclude.new.tally _ _ _ c.args.me
-    (DeleteLine c.args.spec) _ (λ acts said p. (p, refl))
-    (led_each g.S.FileService.machine _ _ c.args.moment (finds c.args.moment c.args.spec ++ c.removes.result) _
-    (ends c.args.moment ok) _ (ap (λ l. finds c.args.moment c.args.spec ++ l) c.removes.ensures)
-    (c.change-deleted.ensures (ends c.args.moment ok))) c.conclude.ensures
+    (DeleteLine c.args.spec) _ (λ acts said p. (p, refl)) (c.remove-deleted.ensures (ends c.args.moment ok))
+    c.conclude.ensures

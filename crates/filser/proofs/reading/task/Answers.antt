@@ -1,5 +1,5 @@
 use Rattle.clap.specs.Words.{found_of, rows_of}
-use Rattle.filser.proofs.Matching.{no_run, no_calls, no_put, no_get}
+use Rattle.filser.proofs.Matching.{no_run, no_calls, no_put, no_get, no_delete}
 use Rattle.filser.proofs.reading.task.Goals as goal
 
 pub returns-in_err-moment-in-run : goal.returns-in_err-moment-in-run
@@ -35,3 +35,8 @@ returns-in_err-moment-in-get c =
     rw c.from_residual-in_err-moment-in-get.ensures
     (no_get c.args.name.now (rows_of (found_of c.args.matches.now)) c.in-get.is
     (λ f at named is. c.in_err-moment-in-get.ensures at is))
+
+pub returns-in_err-owner-in-delete : goal.returns-in_err-owner-in-delete
+returns-in_err-owner-in-delete c =
+    rw c.from_residual-in_err-owner-in-delete.ensures
+    (no_delete c.args.name.now (rows_of (found_of c.args.matches.now)) c.in-delete.is c.in_err-owner-in-delete.ensures)
