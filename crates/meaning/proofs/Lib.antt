@@ -38,7 +38,7 @@ pub mod UpdateRows
 pub mod RemovalRows
 pub mod RingRows
 pub mod TextRows
-mod ToldLaws
+pub mod ToldLaws
 mod ErrandRows
 pub mod SpelledRows
 pub mod SlotLaws

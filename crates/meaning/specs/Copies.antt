@@ -1,6 +1,6 @@
 -- What a line of a session, or an errand of job 1, comes to: the file that a copy leaves, the text that a file is shown
 -- as, the file that is put.
-use Rattle.std.specs.Prelude.{◌≡◌, ◌⊎◌, ◌≤◌, ◌<◌, ℕ, ◌^◌, Bool, true, false, IsTrue, List, length, unwrap_or, Option}
+use Rattle.std.specs.Prelude.{◌≡◌, ◌⊎◌, ◌≤◌, ◌<◌, ℕ, ◌^◌, Bool, true, false, List, length, unwrap_or, Option}
 use Rattle.std.specs.Prelude.{Some, None, codes}
 use Rattle.words36.specs.Octets.{AreOctets}
 use Rattle.words36.specs.declared.moment.Moment.{Moment}
@@ -14,7 +14,7 @@ use Rattle.meaning.specs.Room.{Pack}
 use Rattle.meaning.specs.Runs.{Service, Serving, Broken, Steps, Answers, AnswersAll, IsStart}
 use Rattle.meaning.specs.Sound.{writes_at}
 use Rattle.meaning.specs.Stands.{Stands}
-use Rattle.meaning.specs.Texts.{Spoken, prints, file_said, complains}
+use Rattle.meaning.specs.Texts.{Spoken, prints, file_said, complains, refuses}
 use Rattle.meaning.specs.Plans.{Plan, Act, Conducts, ok, copies, reads_file}
 use Rattle.meaning.specs.Opening.{dump_mode}
 use Rattle.meaning.specs.Transcripts.{Went, core_words}
@@ -61,9 +61,9 @@ abbrev pub HasFiles : Files Version → Service → Type 0
 HasFiles files Broken = Unit {0}
 HasFiles files (Serving after) = after.files ≡ files
 
--- the line is refused, and the files are those from before
+-- the line is refused for a reply, and the files are those from before
 abbrev pub IsLineRefused : Files Version → Spoken → Service → Type 0
-IsLineRefused files said new = IsTrue said.refused × HasFiles files new
+IsLineRefused files said new = ((reply : Reply) × (said ≡ refuses reply)) × HasFiles files new
 
 -- a superseding file keeps the protection of the one that was there
 abbrev pub kept_protection : Option Version → ℕ
