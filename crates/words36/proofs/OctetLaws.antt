@@ -5,7 +5,6 @@ use Rattle.std.proofs.Common.{bit_and, nat_eq}
 use Rattle.std.proofs.lemmas.Grind.{common_steps}
 use Rattle.std.specs.List.{All}
 use Rattle.std.proofs.lemmas.List.Elements.{All-drop, All-take, All-append}
-use Rattle.std.proofs.lemmas.List.{append-nil}
 use Rattle.words36.specs.Words.{IsWord}
 use Rattle.words36.specs.Octets.{octet_word, full_word_mark, octets_packed, IsOctet, AreOctets, four_octets}
 use Rattle.words36.specs.Octets.{CountsOctets, octets_in, octets_unpacked}
@@ -53,9 +52,9 @@ abbrev pub count_in : ℕ → Bool → ℕ
 count_in w true = w % 16
 count_in w false = 4
 
-abbrev pub mark_in : Bool → ℕ → ℕ
-mark_in true count = count
-mark_in false count = 0
+abbrev pub CountsIn : Bool → ℕ → ℕ → Type 0
+CountsIn true w count = CountsOctets w count
+CountsIn false w count = (w % 16 ≡ 0) × (count ≡ 4)
 
 -- the bytes of words
 
@@ -65,7 +64,7 @@ octets (w ∷ words) = take (count_in w (is_end words)) (four_octets w) ++ octet
 
 abbrev pub AreSpelled : List ℕ → Type 0
 AreSpelled [] = Unit {0}
-AreSpelled (w ∷ words) = IsWord w × CountsOctets (is_end words) w (count_in w (is_end words)) × AreSpelled words
+AreSpelled (w ∷ words) = IsWord w × CountsIn (is_end words) w (count_in w (is_end words)) × AreSpelled words
 
 end-packed : (bytes : List ℕ) → is_end (octets_packed bytes) ≡ is_end bytes
 end-packed [] = refl
@@ -74,46 +73,42 @@ end-packed (a ∷ b ∷ []) = refl
 end-packed (a ∷ b ∷ c ∷ []) = refl
 end-packed (a ∷ b ∷ c ∷ d ∷ rest) = refl
 
-mark-is : (bytes : List ℕ) → full_word_mark bytes ≡ mark_in (is_end bytes) 4
-mark-is [] = refl
-mark-is (b ∷ bytes) = refl
-
 -- the word of a group
-last_word : (a b c d count : ℕ) → a < 256 → b < 256 → c < 256 → d < 256 → 1 ≤ count → count ≤ 4
+ended_word : (a b c d count : ℕ) → a < 256 → b < 256 → c < 256 → d < 256 → 1 ≤ count → count ≤ 4
     → (a * 256 ^ 3 + b * 256 ^ 2 + c * 256 + d) % 256 ^ (4 - count) ≡ 0
-    → CountsOctets true (octet_word a b c d count) count
-last_word a b c d count p q r s from to none =
+    → CountsOctets (octet_word a b c d count) count
+ended_word a b c d count p q r s from to none =
     let low = low-octets a b c d count (omega arith) in
     let above : octet_word a b c d count / 16 ≡ a * 256 ^ 3 + b * 256 ^ 2 + c * 256 + d = omega arith in
     (low, from, to, rw above none)
 
-last-counts : (w count : ℕ) → CountsOctets true w count → CountsOctets true w (w % 16)
-last-counts w count c = subst (λ n. CountsOctets true w n) (sym c.0) c
+last-counts : (w count : ℕ) → CountsOctets w count → CountsOctets w (w % 16)
+last-counts w count c = subst (λ n. CountsOctets w n) (sym c.0) c
 
 pub packed-spelled : (bytes : List ℕ) → All IsOctet bytes → AreSpelled (octets_packed bytes)
 packed-spelled [] h = tt
 packed-spelled (a ∷ []) h =
     let p = h 0 0 (omega arith) in
-    let counted = last_word a 0 0 0 1 p (omega arith) (omega arith) (omega arith) (omega arith) (omega arith)
+    let counted = ended_word a 0 0 0 1 p (omega arith) (omega arith) (omega arith) (omega arith) (omega arith)
     (omega arith) in
     (omega arith, last-counts (octet_word a 0 0 0 1) 1 counted, tt)
 packed-spelled (a ∷ b ∷ []) h =
     let p = h 0 0 (omega arith) in
     let q = h 1 0 (omega arith) in
-    let counted = last_word a b 0 0 2 p q (omega arith) (omega arith) (omega arith) (omega arith) (omega arith) in
+    let counted = ended_word a b 0 0 2 p q (omega arith) (omega arith) (omega arith) (omega arith) (omega arith) in
     (omega arith, last-counts (octet_word a b 0 0 2) 2 counted, tt)
 packed-spelled (a ∷ b ∷ c ∷ []) h =
     let p = h 0 0 (omega arith) in
     let q = h 1 0 (omega arith) in
     let r = h 2 0 (omega arith) in
-    let counted = last_word a b c 0 3 p q r (omega arith) (omega arith) (omega arith) (omega arith) in
+    let counted = ended_word a b c 0 3 p q r (omega arith) (omega arith) (omega arith) (omega arith) in
     (omega arith, last-counts (octet_word a b c 0 3) 3 counted, tt)
 packed-spelled (a ∷ b ∷ c ∷ d ∷ []) h =
     let p = h 0 0 (omega arith) in
     let q = h 1 0 (omega arith) in
     let r = h 2 0 (omega arith) in
     let s = h 3 0 (omega arith) in
-    let counted = last_word a b c d 4 p q r s (omega arith) (omega arith) (omega arith) in
+    let counted = ended_word a b c d 4 p q r s (omega arith) (omega arith) (omega arith) in
     (omega arith, last-counts (octet_word a b c d 4) 4 counted, tt)
 packed-spelled (a ∷ b ∷ c ∷ d ∷ e ∷ rest) h =
     let p = h 0 0 (omega arith) in
@@ -121,9 +116,9 @@ packed-spelled (a ∷ b ∷ c ∷ d ∷ e ∷ rest) h =
     let r = h 2 0 (omega arith) in
     let s = h 3 0 (omega arith) in
     let w = octet_word a b c d 0 in
-    let full : CountsOctets false w 4 = (low-octets a b c d 0 (omega arith), refl) in (
+    let full : CountsIn false w 4 = (low-octets a b c d 0 (omega arith), refl) in (
       omega arith,
-      subst (λ end. CountsOctets end w (count_in w end)) (sym (end-packed (e ∷ rest))) full,
+      subst (λ end. CountsIn end w (count_in w end)) (sym (end-packed (e ∷ rest))) full,
       packed-spelled (e ∷ rest) (All-drop IsOctet 4 (a ∷ b ∷ c ∷ d ∷ e ∷ rest) h),
     )
 
@@ -166,7 +161,7 @@ full_mark-more : (bytes : List ℕ) → 0 < length bytes → full_word_mark byte
 full_mark-more [] h = absurd (omega arith)
 full_mark-more (b ∷ bytes) h = refl
 
-last_again : (w count : ℕ) → IsWord w → CountsOctets true w count
+last_again : (w count : ℕ) → IsWord w → CountsOctets w count
     → w ∷ [] ≡ octets_packed (take count (four_octets w) ++ [])
 last_again w zero h c = absurd (omega (arith, c.1))
 last_again w (suc zero) h c = ap (λ x. x ∷ []) (omega (arith, c.0, c.3))
@@ -208,27 +203,8 @@ end-is : (words : List ℕ) → is_end words ≡ nat_eq (length words) 0
 end-is [] = refl
 end-is (w ∷ words) = search arith
 
-spelled-of : (words bytes : List ℕ) → AreOctets words bytes → AreSpelled words
+pub spelled-of : (words bytes : List ℕ) → AreOctets words bytes → AreSpelled words
 spelled-of words bytes a = subst AreSpelled (sym a.packed) (packed-spelled bytes a.fit)
-
-pub refused-at : (words rest after : List ℕ) (w : ℕ) (last : Bool) → rest ≡ w ∷ after
-    → last ≡ nat_eq (length after) 0 → ((count : ℕ) → CountsOctets last w count → ⊥)
-    → (AreSpelled words → AreSpelled rest) → (bytes : List ℕ) → AreOctets words bytes → ⊥
-refused-at words rest after w last split is none on bytes a =
-    let here : AreSpelled (w ∷ after) = subst AreSpelled split (on (spelled-of words bytes a)) in
-    let end : is_end after ≡ last = end-is after ∙ sym is in
-    none (count_in w (is_end after)) (subst (λ e. CountsOctets e w (count_in w (is_end after))) end here.1)
-
-pub read-whole : (words bytes rest : List ℕ) → length rest ≡ 0 → bytes ++ octets rest ≡ octets words
-    → (AreSpelled rest → AreSpelled words) → AreOctets words bytes
-read-whole words bytes (w ∷ rest) ended so_far back = absurd (omega arith)
-read-whole words bytes [] ended so_far back =
-    let spelled = back tt in
-    let all : bytes ≡ octets words = sym (append-nil bytes) ∙ so_far in
-    record {
-      fit = subst (All IsOctet) (sym all) (are_octets words);
-      packed = packed-octets words spelled ∙ ap octets_packed (sym all);
-    }
 
 -- the bytes that are found
 

@@ -1,7 +1,7 @@
 -- Bytes of eight bits, four in a word from the left, which is the industry's own form. Bits 0 to 31 of a word are its
 -- bytes. Bits 32 to 35, the low four bits, are 0 in each word except the last. In the last word they hold how many of
 -- its bytes count, 1 to 4, and the bytes that don't count are 0. No bytes are no words.
-use Rattle.std.specs.Prelude.{ℕ, Bool, true, false, ◌+◌, ◌-◌, ◌*◌, ◌/◌, ◌%◌, ◌^◌, ◌<◌, ◌≤◌, ◌≡◌, List, [], ◌∷◌, All}
+use Rattle.std.specs.Prelude.{ℕ, ◌+◌, ◌-◌, ◌*◌, ◌/◌, ◌%◌, ◌^◌, ◌<◌, ◌≤◌, ◌≡◌, List, [], ◌∷◌, All}
 use Rattle.std.specs.Prelude.{◌++◌, take, Option, Some, None, if◌then◌else◌}
 use Rattle.std.specs.Str.{bytes_eq}
 
@@ -48,11 +48,9 @@ octets_in (w ∷ words) = take (octet_count w words) (four_octets w) ++ octets_i
 abbrev pub octets_unpacked : List ℕ → Option (List ℕ)
 octets_unpacked words = if bytes_eq (octets_packed (octets_in words)) words then Some (octets_in words) else None
 
--- how many bytes of a word count, if its low four bits and its other bytes are right for that: of the last word, and
--- of another one
-abbrev pub CountsOctets : Bool → ℕ → ℕ → Type 0
-CountsOctets true w count = (w % 16 ≡ count) × (1 ≤ count) × (count ≤ 4) × (w / 16 % 256 ^ (4 - count) ≡ 0)
-CountsOctets false w count = (w % 16 ≡ 0) × (count ≡ 4)
+-- how many bytes of the last word count, if its low four bits say so and its other bytes are 0
+abbrev pub CountsOctets : ℕ → ℕ → Type 0
+CountsOctets w count = (w % 16 ≡ count) × (1 ≤ count) × (count ≤ 4) × (w / 16 % 256 ^ (4 - count) ≡ 0)
 
 -- Laws: bytes with the same words are the same.
 abbrev pub OctetsAreOne : Type 0

@@ -1,5 +1,7 @@
+ghost use Rattle.std.specs.Prelude.{◌%◌, ◌==◌, ◌&&◌, ◌∷◌, ◌++◌, [], OnErr};
 ghost use Rattle.std.specs.Prelude.{◌≡◌, ◌<◌, ◌≤◌, ◌^◌, ℕ, List, true, false, Some, None, IfOk, IfSome, IfNone, length, slice_index};
 ghost use Rattle.words36.specs.Octets.{octets_packed, octets_unpacked, octet_word, four_octets, AreOctets};
+ghost use Rattle.words36.specs.OctetReading.{HasRead};
 ghost use Rattle.words36.specs.Octets.{CountsOctets, OctetsAreOne, OctetsAreFound, FoundOctetsAreRight};
 
 use crate::Word;
@@ -31,20 +33,116 @@ pub fn pack_octets(alloc: Global, bytes: &[u8]) -> Result<Vec<Word>, AllocError>
 /// `AllocError` if the bytes found no room.
 pub fn unpack_octets(alloc: Global, words: &[Word]) -> Result<Option<Vec<u8>>, AllocError>
     ensures bytes { IfOk result (λ read. IfSome read (λ bytes. AreOctets words.now bytes.items)) }
-    ensures found { IfOk result (λ read. IfSome read (λ bytes. octets_unpacked words.now ≡ Some bytes.items)) }
-    ensures none { IfOk result (λ read. IfNone read (octets_unpacked words.now ≡ None)) }
     ensures refused { IfOk result (λ read. IfNone read ((bytes : List ℕ) → AreOctets words.now bytes → ⊥)) }
 {
-    let mut bytes = Vec::new(alloc);
-    let mut rest = words;
-    while let Some((word, after)) = rest.split_first() {
-        let Some(count) = octet_count(*word, after.is_empty()) else {
+    let mut reader = OctetReader::new(alloc);
+    for word in words {
+        reader.push(*word);
+    }
+    reader.finish()
+}
+
+/// Finds the bytes of words that come one after the other.
+#[derive(Drop)]
+pub struct OctetReader {
+    /// The bytes of all words before the last.
+    bytes: Vec<u8>,
+    last: Option<Word>,
+    /// Whether the low four bits of all words before the last are 0.
+    is_full: bool,
+    /// Whether there was memory for all bytes. Without them too it is known whether bytes have these words.
+    is_whole: bool,
+}
+
+impl OctetReader {
+    /// Begins, before the first word.
+    pub fn new(alloc: Global) -> OctetReader
+        ensures { HasRead result [] }
+    {
+        OctetReader {
+            bytes: Vec::new(alloc),
+            last: None,
+            is_full: true,
+            is_whole: true,
+        }
+    }
+
+    /// Takes the next word.
+    pub fn push(&mut self, word: Word)
+        ensures { (words : List ℕ) → HasRead self.old words → HasRead self.new (words ++ word ∷ []) }
+    {
+        match self.last {
+            Some(last) => self.put(last, word),
+            None => self.begin(word),
+        }
+    }
+
+    /// Takes the first word.
+    fn begin(&mut self, word: Word)
+        ensures last { self.new.last ≡ Some word }
+        ensures full { self.new.is_full ≡ self.old.is_full }
+        ensures whole { self.new.is_whole ≡ self.old.is_whole }
+        ensures bytes { self.new.bytes.items ≡ self.old.bytes.items }
+        ensures fits { word < 2 ^ 36 }
+    {
+        let _bits = word.bits();
+        self.last = Some(word);
+    }
+
+    /// Takes a word that follows the last one.
+    fn put(&mut self, last: Word, word: Word)
+        ensures last { self.new.last ≡ Some word }
+        ensures full { self.new.is_full ≡ self.old.is_full && last % 16 == 0 }
+        ensures whole { self.new.is_whole ≡ true → self.old.is_whole ≡ true }
+        ensures bytes { self.new.is_whole ≡ true → self.new.bytes.items ≡ self.old.bytes.items ++ four_octets last }
+        ensures fits { word < 2 ^ 36 }
+    {
+        let _bits = word.bits();
+        let pushed = self.bytes.extend_from_slice(&octets_of(last)).is_ok();
+        self.is_whole = self.is_whole && pushed;
+        self.is_full = self.is_full && last.bits() & 0o17 == 0;
+        self.last = Some(word);
+    }
+
+    /// How many bytes of the last word count, or `None` if no bytes have these words.
+    fn count(&self) -> Option<usize>
+        ensures some { IfSome result (λ count. (w : ℕ) → self.now.last ≡ Some w
+            → (self.now.is_full ≡ true) × CountsOctets w count) }
+        ensures none { IfNone result ((w : ℕ) × (self.now.last ≡ Some w)
+            × ((self.now.is_full ≡ true) → (count : ℕ) → CountsOctets w count → ⊥)) }
+        ensures empty { IfSome result (λ count. self.now.last ≡ None → count ≡ 0) }
+        ensures most { IfSome result (λ count. count ≤ 4) }
+    {
+        match self.last {
+            Some(last) if self.is_full => last_count(last),
+            Some(_) => None,
+            None => Some(0),
+        }
+    }
+
+    /// The bytes whose words these are, or `None` if no bytes have such words.
+    ///
+    /// # Errors
+    ///
+    /// `AllocError` if these bytes found no room.
+    pub fn finish(self) -> Result<Option<Vec<u8>>, AllocError>
+        ensures found { (words : List ℕ) → HasRead self words
+            → IfOk result (λ read. IfSome read (λ bytes. octets_unpacked words ≡ Some bytes.items)) }
+        ensures none { (words : List ℕ) → HasRead self words
+            → IfOk result (λ read. IfNone read (octets_unpacked words ≡ None)) }
+        ensures no_room { (words : List ℕ) → HasRead self words
+            → OnErr result ((bytes : List ℕ) × (octets_unpacked words ≡ Some bytes)) }
+    {
+        let Some(count) = self.count() else {
             return Ok(None);
         };
-        bytes.extend_from_slice(&octets_of(*word)[..count])?;
-        rest = after;
+        if !self.is_whole {
+            return Err(AllocError);
+        }
+        let mut bytes = self.bytes;
+        bytes.extend_from_slice(&octets_of(self.last.unwrap_or(Word::ZERO))[..count])?;
+        Ok(Some(bytes))
     }
-    Ok(Some(bytes))
 }
 
 /// Bytes that have the same words are the same, and are found in them.
@@ -89,35 +187,10 @@ fn octet_at(group: &[u8], place: usize) -> u8
     group.get(place).copied().unwrap_or(0)
 }
 
-/// How many bytes of a word count, or `None` if its low four bits, or its bytes that don't count, aren't right.
-fn octet_count(word: Word, last: bool) -> Option<usize>
-    ensures count { IfSome result (CountsOctets last word) }
-    ensures refused { IfNone result ((count : ℕ) → CountsOctets last word count → ⊥) }
-    ensures most { IfSome result (λ count. count ≤ 4) }
-{
-    if last {
-        last_count(word)
-    } else {
-        full_count(word)
-    }
-}
-
-/// How many bytes of a word count that isn't the last one.
-fn full_count(word: Word) -> Option<usize>
-    ensures count { IfSome result (CountsOctets false word) }
-    ensures refused { IfNone result ((count : ℕ) → CountsOctets false word count → ⊥) }
-    ensures most { IfSome result (λ count. count ≤ 4) }
-{
-    if word.bits() & 0o17 != 0 {
-        return None;
-    }
-    Some(4)
-}
-
 /// How many bytes of the last word count.
 fn last_count(word: Word) -> Option<usize>
-    ensures count { IfSome result (CountsOctets true word) }
-    ensures refused { IfNone result ((count : ℕ) → CountsOctets true word count → ⊥) }
+    ensures count { IfSome result (CountsOctets word) }
+    ensures refused { IfNone result ((count : ℕ) → CountsOctets word count → ⊥) }
     ensures most { IfSome result (λ count. count ≤ 4) }
 {
     let count = word.bits() & 0o17;
