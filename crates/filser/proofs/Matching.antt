@@ -121,14 +121,14 @@ out_of_range rows id least most m parsed outside n has =
 pub no_owner : (rows : List Row) (text : Text) → HasText rows (codes "PPN") text
     → ((owner : ℕ) → IsOwnerName text owner → ⊥) → LacksOwned rows
 no_owner rows text has none owner file owned =
-   let same = same_some owned.0.0 text (sym owned.0.1 ∙ has) in
-   none owner (subst (λ (t : Text). IsOwnerName t owner) same owned.0.2)
+    let same = same_some owned.0.0 text (sym owned.0.1 ∙ has) in
+    none owner (subst (λ (t : Text). IsOwnerName t owner) same owned.0.2)
 
 pub no_name : (rows : List Row) (text : Text) → HasText rows (codes "NAME") text
     → ((name ext : ℕ) → IsFileName (map upper text) name ext → ⊥) → LacksOwned rows
 no_name rows text has none owner file owned =
-   let same = same_some owned.1.0 text (sym owned.1.1 ∙ has) in
-   none file.name file.ext (subst (λ (t : Text). IsFileName (map upper t) file.name file.ext) same owned.1.2)
+    let same = same_some owned.1.0 text (sym owned.1.1 ∙ has) in
+    none file.name file.ext (subst (λ (t : Text). IsFileName (map upper t) file.name file.ext) same owned.1.2)
 
 pub no_named : (rows : List Row) → LacksOwned rows → (f : NamedFile) → IsNamedFile rows f → ⊥
 no_named rows none f named = none f.owner f.name (named.owner, named.name)
