@@ -370,7 +370,7 @@ def an_input_without_an_end(tries):
         (["yes"], [], 1 << 25, b"?No room\n", "more than 10485760 bytes, which no file can hold"),
         (["yes"], ["--words"], 1 << 26, b"?No room\n", "more than 16777216 bytes, which no file can hold"),
         (["cat", "/dev/zero"], [], 1 << 22, b"?Not ASCII\n",
-         "byte 0 at 1 isn't text (1 to 127); --words stores any words"),
+         "byte 0 at 1 isn't text (1 to 127); --bytes stores any bytes"),
     ]
     for source, options, memory, printed, reason in inputs:
         with subprocess.Popen(source, stdout=subprocess.PIPE) as running:

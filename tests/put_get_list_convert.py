@@ -318,6 +318,44 @@ def back(tries):
     tries.expect(["check", "B.IMG"], b"", [b"Volume of 512 blocks, room 390\n"], 0)
 
 
+def octets_of(data):
+    """The words of bytes of eight bits, eight bytes each: four in a word, and in the last one how many count."""
+    groups = [data[place : place + 4] for place in range(0, len(data), 4)]
+    words = [int.from_bytes(group.ljust(4, b"\0"), "big") << 4 for group in groups]
+    if words:
+        words[-1] |= len(groups[-1])
+    return b"".join(word.to_bytes(8, "big") for word in words)
+
+
+def octets(tries):
+    """Files of any bytes, and files of words that have none."""
+    tries.expect(["init", "O.IMG", "512"], b"", [b""], 0)
+    tries.expect(["run", "O.IMG"], b"LOGIN [10,20]\nMAKDIR [10,20]\n", [b"Job 1 [10,20]\nOK\n"], 0)
+    file = ["O.IMG", "10,20", "ANY.BIN"]
+    every = bytes(range(256))
+    for data in [bytes(255 - place for place in range(size)) for size in range(10)] + [
+        bytes(7), b"\0ABC\0", every, every + b"\xff", every * 8, every * 8 + b"\0", (every * 90)[:8191], every * 90,
+    ]:
+        tries.expect(["put", "--bytes", *file], data, [b"OK\n"], 0)
+        tries.expect(["get", "--bytes", *file], b"", [data], 0)
+        tries.expect(["get", "--words", *file], b"", [octets_of(data)], 0)
+    tries.expect(["put", *file], b"HELLO\r\n", [b"OK\n"], 0)
+    tries.expect(["get", *file, "--bytes"], b"", [b"?Not bytes\n"], 1)
+    # No count, one above 4, a byte that isn't counted, a count before the last word.
+    for words in [[0], [0o202000000005], [0o202410000001], [0o202411032104, 0o202000000001]]:
+        data = b"".join(word.to_bytes(8, "big") for word in words)
+        tries.expect(["put", "--words", *file], data, [b"OK\n"], 0)
+        tries.expect(["get", "--bytes", *file], b"", [b"?Not bytes\n"], 1)
+        tries.expect(["get", "--words", *file], b"", [data], 0)
+    tries.expect(["get", "--bytes", "O.IMG", "10,20", "NONE"], b"", [b"?File not found\n"], 1)
+    before = tries.read("O.IMG")
+    told = b"?Bad argument\nfilser: --words and --bytes exclude each other\n"
+    for command in ["put", "get"]:
+        tries.expect([command, "--words", "--bytes", *file], b"", [b""], 2, told)
+    tries.expect(["put", "--bytes", *file], bytes(2048 * 512), [b"?No room\n"], 1)
+    tries.same("O.IMG", before)
+
+
 def converts(tries):
     """Images of form 2, and of either form from the other."""
     tries.expect(["init", "W.IMG", "64", "--form", "2"], b"", [b""], 0)
@@ -526,7 +564,8 @@ def main():
         return 2
     with tempfile.TemporaryDirectory() as folder:
         tries = Tries(os.path.abspath(sys.argv[1]), folder)
-        for part in [check, row, deletes, lists, tables, days, back, converts, migrates, layouts, quotas, progress, refusals]:
+        parts = [check, row, deletes, lists, tables, days, back, octets]
+        for part in parts + [converts, migrates, layouts, quotas, progress, refusals]:
             part(tries)
     print(f"put_get_list_convert: {tries.count - tries.failed} as they should be, {tries.failed} not")
     return 1 if tries.failed else 0

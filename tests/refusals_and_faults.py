@@ -407,7 +407,7 @@ def inputs_that_are_no_file(tries):
     image = image_of(V1)
     tries.write("V1.IMG", image)
     put = ["put", "V1.IMG", "10,20", "BAR"]
-    hint = "isn't text (1 to 127); --words stores any words"
+    hint = "isn't text (1 to 127); --bytes stores any bytes"
     for data, byte, place in [
         (b"\0", 0, 1),
         (b"HELLO\x80\xff", 128, 6),

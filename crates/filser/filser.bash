@@ -10,7 +10,7 @@ _filser() {
         init) options='--layout --form --help' ;;
         run | calls) options='--date --minute --form --help' ;;
         list) options='--tsv --form --help' ;;
-        put | get) options='--words --date --minute --form --help' ;;
+        put | get) options='--words --bytes --date --minute --form --help' ;;
         help) options=--help ;;
     esac
     if [[ $word == -* ]]; then

@@ -86,7 +86,7 @@ located app =
 
 -- the same, and what its bytes say
 unfoldable pub filed : App → App
-filed app = with_rule (located app) (flag (codes "words"))
+filed app = with_rule (with_rule (located app) (flag (codes "words"))) (flag (codes "bytes"))
 
 unfoldable pub put_app : App
 put_app = formed (dated (filed (new_app (codes "put"))))

@@ -157,6 +157,17 @@ fn words<'a>(alloc: Global) -> Arg<'a>
         .help("Read or write words, not text: eight bytes each, most significant first")
 }
 
+/// The flag that bytes have eight bits.
+fn octets<'a>(alloc: Global) -> Arg<'a>
+    ensures rule { rule_of result ≡ flag (codes "bytes") }
+    ensures local { result.global ≡ false }
+{
+    Arg::new(alloc, "bytes")
+        .long("bytes")
+        .action(ArgAction::SetTrue)
+        .help("Read or write bytes of eight bits, not text: four to a word")
+}
+
 /// A command on one file of a directory.
 #[tactic(auto, unfolding(crate::specs::CommandLine::located))]
 pub(crate) fn located<'a>(alloc: Global, command: Command<'a>) -> Result<Command<'a>, AllocError>
@@ -175,7 +186,8 @@ pub(crate) fn filed<'a>(alloc: Global, command: Command<'a>) -> Result<Command<'
     ensures app { IfOk result (λ c. app_of c ≡ filed (app_of command.entry)) }
     ensures local { IfOk result (λ c. (fields_of c).has_globals ≡ (fields_of command.entry).has_globals) }
 {
-    with_argument(located(alloc, command)?, words(alloc))
+    let command = with_argument(located(alloc, command)?, words(alloc))?;
+    with_argument(command, octets(alloc))
 }
 
 /// The flag that lists are tables.

@@ -1,7 +1,7 @@
 use std::test::Fail;
 use words36::{
     BLOCK_WORDS, Day, Half, Moment, Ppn, Word, WordError, block_from_bytes, block_to_bytes,
-    date_of, day_of, pack_ascii, sixbit_of, text_of, unpack_ascii,
+    date_of, day_of, pack_ascii, pack_octets, sixbit_of, text_of, unpack_ascii, unpack_octets,
 };
 
 #[test]
@@ -40,6 +40,41 @@ fn refuses_bytes_above_127(rt: HostRuntime) {
         Ok(words) => assert!(rt; false, "packed into {words:?}"),
         Err(error) => assert_eq!(rt; error, WordError::NotAscii),
     }
+}
+
+#[test]
+fn octet_words(rt: HostRuntime) -> Result<(), Fail> {
+    for (bytes, words) in [
+        (b"".as_slice(), [].as_slice()),
+        (b"A", [0o202000000001].as_slice()),
+        (b"ABC", [0o202411030003].as_slice()),
+        (b"ABCD", [0o202411032104].as_slice()),
+        (b"ABCD\xff", [0o202411032100, 0o776000000001].as_slice()),
+    ] {
+        let packed = pack_octets(rt.alloc(), bytes)?;
+        assert_eq!(rt; packed.len(), words.len());
+        for (word, bits) in packed.iter().zip(words) {
+            assert_eq!(rt; word.bits(), *bits);
+        }
+        let read = unpack_octets(rt.alloc(), &packed)?.ok_or("no bytes")?;
+        assert_eq!(rt; read.as_slice(), bytes);
+    }
+    Ok(())
+}
+
+#[test]
+fn refuses_words_of_no_octets(rt: HostRuntime) -> Result<(), Fail> {
+    // no count, one above 4, a byte that isn't counted, and a count before the last word
+    for (first, last) in [
+        (0, 0),
+        (0, 0o202000000005),
+        (0, 0o202410000001),
+        (0o202411032104, 0o202000000001),
+    ] {
+        let words = [Word::from_bits(first), Word::from_bits(last)];
+        assert!(rt; unpack_octets(rt.alloc(), &words)?.is_none());
+    }
+    Ok(())
 }
 
 #[test]

@@ -4,7 +4,7 @@ use Rattle.std.proofs.Common.{append-nil, arith}
 use Rattle.meaning.specs.Errands.{is_character, AreWords}
 use Rattle.meaning.specs.Spellings.{Are}
 use Rattle.meaning.specs.declared.encoding.Encoding.{Encoding}
-use Rattle.meaning.specs.declared.encoding.Encoding.TheVariants.{Characters, Words}
+use Rattle.meaning.specs.declared.encoding.Encoding.TheVariants.{Characters, Words, Octets}
 use Rattle.commands.specs.Reasons.{BeginsNoFile}
 
 are_front : (is : ℕ → Bool) (xs ys : List ℕ) → Are is (xs ++ ys) → Are is xs
@@ -29,6 +29,7 @@ pub not_both : (encoding : Encoding) (bytes words : List ℕ) → AreWords encod
     → AreWords encoding bytes None → ⊥
 not_both Characters bytes words some none = none some.0
 not_both Words bytes words some none = none words some.0 some.1
+not_both Octets bytes words some none = none
 
 pub not_longer : {A B : Type 0} (most n : ℕ) → A ⊎ (most < n) ⊎ B → n ≤ most → A ⊎ B
 not_longer most n (inl a) few = inl a

@@ -1,7 +1,7 @@
 -- What the errands of job 1 come to.
 use Rattle.std.proofs.Common.{◌≡◌, ◌⊎◌, inl, inr, ⊎_elim, ◌<◌, ℕ, true, false, List, [], ◌∷◌, length, Option, Some}
 use Rattle.std.proofs.Common.{None, refl, sym, ap, subst, ◌∙◌}
-use Rattle.std.specs.Prelude.{codes}
+use Rattle.std.specs.Prelude.{codes, IsTrue}
 use Rattle.std.specs.Io.KnownBytes.{IsAtEnd}
 use Rattle.words36.specs.declared.moment.Moment.{Moment}
 use Rattle.meaning.specs.Copies.{AreShort, HasFiles, IsLineRefused, IsPrinted, HasHalfwordExtension}
@@ -13,12 +13,13 @@ use Rattle.meaning.specs.Plans.{Act, Say, Conducts, ok}
 use Rattle.meaning.specs.Published.{Version}
 use Rattle.meaning.specs.Room.{Pack}
 use Rattle.meaning.specs.Runs.{Service, Serving}
-use Rattle.meaning.specs.Texts.{Spoken, complains, prints, printed}
+use Rattle.meaning.specs.Texts.{Spoken, complains}
 use Rattle.meaning.specs.Transcripts.{Went}
 use Rattle.meaning.specs.declared.command.Spec.{Spec}
 use Rattle.meaning.specs.declared.encoding.Encoding.{Encoding}
 use Rattle.meaning.proofs.CauseLaws.{put_refusals, get_refusals}
 use Rattle.meaning.proofs.ErrandRuns.{puts_are_exact, gets_are_exact}
+use Rattle.meaning.proofs.ToldLaws.{no_reply}
 use Rattle.commands.specs.Machines.{Machine}
 use Rattle.commands.specs.Outcomes.{IsStored, DeliveriesKeepFiles, ErrandsShowFiles}
 use Rattle.commands.specs.Reasons.{BeginsNoFile}
@@ -29,18 +30,21 @@ use Rattle.commands.proofs.InputLaws.{no_file, not_both}
 -- nothing is asked where the input is no file's
 complained : (pack : Pack) (s : State) (acts : List Act) (text : List ℕ) (said : Spoken) (last : Service)
     → Conducts (Say (complains text)) acts said → Went pack (Serving s) acts last
-    → IsLineRefused s.files said last × (said ≡ complains text)
+    → IsTrue said.refused × HasFiles s.files last × (said ≡ complains text)
 complained pack s [] text said last led went =
     let e : said ≡ complains text = let f = led in cc in
     let flag : said.refused ≡ true = ap (λ (x : Spoken). x.refused) e in
-    ((flag, subst (HasFiles s.files) (sym went) refl), e)
+    (flag, subst (HasFiles s.files) (sym went) refl, e)
 complained pack s (act ∷ acts) text said last led went = absurd led
 
 -- what isn't refused is no refusal
-not_refused : (files : Files Version) (said other : Spoken) (last : Service) → IsLineRefused files said last
-    → said ≡ other → other.refused ≡ false → ⊥
-not_refused files said other last refused e is =
-    let wrong : true ≡ false = sym refused.0 ∙ ap (λ (x : Spoken). x.refused) e ∙ is in cc
+not_refused : (said other : Spoken) → IsTrue said.refused → said ≡ other → other.refused ≡ false → ⊥
+not_refused said other refused e is =
+    let wrong : true ≡ false = sym refused ∙ ap (λ (x : Spoken). x.refused) e ∙ is in cc
+
+says_refused : (files : Files Version) (said : Spoken) (last : Service) → IsLineRefused files said last
+    → IsTrue said.refused
+says_refused files said last refused = ap (λ (x : Spoken). x.refused) refused.0.1
 
 -- an input that has words was read to its end
 whole : {A : Type 0} (encoding : Encoding) (read words : List ℕ) → AreWords encoding read (Some words)
@@ -55,12 +59,13 @@ delivered : (pack : Pack) (s : State) (moment : Moment) (me : ℕ) (encoding : E
     → Went pack (Serving s) acts last → IsStored moment me s encoding spec at_end read acts said last
 delivered pack s moment me encoding spec at_end read None acts said last there few ended are led went =
     let c = complained pack s acts (unfit encoding) said last led went in
-    inr (c.0, inl (ended, are, c.1))
+    inr (c.0, c.1, inl (ended, are, c.2))
 delivered pack s moment me encoding spec at_end read (Some words) acts said last there few ended are led went = ⊎_elim
     (λ put. inl (whole encoding read words are ended, words, are, put))
     (λ refused. inr (
-      refused,
-      ⊎_elim (λ is. absurd (not_refused s.files said ok last refused is refl))
+      says_refused s.files said last refused,
+      refused.1,
+      ⊎_elim (λ is. absurd (not_refused said ok (says_refused s.files said last refused) is refl))
           (λ cause. inr (inr (whole encoding read words are ended, cause)))
           (put_refusals moment me encoding spec words acts said led),
     ))
@@ -75,7 +80,7 @@ got pack s moment me encoding spec acts said last there few short led went = ⊎
     (λ refused. inr (
       refused,
       ⊎_elim
-          (λ (words, is). absurd (not_refused s.files said (prints (printed encoding words)) last refused is refl))
+          (λ (words, is). absurd (no_reply encoding words refused.0.0 (sym is ∙ refused.0.1)))
           (λ r. r)
           (get_refusals moment me encoding spec acts said led),
     ))
@@ -93,7 +98,7 @@ module _ {S : Type 0} (machine : S → Machine) where
       (⊎_elim
       (λ long.
       let c = complained (machine old).pack s d.acts (codes "?No room") (spoken d.written tally) end.0 long.1 went in
-      inr (c.0, inr (inl (long.0, c.1))))
+      inr (c.0, c.1, inr (inl (long.0, c.2))))
       (λ unread. absurd unread.0)) d.delivers in
       (d.read, d.written, d.consumed, d.appended, end.0, end.1, stored)
 

@@ -13,7 +13,7 @@ use Rattle.meaning.specs.declared.call.Event.TheVariants.{Deposit}
 use Rattle.meaning.specs.declared.call.Reply.{Reply}
 use Rattle.meaning.specs.declared.command.Spec.{Spec}
 use Rattle.meaning.specs.declared.encoding.Encoding.{Encoding}
-use Rattle.meaning.specs.declared.encoding.Encoding.TheVariants.{Characters, Words}
+use Rattle.meaning.specs.declared.encoding.Encoding.TheVariants.{Characters, Words, Octets}
 use Rattle.commands.specs.Asking.{Led, followed}
 use Rattle.commands.specs.Machines.{Machine, AlwaysStands}
 use Rattle.commands.proofs.LedLaws.{led_on, led_still}
@@ -82,14 +82,17 @@ some_parts : (encoding : Encoding) (n : ℕ) → 0 < n
     → parts_of encoding n ≡ suc (parts_of encoding (n - part_words encoding))
 some_parts Characters n h = omega arith
 some_parts Words n h = omega arith
+some_parts Octets n h = omega arith
 
 no_parts : (encoding : Encoding) (n : ℕ) → n ≡ 0 → parts_of encoding n ≡ 0
 no_parts Characters n e = omega arith
 no_parts Words n e = omega arith
+no_parts Octets n e = omega arith
 
 some_words : (encoding : Encoding) → 0 < part_words encoding
 some_words Characters = omega arith
 some_words Words = omega arith
+some_words Octets = omega arith
 
 part_filled : (moment : Moment) (encoding : Encoding) (more : ℕ) (words : List ℕ) (next : Plan)
     → fills_parts moment encoding (suc more) words next

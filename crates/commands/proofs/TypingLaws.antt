@@ -13,17 +13,15 @@ use Rattle.meaning.specs.Plans.{Plan, Say, each, examines, fetches, sizes, finds
 use Rattle.meaning.specs.Plans.{file_words, block_address, blocks_said, types_blocks, types_last, types_body, until_end}
 use Rattle.meaning.specs.Plans.{reads_file, blocks_at_once, types_runs}
 use Rattle.words36.specs.Blocks.{word_bytes, block_bytes}
-use Rattle.meaning.specs.Texts.{Spoken, typed, printed, not_null, prints, refuses, refusal, is_broken, line}
+use Rattle.meaning.specs.Texts.{Spoken, typed, file_said, not_null, refuses, refusal, is_broken, line}
 use Rattle.meaning.specs.declared.encoding.Encoding.{Encoding}
-use Rattle.meaning.specs.declared.encoding.Encoding.TheVariants.{Characters, Words}
 use Rattle.meaning.specs.declared.call.Event.{Event}
 use Rattle.meaning.specs.declared.call.Reply.{Reply}
 use Rattle.meaning.specs.declared.command.Spec.{Spec}
-use Rattle.commands.specs.Asking.{Led, Concludes, followed, AreTyped, HasTyped}
+use Rattle.commands.specs.Asking.{Led, Concludes, Tells, followed, AreTyped, HasTyped}
 use Rattle.commands.specs.Machines.{Machine, AlwaysStands, AreShown}
 use Rattle.commands.specs.declared.answer.Tally.{Tally}
 use Rattle.commands.specs.declared.typing.Typed.{Typed}
-use Rattle.commands.proofs.TranscriptLaws.{or-false}
 use Rattle.commands.proofs.AnswerLaws.{or-true}
 use Rattle.commands.proofs.LedLaws.{led_on, led_still, each_append}
 use Rattle.commands.proofs.ReadingLaws.{fetches_next, fetches_shown}
@@ -34,16 +32,16 @@ typed-append : (xs ys : List ℕ) → typed (xs ++ ys) ≡ typed xs ++ typed ys
 typed-append xs ys = ap (flat_map not_null) (flat_map-append five_characters xs ys)
     ∙ flat_map-append not_null (unpacked xs) (unpacked ys)
 
-printed-append : (encoding : Encoding) (xs ys : List ℕ)
-    → printed encoding (xs ++ ys) ≡ printed encoding xs ++ printed encoding ys
-printed-append Characters xs ys = typed-append xs ys
-printed-append Words xs ys = flat_map-append word_bytes xs ys
-
 -- where they were put behind those before
-pub pushed_all : (encoding : Encoding) (before after seen words : List ℕ) → after ≡ before ++ printed encoding words
-    → before ≡ printed encoding seen → after ≡ printed encoding (seen ++ words)
-pushed_all encoding before after seen words put was =
-    put ∙ ap (λ l. l ++ printed encoding words) was ∙ sym (printed-append encoding seen words)
+pub characters_kept : (before after seen words : List ℕ) → after ≡ before ++ typed words → before ≡ typed seen
+    → after ≡ typed (seen ++ words)
+characters_kept before after seen words put was =
+    put ∙ ap (λ l. l ++ typed words) was ∙ sym (typed-append seen words)
+
+pub words_kept : (before after seen words : List ℕ) → after ≡ before ++ flat_map word_bytes words
+    → before ≡ flat_map word_bytes seen → after ≡ flat_map word_bytes (seen ++ words)
+words_kept before after seen words put was =
+    put ∙ ap (λ l. l ++ flat_map word_bytes words) was ∙ sym (flat_map-append word_bytes seen words)
 
 -- The words of whole blocks, and those behind them.
 
@@ -545,22 +543,22 @@ module _ {S : Type 0} (machine : S → Machine) where
       (encoding : Encoding) (spec : Spec) (tally counted : Tally) (read : Result X Reply) (before after : Typed)
       (p : HasTyped machine a b moment (λ next. plan a b moment spec (λ size. behind a b moment spec size next))
       read before after) (closed : (said : Spoken) → Led machine b c (ends moment said) (Say said)) where
-    -- it prints all bytes, where there is memory for them
-    pub typed_out : (x : X) → read ≡ Ok x → counted.refused ≡ tally.refused → counted.broke ≡ tally.broke
-        → counted.reason ≡ tally.reason → AreTyped encoding before []
-        → ((words : List ℕ) → AreTyped encoding after words → IfOk result (λ v. bytes v ≡ printed encoding words))
+    -- it says what there is to be said of the words
+    pub typed_out : (x : X) → read ≡ Ok x → AreTyped encoding before []
+        → ((words : List ℕ) → AreTyped encoding after words → Tells bytes result (file_said encoding words) tally counted)
         → Concludes bytes result machine a c (reads_file moment encoding spec) tally counted
-    typed_out x e refused broke reason fresh text =
+    typed_out x e fresh tells =
         let q = subst (λ (r : Result X Reply). HasTyped machine a b moment
         (λ next. plan a b moment spec (λ size. behind a b moment spec size next)) r before after) e p in
+        let t = tells q.words (q.types encoding [] fresh) in
         record {
-          said = prints (printed encoding q.words);
-          led = led_then (q.led (λ words. ends moment (prints (printed encoding words))))
-              (closed (prints (printed encoding q.words)));
-          refused = refused ∙ or-false tally.refused;
-          broke = broke ∙ or-false tally.broke;
-          reason = reason;
-          text = text q.words (q.types encoding [] fresh);
+          said = file_said encoding q.words;
+          led = led_then (q.led (λ words. ends moment (file_said encoding words)))
+              (closed (file_said encoding q.words));
+          refused = t.refused;
+          broke = t.broke;
+          reason = t.reason;
+          text = t.text;
         }
 
     -- or says why it was refused
@@ -573,7 +571,7 @@ module _ {S : Type 0} (machine : S → Machine) where
         (λ next. plan a b moment spec (λ size. behind a b moment spec size next)) r before after) e p in
         record {
           said = refuses reply;
-          led = led_then (q.led (λ words. ends moment (prints (printed encoding words)))) (closed (refuses reply));
+          led = led_then (q.led (λ words. ends moment (file_said encoding words))) (closed (refuses reply));
           refused = refused ∙ or-true tally.refused;
           broke = broke ∙ ap (λ b. tally.broke || b) same_broken;
           reason = reason;

@@ -1,10 +1,13 @@
 -- What a line asks of a service, event by event, and how far its plan has come.
-use Rattle.std.specs.Prelude.{◌≡◌, ℕ, ◌||◌, true, List, ◌++◌, Result, Ok, Err, IfOk}
+use Rattle.std.specs.Prelude.{◌≡◌, ℕ, ◌||◌, true, List, ◌++◌, Result, Ok, Err, IfOk, flat_map}
+use Rattle.words36.specs.Blocks.{word_bytes}
+use Rattle.words36.specs.OctetReading.{HasRead}
 use Rattle.words36.specs.declared.moment.Moment.{Moment}
 use Rattle.meaning.specs.Plans.{Act, Plan, Leads, Show, Say, each, fails}
-use Rattle.meaning.specs.Texts.{Spoken, printed, list_said}
+use Rattle.meaning.specs.Texts.{Spoken, typed, list_said}
 use Rattle.meaning.specs.declared.entry.Entry.{Entry}
 use Rattle.meaning.specs.declared.encoding.Encoding.{Encoding}
+use Rattle.meaning.specs.declared.encoding.Encoding.TheVariants.{Characters, Words, Octets}
 use Rattle.meaning.specs.declared.style.Style.{Style}
 use Rattle.meaning.specs.declared.call.Reply.{Reply}
 use Rattle.meaning.specs.declared.call.Event.{Event}
@@ -40,6 +43,14 @@ pub record Concludes {V E S : Type 0} (bytes : V → List ℕ) (result : Result 
   pub reason : counted.reason ≡ tally.reason
   pub text : IfOk result (λ v. bytes v ≡ said.text)
 
+-- What is said is counted, and its text is what is answered.
+pub record Tells {V E : Type 0} (bytes : V → List ℕ) (result : Result V E) (said : Spoken) (tally counted : Tally)
+    : Type 0 where
+  pub refused : counted.refused ≡ tally.refused || said.refused
+  pub broke : counted.broke ≡ tally.broke || said.broke
+  pub reason : counted.reason ≡ tally.reason
+  pub text : IfOk result (λ v. bytes v ≡ said.text)
+
 -- The list of a directory was asked for, and its text, or its refusal's, is what is answered and counted.
 pub record HasShown {V E S : Type 0} (bytes : V → List ℕ) (result : Result V E) (machine : S → Machine) (old new : S)
     (style : Style) (owner : ℕ) (tally counted : Tally) : Type 0 where
@@ -50,9 +61,15 @@ pub record HasShown {V E S : Type 0} (bytes : V → List ℕ) (result : Result V
   pub reason : counted.reason ≡ tally.reason
   pub text : IfOk result (λ v. bytes v ≡ (list_said style owner answer).text)
 
--- The bytes that words are printed as, as far as there was memory for them.
+-- What is kept of words that were read: their characters, or eight bytes for each, as far as there was memory for them;
+-- or their bytes of eight bits.
+abbrev pub AreKept : Encoding → Typed → List ℕ → Type 0
+AreKept Characters t words = t.is_whole ≡ true → t.bytes.items ≡ typed words
+AreKept Words t words = t.is_whole ≡ true → t.bytes.items ≡ flat_map word_bytes words
+AreKept Octets t words = HasRead t.octets words
+
 abbrev pub AreTyped : Encoding → Typed → List ℕ → Type 0
-AreTyped encoding t words = (t.encoding ≡ encoding) × (t.is_whole ≡ true → t.bytes.items ≡ printed encoding words)
+AreTyped encoding t words = (t.encoding ≡ encoding) × AreKept encoding t words
 
 -- Words of a body were read by what a plan asks for them, and their bytes put behind those before.
 pub record HasTyped {S X : Type 0} (machine : S → Machine) (old new : S) (moment : Moment) (plan : (List ℕ → Plan)

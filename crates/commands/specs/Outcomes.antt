@@ -1,8 +1,8 @@
 -- What the errands of job 1 come to, where the service has kept its promises.
-use Rattle.std.specs.Prelude.{◌≡◌, ◌⊎◌, ◌<◌, ℕ, List, length, Option, None, Some, Ok, codes}
+use Rattle.std.specs.Prelude.{◌≡◌, ◌⊎◌, ◌<◌, ℕ, IsTrue, List, length, Option, None, Some, Ok, codes}
 use Rattle.std.specs.Io.KnownBytes.{Appends, Consumes, IsAtEnd}
 use Rattle.words36.specs.declared.moment.Moment.{Moment}
-use Rattle.meaning.specs.Copies.{AreShort, IsPut, IsLineRefused, IsPrinted, HasHalfwordExtension}
+use Rattle.meaning.specs.Copies.{AreShort, HasFiles, IsPut, IsLineRefused, IsPrinted, HasHalfwordExtension}
 use Rattle.meaning.specs.Causes.{IsRefusedAt}
 use Rattle.meaning.specs.Errands.{AreWords, gets, keeps, unfit}
 use Rattle.meaning.specs.Jobs.{State}
@@ -29,7 +29,7 @@ IsRefusedFor moment encoding at_end read acts said =
 abbrev pub IsStored : Moment → ℕ → State → Encoding → Spec → Type 0 → List ℕ → List Act → Spoken → Service → Type 0
 IsStored moment me s encoding spec at_end read acts said last =
     (at_end × (words : List ℕ) × AreWords encoding read (Some words) × IsPut moment me s encoding spec words said last)
-    ⊎ (IsLineRefused s.files said last × IsRefusedFor moment encoding at_end read acts said)
+    ⊎ (IsTrue said.refused × HasFiles s.files last × IsRefusedFor moment encoding at_end read acts said)
 
 -- An input whose answer was written is kept or refused; it is kept only if it was read to its end.
 abbrev pub DeliveriesKeepFiles : {S : Type 0} → (S → Machine) → Type 0
@@ -43,7 +43,8 @@ DeliveriesKeepFiles {S} machine =
     × (last : Service) × (machine new).serves last
     × IsStored moment me s encoding spec (IsAtEnd left) read delivery.acts (spoken written tally) last
 
--- A file that is got is written as its version's words, or is refused at a reply that was not wanted; the files stay.
+-- What its version's words come to is written of a file that is got, or it is refused at a reply that was not wanted;
+-- the files stay.
 abbrev pub ErrandsShowFiles : {S : Type 0} → (S → Machine) → Type 0
 ErrandsShowFiles {S} machine =
     (sink full : Option (List ℕ)) (old new : S) (moment : Moment) (me : ℕ) (encoding : Encoding) (spec : Spec)

@@ -8,7 +8,7 @@ use Rattle.meaning.specs.Lines.{Line, feed, fitting, without_return}
 use Rattle.meaning.specs.Outputs.{longest}
 use Rattle.meaning.specs.Spellings.{Are}
 use Rattle.meaning.specs.declared.encoding.Encoding.{Encoding}
-use Rattle.meaning.specs.declared.encoding.Encoding.TheVariants.{Characters, Words}
+use Rattle.meaning.specs.declared.encoding.Encoding.TheVariants.{Characters, Words, Octets}
 use Rattle.commands.specs.declared.reason.Misfit.{Misfit}
 use Rattle.commands.specs.declared.reason.Misfit.TheVariants.{Byte, Length, Word, Excess}
 use Rattle.commands.specs.declared.reason.Reason.{Reason}
@@ -16,10 +16,11 @@ use Rattle.commands.specs.declared.reason.Reason.TheVariants.{Lines, Input}
 
 -- Bytes that can't be a file.
 
--- the most bytes that a file can hold: five characters to a word, or eight bytes
+-- the most bytes that a file can hold: five characters to a word, or eight bytes, or four of eight bits
 abbrev pub most_bytes : Encoding → ℕ
 most_bytes Characters = 5 * longest
 most_bytes Words = 8 * longest
+most_bytes Octets = 4 * longest
 
 abbrev pub IsTooLong : Encoding → List ℕ → Type 0
 IsTooLong encoding bytes = most_bytes encoding < length bytes

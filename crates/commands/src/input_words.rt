@@ -5,7 +5,7 @@ ghost use Rattle.std.specs.Io.KnownBytes.{Consumes, IsAtEnd, Keeps};
 ghost use Rattle.words36.specs.Blocks.{number_at};
 ghost use Rattle.meaning.specs.Errands.{is_character, unfit};
 ghost use Rattle.meaning.specs.Spellings.{Are};
-ghost use Rattle.meaning.specs.declared.encoding.Encoding.TheVariants.{Characters, Words};
+ghost use Rattle.meaning.specs.declared.encoding.Encoding.TheVariants.{Characters, Words, Octets};
 ghost use Rattle.commands.specs.Reasons.{HasWords, IsMisfit, BeginsNoFile, IsTooLong, most_bytes};
 ghost use Rattle.commands.specs.declared.error.SessionError.TheVariants.{Read as ReadFault, NoMemory};
 
@@ -14,13 +14,16 @@ use meaning::Encoding;
 use meaning::layout::MOST_WORDS;
 use std::alloc::{AllocError, Global};
 use std::io::{ErrorKind, Read};
-use words36::{Word, pack_ascii};
+use words36::{Word, pack_ascii, pack_octets};
 
 /// How many bytes a word takes.
 const WORD_BYTES: usize = 8;
 
 /// How many characters a word has.
 const WORD_CHARACTERS: usize = 5;
+
+/// How many bytes of eight bits a word has.
+const WORD_OCTETS: usize = 4;
 
 /// How many bytes are read at once.
 const PIECE_BYTES: usize = 4096;
@@ -32,6 +35,7 @@ pub fn most_bytes(encoding: Encoding) -> usize
     match encoding {
         Encoding::Characters => WORD_CHARACTERS * MOST_WORDS as usize,
         Encoding::Words => WORD_BYTES * MOST_WORDS as usize,
+        Encoding::Octets => WORD_OCTETS * MOST_WORDS as usize,
     }
 }
 
@@ -62,7 +66,7 @@ fn is_hopeless(encoding: Encoding, piece: &[u8]) -> bool
 {
     match encoding {
         Encoding::Characters => first_misfit(piece).is_some(),
-        Encoding::Words => false,
+        Encoding::Words | Encoding::Octets => false,
     }
 }
 
@@ -164,6 +168,14 @@ fn words_of_bytes(alloc: Global, bytes: &[u8]) -> Result<Result<Vec<Word>, Misfi
     Ok(Ok(words))
 }
 
+/// The words of these bytes of eight bits, which any bytes have.
+fn words_of_octets(alloc: Global, bytes: &[u8]) -> Result<Result<Vec<Word>, Misfit>, AllocError>
+    ensures { IfOk result (HasWords (λ v. v.items) Octets bytes.now) }
+{
+    let words = pack_octets(alloc, bytes)?;
+    Ok(Ok(words))
+}
+
 /// The words that a file gets of these bytes, or why they can't be a file.
 pub fn words_of(
     alloc: Global,
@@ -175,6 +187,7 @@ pub fn words_of(
     match encoding {
         Encoding::Characters => words_of_characters(alloc, bytes),
         Encoding::Words => words_of_bytes(alloc, bytes),
+        Encoding::Octets => words_of_octets(alloc, bytes),
     }
 }
 
@@ -185,5 +198,6 @@ pub fn unfit(encoding: Encoding) -> &'static str
     match encoding {
         Encoding::Characters => "?Not ASCII",
         Encoding::Words => "?Bad words",
+        Encoding::Octets => "?Bad bytes",
     }
 }

@@ -41,7 +41,7 @@ fn create<S: FileService>(
 {
     match encoding {
         Encoding::Characters => ask_all(alloc, service, &creates_text(moment, spec)),
-        Encoding::Words => ask_all(alloc, service, &writes(moment, spec)),
+        Encoding::Words | Encoding::Octets => ask_all(alloc, service, &writes(moment, spec)),
     }
 }
 
@@ -80,7 +80,7 @@ fn announce<S: FileService>(
 {
     match encoding {
         Encoding::Characters => ask_all(alloc, service, &announces_text(moment, count)),
-        Encoding::Words => {
+        Encoding::Words | Encoding::Octets => {
             let [command, end] = lists(count);
             ask_all(alloc, service, &[command, end, puts(moment)])
         }
@@ -94,7 +94,7 @@ fn part_address(encoding: Encoding) -> u32
 {
     match encoding {
         Encoding::Characters => BUFFER_DATA,
-        Encoding::Words => BLOCK_AREA,
+        Encoding::Words | Encoding::Octets => BLOCK_AREA,
     }
 }
 
@@ -104,7 +104,7 @@ fn part_words(encoding: Encoding) -> usize
 {
     match encoding {
         Encoding::Characters => BLOCK_WORDS,
-        Encoding::Words => RUN_WORDS as usize,
+        Encoding::Words | Encoding::Octets => RUN_WORDS as usize,
     }
 }
 

@@ -1,14 +1,16 @@
-ghost use Rattle.std.specs.Prelude.{◌≡◌, ◌+◌, ◌≤◌, ◌++◌, ℕ, List, [], Some, OnOk, flat_map};
+ghost use Rattle.std.specs.Prelude.{◌≡◌, ◌+◌, ◌≤◌, ◌++◌, ℕ, List, [], Some, true, IfOk, OnOk, flat_map};
 ghost use Rattle.words36.specs.Blocks.{word_bytes, block_bytes};
 ghost use Rattle.words36.specs.declared.moment.Moment as moments;
 ghost use Rattle.meaning.specs.Plans as plans;
 ghost use Rattle.meaning.specs.Plans.{Plan, each, examines, fetches, finds as found, lists as listed, file_words};
 ghost use Rattle.meaning.specs.Plans.{block_address, types_last, types_body, blocks_said as said_blocks, until_end};
 ghost use Rattle.meaning.specs.Plans.{reads_file};
-ghost use Rattle.meaning.specs.Texts.{typed};
+ghost use Rattle.words36.specs.OctetReading.{HasRead};
+ghost use Rattle.words36.specs.Octets.{octets_unpacked};
+ghost use Rattle.meaning.specs.Texts.{typed, file_said, octets_said};
 ghost use Rattle.meaning.specs.declared.encoding.Encoding.{Encoding as Encodings};
 ghost use Rattle.meaning.specs.declared.command.Command.TheVariants.{TypeOut as TypeLine};
-ghost use Rattle.commands.specs.Asking.{Led, Concludes, followed, AreTyped, HasTyped};
+ghost use Rattle.commands.specs.Asking.{Led, Concludes, Tells, followed, AreTyped, HasTyped};
 ghost use Rattle.commands.specs.Sessions.{Spoke};
 
 use crate::answer::{Tally, is_broken, refuse};
@@ -19,14 +21,17 @@ use crate::service::FileService;
 use crate::text;
 use meaning::{Encoding, Reply, Spec};
 use std::alloc::{AllocError, Global};
-use words36::{BLOCK_WORDS, Block, Moment, Ppn, Word, block_to_bytes, unpack_ascii};
+use words36::{BLOCK_WORDS, Block, Moment, OctetReader, Ppn, Word, block_to_bytes, unpack_ascii};
 
 /// What was read so far, as it is printed.
 #[derive(Drop)]
 struct Typed {
     encoding: Encoding,
+    /// Its characters, or eight bytes for each word.
     bytes: Vec<u8>,
-    /// Whether there was memory for all of them. A file is read to its end in any case, so that the job is left
+    /// Its bytes of eight bits.
+    octets: OctetReader,
+    /// Whether there was memory for all bytes. A file is read to its end in any case, so that the job is left
     /// as after any line.
     is_whole: bool,
 }
@@ -79,6 +84,16 @@ fn push_words(bytes: &mut Vec<u8>, words: &[Word]) -> Result<(), AllocError>
     Ok(())
 }
 
+/// Puts the bytes of eight bits of words behind the others.
+fn push_octets(octets: &mut OctetReader, words: &[Word]) -> Result<(), AllocError>
+    ensures { (seen : List ℕ) → HasRead octets.old seen → HasRead octets.new (seen ++ words.now) }
+{
+    for word in words {
+        octets.push(*word);
+    }
+    Ok(())
+}
+
 impl Typed {
     fn new(alloc: Global, encoding: Encoding) -> Typed
         ensures { AreTyped encoding result [] }
@@ -86,6 +101,7 @@ impl Typed {
         Typed {
             encoding,
             bytes: Vec::new(alloc),
+            octets: OctetReader::new(alloc),
             is_whole: true,
         }
     }
@@ -98,10 +114,46 @@ impl Typed {
         let pushed = match self.encoding {
             Encoding::Characters => push_characters(alloc, &mut self.bytes, words),
             Encoding::Words => push_words(&mut self.bytes, words),
+            Encoding::Octets => push_octets(&mut self.octets, words),
         };
         if pushed.is_err() {
             self.is_whole = false;
         }
+    }
+
+    /// The characters, or eight bytes for each word.
+    fn into_bytes(self) -> Result<Vec<u8>, AllocError>
+        ensures { IfOk result (λ bytes. (self.is_whole ≡ true) × (bytes.items ≡ self.bytes.items)) }
+    {
+        if self.is_whole {
+            Ok(self.bytes)
+        } else {
+            Err(AllocError)
+        }
+    }
+}
+
+/// Gives the bytes of eight bits of words that were read, or refuses them.
+fn tell_octets(alloc: Global, tally: &mut Tally, octets: OctetReader) -> Result<Vec<u8>, AllocError>
+    ensures { (words : List ℕ) → HasRead octets words
+        → Tells (λ bytes. bytes.items) result (octets_said (octets_unpacked words)) tally.old tally.new }
+{
+    match octets.finish() {
+        Ok(Some(bytes)) => Ok(bytes),
+        Ok(None) => refuse(alloc, tally, "?Not bytes", false),
+        Err(_) => Err(AllocError),
+    }
+}
+
+/// Gives what is said of a file that was read, and counts it if it is a refusal.
+fn tell(alloc: Global, tally: &mut Tally, typed: Typed) -> Result<Vec<u8>, AllocError>
+    ensures { (encoding : Encodings) (words : List ℕ) → AreTyped encoding typed words
+        → Tells (λ bytes. bytes.items) result (file_said encoding words) tally.old tally.new }
+{
+    match typed.encoding {
+        Encoding::Characters => typed.into_bytes(),
+        Encoding::Words => typed.into_bytes(),
+        Encoding::Octets => tell_octets(alloc, tally, typed.octets),
     }
 }
 
@@ -257,8 +309,7 @@ pub fn read_out<S: FileService>(
     let read = type_file(alloc, service, moment, spec, &mut typed);
     reset(alloc, service, moment);
     match read {
-        Ok(()) if typed.is_whole => Ok(typed.bytes),
-        Ok(()) => Err(AllocError),
+        Ok(()) => tell(alloc, tally, typed),
         Err(reply) => refuse(alloc, tally, text::refusal(&reply), is_broken(&reply)),
     }
 }

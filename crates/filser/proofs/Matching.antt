@@ -15,6 +15,8 @@ use Rattle.clap.proofs.WalkLemmas.{first_value-rows, one_text-rows}
 use Rattle.words36.specs.declared.moment.Moment.{Moment}
 use Rattle.imagefile.specs.declared.form.Form.{Form}
 use Rattle.meaning.specs.Lines.{upper}
+use Rattle.meaning.specs.declared.encoding.Encoding.{Encoding}
+use Rattle.meaning.specs.declared.encoding.Encoding.TheVariants.{Words, Octets}
 use Rattle.meaning.specs.declared.layout.Layout.{Layout}
 use Rattle.commands.specs.DayTexts.{IsDayText}
 use Rattle.commands.specs.Files.{IsFileName, IsOwnerName}
@@ -22,13 +24,14 @@ use Rattle.arguments.specs.CommandLine.{command_line, making, serving, filing, l
 use Rattle.arguments.specs.CommandLine.{put_app, get_app, delete_app, list_app, check_app, convert_app, converting, dated, filed}
 use Rattle.arguments.specs.CommandLine.{formed, laid_out, located, migrate_app, sized, wire_app}
 use Rattle.filser.specs.Requests.{Asks, IsAsked, IsTask, IsAt, IsNamedFile, IsListedPlace, HasForm, HasText, HasNumber}
-use Rattle.filser.specs.Requests.{HasLayout, LacksOwned}
+use Rattle.filser.specs.Requests.{HasLayout, IsEncoding, IsWrong, LacksOwned}
 use Rattle.filser.specs.Requests.{HasDate, IsDateNumber, IsMistaken, IsUsage, NamesNoDate, SaysDate, Spells, task_name}
 use Rattle.filser.specs.declared.task.NamedFile.{NamedFile}
 use Rattle.filser.specs.declared.task.Task.{Task}
 use Rattle.filser.specs.declared.task.Task.TheVariants.{Run, Calls, Wire, Put, Get, Delete, List as ListAll, Check}
 use Rattle.filser.specs.declared.error.RequestError.{RequestError}
 use Rattle.filser.specs.declared.error.WrongArgument.{WrongArgument}
+use Rattle.filser.specs.declared.error.WrongArgument.TheVariants.{Encodings}
 use Rattle.filser.specs.declared.error.RequestError.TheVariants.{Usage}
 use Rattle.filser.specs.declared.asked.Request.{Request}
 use Rattle.filser.specs.declared.asked.Request.TheVariants.{Fresh, Init, Work, Convert, Migrate}
@@ -118,17 +121,25 @@ out_of_range rows id least most m parsed outside n has =
 pub no_owner : (rows : List Row) (text : Text) → HasText rows (codes "PPN") text
     → ((owner : ℕ) → IsOwnerName text owner → ⊥) → LacksOwned rows
 no_owner rows text has none owner file owned =
-   let same = same_some owned.0.0 text (sym owned.0.1 ∙ has) in
-   none owner (subst (λ (t : Text). IsOwnerName t owner) same owned.0.2)
+    let same = same_some owned.0.0 text (sym owned.0.1 ∙ has) in
+    none owner (subst (λ (t : Text). IsOwnerName t owner) same owned.0.2)
 
 pub no_name : (rows : List Row) (text : Text) → HasText rows (codes "NAME") text
     → ((name ext : ℕ) → IsFileName (map upper text) name ext → ⊥) → LacksOwned rows
 no_name rows text has none owner file owned =
-   let same = same_some owned.1.0 text (sym owned.1.1 ∙ has) in
-   none file.name file.ext (subst (λ (t : Text). IsFileName (map upper t) file.name file.ext) same owned.1.2)
+    let same = same_some owned.1.0 text (sym owned.1.1 ∙ has) in
+    none file.name file.ext (subst (λ (t : Text). IsFileName (map upper t) file.name file.ext) same owned.1.2)
 
 pub no_named : (rows : List Row) → LacksOwned rows → (f : NamedFile) → IsNamedFile rows f → ⊥
 no_named rows none f named = none f.owner f.name (named.owner, named.name)
+
+pub no_encoding : (rows : List Row) → ((e : Encoding) → IsEncoding rows e → ⊥) → (f : NamedFile) → IsNamedFile rows f
+    → ⊥
+no_encoding rows none f named = none f.encoding named.encoding
+
+-- both flags ask for two encodings
+pub both_encodings : (rows : List Row) → IsWrong rows Encodings → (e : Encoding) → IsEncoding rows e → ⊥
+both_encodings rows both e is = let wrong : Words ≡ Octets = sym (is.0.1 both.0) ∙ is.1.1 both.1 in cc
 
 pub no_place : (rows : List Row) (text : Text) → HasText rows (codes "PPN") text
     → ((owner : ℕ) → IsOwnerName text owner → ⊥) → (place : Option ℕ) → IsListedPlace rows place → ⊥

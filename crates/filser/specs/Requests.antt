@@ -11,7 +11,8 @@ use Rattle.imagefile.specs.declared.form.Form.{Form}
 use Rattle.imagefile.specs.declared.form.Form.TheVariants.{Wide, Packed}
 use Rattle.meaning.specs.Layouts.{layout_number}
 use Rattle.meaning.specs.declared.layout.Layout.{Layout}
-use Rattle.meaning.specs.declared.encoding.Encoding.TheVariants.{Words}
+use Rattle.meaning.specs.declared.encoding.Encoding.{Encoding}
+use Rattle.meaning.specs.declared.encoding.Encoding.TheVariants.{Words, Octets}
 use Rattle.meaning.specs.declared.style.Style.{Style}
 use Rattle.meaning.specs.declared.style.Style.TheVariants.{Table}
 use Rattle.commands.specs.DayTexts.{IsDayText}
@@ -19,7 +20,7 @@ use Rattle.commands.specs.Files.{IsFileName, IsOwnerName}
 use Rattle.filser.specs.declared.asked.Request.{Request}
 use Rattle.filser.specs.declared.asked.Request.TheVariants.{Fresh, Init, Work, Convert, Migrate}
 use Rattle.filser.specs.declared.error.WrongArgument.{WrongArgument}
-use Rattle.filser.specs.declared.error.WrongArgument.TheVariants.{Owner, Name, Date}
+use Rattle.filser.specs.declared.error.WrongArgument.TheVariants.{Owner, Name, Encodings, Date}
 use Rattle.filser.specs.declared.task.NamedFile.{NamedFile}
 use Rattle.filser.specs.declared.task.Task.{Task}
 use Rattle.filser.specs.declared.task.Task.TheVariants.{Run, Calls, Wire, Put, Get, Delete, List as ListAll, Check}
@@ -51,11 +52,16 @@ HasOwned rows owner file = HasOwner rows owner × HasFileName rows file.name fil
 abbrev pub LacksOwned : List Row → Type 0
 LacksOwned rows = (owner : ℕ) (file : FileName) → HasOwned rows owner file → ⊥
 
--- Its bytes are words where that is asked for.
+-- Its bytes are words, or bytes of eight bits, where that is asked for.
+abbrev pub IsEncoding : List Row → Encoding → Type 0
+IsEncoding rows encoding =
+    ((encoding ≡ Words) ↔ HasText rows (codes "words") (codes "true"))
+    × ((encoding ≡ Octets) ↔ HasText rows (codes "bytes") (codes "true"))
+
 pub record IsNamedFile (rows : List Row) (file : NamedFile) : Type 0 where
   pub owner : HasOwner rows file.owner
   pub name : HasFileName rows file.name.name file.name.ext
-  pub encoding : (file.encoding ≡ Words) ↔ HasText rows (codes "words") (codes "true")
+  pub encoding : IsEncoding rows file.encoding
 
 -- the directory that is to be listed, or all
 abbrev pub IsListedPlace : List Row → Option ℕ → Type 0
@@ -146,6 +152,8 @@ abbrev pub IsWrong : List Row → WrongArgument → Type 0
 IsWrong rows (Owner text) = HasText rows (codes "PPN") text.now × ((owner : ℕ) → IsOwnerName text.now owner → ⊥)
 IsWrong rows (Name text) =
     HasText rows (codes "NAME") text.now × ((name ext : ℕ) → IsFileName (map upper text.now) name ext → ⊥)
+IsWrong rows Encodings =
+    HasText rows (codes "words") (codes "true") × HasText rows (codes "bytes") (codes "true")
 IsWrong rows (Date text) = HasText rows (codes "date") text.now × ((n : ℕ) → SaysDate text.now n → ⊥)
 
 -- the arguments that are what they should be, if they are given
@@ -156,12 +164,16 @@ abbrev pub NamesFile : List Row → Type 0
 NamesFile rows =
     (text : Text) → HasText rows (codes "NAME") text → (name : ℕ) × (ext : ℕ) × IsFileName (map upper text) name ext
 
+abbrev pub NamesEncoding : List Row → Type 0
+NamesEncoding rows =
+    HasText rows (codes "words") (codes "true") → HasText rows (codes "bytes") (codes "true") → ⊥
+
 abbrev pub NamesDate : List Row → Type 0
 NamesDate rows = (text : Text) → HasText rows (codes "date") text → (n : ℕ) × SaysDate text n
 
 -- the argument at fault; or it is another one, and these are what they should be
 abbrev pub IsFaultIn : List Row → Option WrongArgument → Type 0
-IsFaultIn rows None = NamesOwner rows × NamesFile rows × NamesDate rows
+IsFaultIn rows None = NamesOwner rows × NamesFile rows × NamesEncoding rows × NamesDate rows
 IsFaultIn rows (Some wrong) = IsWrong rows wrong
 
 abbrev pub IsMistaken : Option (Text × List Row) → Option WrongArgument → Type 0

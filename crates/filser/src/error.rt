@@ -11,6 +11,9 @@ pub enum WrongArgument<'a> {
     /// The file.
     #[error("NAME {}: 1 to 6 letters and digits, and at most 3 more after a full stop, as FOO.TXT", Escaped(.0))]
     Name(&'a str),
+    /// Both flags that say what the bytes of a file are.
+    #[error("--words and --bytes exclude each other")]
+    Encodings,
     /// The date.
     #[error("--date {}: a day from 1964-01-01 to 2052-02-01, as 1975-01-04 or 4-Jan-1975, or its number", Escaped(.0))]
     Date(&'a str),

@@ -1,5 +1,5 @@
 ghost use Rattle.std.specs.Prelude.{◌≡◌, ◌≤◌, List, ℕ, [], map, codes, IfOk, MatchOption, option_map, IsErrOf, Err};
-ghost use Rattle.std.specs.Prelude.{◌↔◌, Some, Option, IfSome, IfNone};
+ghost use Rattle.std.specs.Prelude.{◌↔◌, Some, Option, IfSome, IfNone, IsTrue, IsFalse};
 ghost use Rattle.clap.specs.Words.{Row, found_of, rows_of, first_of, subcommand_of, subcommand_rows_of, fault_of};
 ghost use Rattle.clap.specs.Words.{kind_of};
 ghost use Rattle.clap.specs.declared.error.Error.{Error as ClapError};
@@ -9,6 +9,7 @@ ghost use Rattle.filser.specs.Requests.{Asks, IsAsked, IsAt, IsNamedFile};
 ghost use Rattle.filser.specs.Requests.{HasOwned, LacksOwned};
 ghost use Rattle.filser.specs.Requests.{IsListedPlace, IsStyle, IsTask, HasForm, HasLayout, HasText};
 ghost use Rattle.filser.specs.Requests.{HasDate, HasNumber, IsFaultIn, IsMistaken, IsUsage, IsWrong, NamesDate};
+ghost use Rattle.filser.specs.Requests.{IsEncoding, NamesEncoding};
 ghost use Rattle.filser.specs.Requests.{IsDateNumber, LacksDate, NamesFile, NamesNoDate, NamesOwner, SaysDate};
 ghost use Rattle.filser.specs.Requests.{InRange};
 ghost use Rattle.words36.specs.declared.moment.Moment.{Moment as Moments};
@@ -16,7 +17,7 @@ ghost use Rattle.imagefile.specs.declared.form.Form.{Form as Forms};
 ghost use Rattle.meaning.specs.declared.layout.Layout.{Layout as Layouts};
 ghost use Rattle.filser.specs.declared.task.NamedFile.{NamedFile as NamedFiles};
 ghost use Rattle.filser.specs.declared.task.Task.{Task as Tasks};
-ghost use Rattle.meaning.specs.declared.encoding.Encoding.TheVariants.{Words};
+ghost use Rattle.meaning.specs.declared.encoding.Encoding.{Encoding as Encodings};
 ghost use Rattle.filser.specs.declared.asked.Request.{Request as Asked};
 ghost use Rattle.filser.specs.declared.error.RequestError.TheVariants.{Usage, BadArgument};
 ghost use Rattle.filser.specs.declared.error.WrongArgument.{WrongArgument as WrongArguments};
@@ -248,6 +249,9 @@ fn wrong_argument<'a>(matches: &ArgMatches<'a>) -> Option<WrongArgument<'a>>
     if let Some(text) = wrong_name(matches) {
         return Some(WrongArgument::Name(text));
     }
+    if has_both(matches) {
+        return Some(WrongArgument::Encodings);
+    }
     if let Some(text) = wrong_date(matches) {
         return Some(WrongArgument::Date(text));
     }
@@ -333,20 +337,50 @@ fn named(matches: &ArgMatches) -> Option<NamedFile>
         (IsNamedFile (rows_of (found_of matches.now))) }
 {
     let (owner, name) = owned(matches)?;
+    let encoding = encoding(matches)?;
     Some(NamedFile {
         owner,
         name,
-        encoding: encoding(matches),
+        encoding,
     })
 }
 
-/// What the bytes of the file say: words where that is asked for.
-fn encoding(matches: &ArgMatches) -> Encoding
-    ensures { (result ≡ Words) ↔ HasText (rows_of (found_of matches.now)) (codes "words") (codes "true") }
+/// What the bytes of the file say: words, or bytes of eight bits, where that is asked for, and not both.
+fn encoding(matches: &ArgMatches) -> Option<Encoding>
+    ensures { MatchOption result ((e : Encodings) → IsEncoding (rows_of (found_of matches.now)) e → ⊥)
+        (IsEncoding (rows_of (found_of matches.now))) }
 {
-    match text(matches, "words") {
-        Some("true") => Encoding::Words,
-        _ => Encoding::Characters,
+    if has_both(matches) {
+        return None;
+    }
+    if given(matches, "words") {
+        return Some(Encoding::Words);
+    }
+    if given(matches, "bytes") {
+        return Some(Encoding::Octets);
+    }
+    Some(Encoding::Characters)
+}
+
+/// Whether words and bytes of eight bits are asked for at once.
+fn has_both(matches: &ArgMatches) -> bool
+    ensures both { IsTrue result → IsWrong (rows_of (found_of matches.now)) wrong.Encodings }
+    ensures one { IsFalse result → NamesEncoding (rows_of (found_of matches.now)) }
+{
+    if given(matches, "words") {
+        given(matches, "bytes")
+    } else {
+        false
+    }
+}
+
+/// Whether a flag is given.
+fn given(matches: &ArgMatches, id: &str) -> bool
+    ensures { IsTrue result ↔ HasText (rows_of (found_of matches.now)) id.now (codes "true") }
+{
+    match text(matches, id) {
+        Some("true") => true,
+        _ => false,
     }
 }
 

@@ -66,7 +66,7 @@ fn tell_misfit<E: Write>(errors: &mut E, misfit: Misfit) {
         Misfit::Byte(byte, place) => report(
             errors,
             INPUT,
-            &format_args!("byte {byte} at {place} isn't text (1 to 127); --words stores any words"),
+            &format_args!("byte {byte} at {place} isn't text (1 to 127); --bytes stores any bytes"),
         ),
         Misfit::Length(count) => report(
             errors,

@@ -47,11 +47,8 @@ impl Task {
     pub fn access(&self) -> Access {
         match self {
             Task::Get(_, _) | Task::List(_, _) | Task::Check => Access::Read,
-            Task::Run(_)
-            | Task::Calls(_)
-            | Task::Wire
-            | Task::Put(_, _)
-            | Task::Delete(_, _) => Access::Write,
+            Task::Run(_) | Task::Calls(_) | Task::Wire | Task::Put(_, _) | Task::Delete(_, _) =>
+                Access::Write,
         }
     }
 }

@@ -5,7 +5,7 @@ use Rattle.std.proofs.Common.{Some, refl, sym, ap, subst, ◌∙◌}
 use Rattle.std.specs.Prelude.{Option, unwrap_or}
 use Rattle.std.specs.List.{AllByRecursion}
 use Rattle.words36.specs.declared.moment.Moment.{Moment}
-use Rattle.meaning.specs.Texts.{Spoken, prints, printed, refuses}
+use Rattle.meaning.specs.Texts.{Spoken, prints, file_said, refuses}
 use Rattle.meaning.specs.Plans.{Plan, Ask, Show, Say, Act, Asks, Looks, Conducts, each, calls, ends, fails, ok}
 use Rattle.meaning.specs.Plans.{if_done, if_told, if_end, is_end, until_end, takes, asks_out, goes_to, finds, writes}
 use Rattle.meaning.specs.Plans.{lists, deposits, examines, fetches, takes_over, counts, sizes, says_words, last_said}
@@ -25,7 +25,7 @@ use Rattle.meaning.specs.declared.command.Command.TheVariants.{Delete as DeleteL
 use Rattle.meaning.specs.declared.command.Command.TheVariants.{Protect as ProtectLine, MakeDir as MakeLine}
 use Rattle.meaning.specs.declared.command.Command.TheVariants.{Quota as QuotaLine}
 use Rattle.meaning.specs.declared.encoding.Encoding.{Encoding}
-use Rattle.meaning.specs.declared.encoding.Encoding.TheVariants.{Characters, Words}
+use Rattle.meaning.specs.declared.encoding.Encoding.TheVariants.{Characters, Words, Octets}
 use Rattle.meaning.specs.declared.call.Call.TheVariants.{Close, Reset}
 use Rattle.meaning.specs.declared.call.Event.{Event}
 use Rattle.meaning.specs.declared.call.Event.TheVariants.{Login, Deposit, Examine, Call as Calls}
@@ -64,11 +64,13 @@ want_creates : (moment : Moment) (encoding : Encoding) (spec : Spec)
     → AllByRecursion WantsDone (creates moment encoding spec)
 want_creates moment Characters spec = (tt, (tt, (tt, (tt, (tt, (tt, (tt, (tt, (tt, (tt, (tt, tt)))))))))))
 want_creates moment Words spec = want_writes moment spec
+want_creates moment Octets spec = want_writes moment spec
 
 want_announces : (moment : Moment) (encoding : Encoding) (count : ℕ)
     → AllByRecursion WantsDone (announces moment encoding count)
 want_announces moment Characters count = (tt, (tt, tt))
 want_announces moment Words count = (tt, (tt, (tt, tt)))
+want_announces moment Octets count = (tt, (tt, (tt, tt)))
 
 module _ (moment : Moment) (IsEnd : Plan → Type 0) where
   if_done_goes : (next : Plan) → GoesUntilRefused moment IsEnd next → (reply : Reply)
@@ -250,7 +252,7 @@ reads_go_on moment encoding spec = each_goes moment IsEnd (finds moment spec ++ 
     IsEnd = PrintsAtEnd moment encoding
 
     printing : List ℕ → Plan
-    printing words = until_end moment (ends moment (prints (printed encoding words)))
+    printing words = until_end moment (ends moment (file_said encoding words))
 
 pub puts_go_on : (moment : Moment) (me : ℕ) (encoding : Encoding) (spec : Spec) (words : List ℕ)
     → GoesUntilRefused moment (SaysOk moment) (keeps moment me encoding spec (Some words))
@@ -408,18 +410,18 @@ closes_at_end moment plan acts said is led =
     (subst (λ p. Conducts p acts said) is led)
 
 abbrev IsPrint : Encoding → Spoken → Type 0
-IsPrint encoding said = (words : List ℕ) × (said ≡ prints (printed encoding words))
+IsPrint encoding said = (words : List ℕ) × (said ≡ file_said encoding words)
 
 prints_at_end : (moment : Moment) (encoding : Encoding) (plan : Plan) (acts : List Act) (said : Spoken)
     → PrintsAtEnd moment encoding plan → Conducts plan acts said → IsPrint encoding said ⊎ IsRefusedAt moment acts said
 prints_at_end moment encoding plan acts said (words, is) led =
-    until_by moment (IsPrint encoding) (ends moment (prints (printed encoding words))) acts said
-    (λ acts led. inl (words, (ends_by moment (prints (printed encoding words)) said acts led).2))
+    until_by moment (IsPrint encoding) (ends moment (file_said encoding words)) acts said
+    (λ acts led. inl (words, (ends_by moment (file_said encoding words) said acts led).2))
     (subst (λ p. Conducts p acts said) is led)
 
 pub read_refusals : (moment : Moment) (encoding : Encoding) (spec : Spec) (acts : List Act) (said : Spoken)
     → Conducts (reads_file moment encoding spec) acts said
-    → ((words : List ℕ) × (said ≡ prints (printed encoding words))) ⊎ IsRefusedAt moment acts said
+    → ((words : List ℕ) × (said ≡ file_said encoding words)) ⊎ IsRefusedAt moment acts said
 read_refusals moment encoding spec acts said led = acts_go_on moment (PrintsAtEnd moment encoding) (IsPrint encoding)
     (prints_at_end moment encoding) (reads_file moment encoding spec) acts said (reads_go_on moment encoding spec) led
 
@@ -432,7 +434,7 @@ put_refusals moment me encoding spec words acts said led = acts_go_on moment (Sa
 
 pub get_refusals : (moment : Moment) (me : ℕ) (encoding : Encoding) (spec : Spec) (acts : List Act) (said : Spoken)
     → Conducts (gets moment me encoding spec) acts said
-    → ((words : List ℕ) × (said ≡ prints (printed encoding words))) ⊎ IsRefusedAt moment acts said
+    → ((words : List ℕ) × (said ≡ file_said encoding words)) ⊎ IsRefusedAt moment acts said
 get_refusals moment me encoding spec acts said led = acts_go_on moment (PrintsAtEnd moment encoding) (IsPrint encoding)
     (prints_at_end moment encoding) (gets moment me encoding spec) acts said
     (gets_go_on moment me encoding spec) led

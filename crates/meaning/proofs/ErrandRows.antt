@@ -2,15 +2,16 @@
 use Rattle.std.proofs.Common.{◌≡◌, ℕ, List, [], ◌∷◌, ◌++◌, replicate, Some, None, refl}
 use Rattle.std.specs.Prelude.{codes}
 use Rattle.words36.specs.Ascii.{packed}
+use Rattle.words36.specs.Octets.{octets_packed}
 use Rattle.meaning.specs.Maps.{get, insert, remove, empty, entries, size}
 use Rattle.meaning.specs.CommandLists.{dump_list, areas_from}
 use Rattle.meaning.specs.Rings.{setup, out_ready, out_writes, last_words}
 use Rattle.meaning.specs.Jobs.{State}
-use Rattle.meaning.specs.Texts.{Spoken, prints, line, printed, typed}
+use Rattle.meaning.specs.Texts.{Spoken, prints, complains, line, file_said, typed}
 use Rattle.meaning.specs.Plans.{each, fetches, types_runs}
 use Rattle.meaning.specs.Errands.{keeps, gets, fills_parts}
 use Rattle.meaning.specs.declared.encoding.Encoding.{Encoding}
-use Rattle.meaning.specs.declared.encoding.Encoding.TheVariants.{Characters, Words}
+use Rattle.meaning.specs.declared.encoding.Encoding.TheVariants.{Characters, Words, Octets}
 use Rattle.meaning.specs.declared.command.Spec.{Spec}
 use Rattle.meaning.proofs.Playing.{small, ten_twenty, fresh, foo, foo_of, at_start}
 use Rattle.meaning.proofs.TextRows.{conduct}
@@ -38,8 +39,8 @@ nothing_back = refl
 
 -- Words: two blocks and a part of a third, and two whole ones.
 words_back :
-    (back fresh Words (replicate 300 7) ≡ (prints (line (codes "OK")), prints (printed Words (replicate 300 7))))
-    × (back fresh Words (replicate 256 7) ≡ (prints (line (codes "OK")), prints (printed Words (replicate 256 7))))
+    (back fresh Words (replicate 300 7) ≡ (prints (line (codes "OK")), file_said Words (replicate 300 7)))
+    × (back fresh Words (replicate 256 7) ≡ (prints (line (codes "OK")), file_said Words (replicate 256 7)))
 unfolding empty insert get remove entries size dump_list areas_from each fetches types_runs fills_parts conduct
 words_back = (refl, refl)
 
@@ -49,3 +50,13 @@ text_of_blocks : back fresh Characters (replicate 300 0o406050301402)
 unfolding empty insert get remove entries size dump_list areas_from each fetches types_runs fills_parts setup
     out_ready out_writes last_words conduct
 text_of_blocks = refl
+
+-- Bytes of eight bits, which the words of a text aren't.
+bytes_back : back fresh Octets (octets_packed (codes "HELLO" ++ 0 ∷ 255 ∷ []))
+    ≡ (prints (line (codes "OK")), prints (codes "HELLO" ++ 0 ∷ 255 ∷ []))
+unfolding empty insert get remove entries size dump_list areas_from each fetches types_runs fills_parts conduct
+bytes_back = refl
+
+text_as_bytes : back fresh Octets (packed (codes "HELLO")) ≡ (prints (line (codes "OK")), complains (codes "?Not bytes"))
+unfolding empty insert get remove entries size dump_list areas_from each fetches types_runs fills_parts conduct
+text_as_bytes = refl

@@ -23,7 +23,7 @@ use Rattle.meaning.specs.Copies.{AreShort, IsPrinted, IsPut, place_of, made}
 use Rattle.meaning.specs.Copies.{put_mode}
 use Rattle.meaning.specs.declared.command.Spec.{Spec}
 use Rattle.meaning.specs.declared.encoding.Encoding.{Encoding}
-use Rattle.meaning.specs.declared.encoding.Encoding.TheVariants.{Characters, Words}
+use Rattle.meaning.specs.declared.encoding.Encoding.TheVariants.{Characters, Words, Octets}
 use Rattle.meaning.specs.declared.call.Event.{Event}
 use Rattle.meaning.specs.declared.call.Event.TheVariants.{Login}
 use Rattle.meaning.specs.declared.call.Call.TheVariants.{Open, Enter, Outbuf, Close}
@@ -104,6 +104,7 @@ quiet_creates moment Characters spec =
     let quiet : AllByRecursion IsQuiet rest = (tt, (tt, (tt, (tt, (tt, (tt, (tt, (tt, tt)))))))) in
     all_append IsQuiet (deposits open_words opening_words) rest (quiet_deposits opening_words open_words) quiet
 quiet_creates moment Words spec = quiet_writes moment spec
+quiet_creates moment Octets spec = quiet_writes moment spec
 
 pub puts_are_exact : (pack : Pack) (moment : Moment) (me : ℕ) (s : State) (encoding : Encoding) (spec : Spec)
     (words : List ℕ) (said : Spoken) (new : Service) → 1 < length s.jobs → HasHalfwordExtension spec
@@ -148,6 +149,14 @@ puts_are_exact pack moment me s encoding spec words said new there few come = �
         (words_done pack base j0 there0 moment me (place_of me spec) b.1 (here Words)) (parts_of Words (length words)) 0
         [] words closing said new b.0 refl b.3 (λ some. refl)
         (subst (λ u. Comes pack (Serving u) (filling Words) said new) b.2 rest))
+    by Octets t all rest =
+        let b = words_begun pack base j0 there0 moment me j0 spec t (is_job me) few (home Octets t all) in
+        ⊎_elim inr (λ (n, j', is, more). closes_done pack base j0 there0 moment open_channel
+        (side (place_of me spec) b.1 (with_body (here Octets) words) (n + 1)) said new j' is.second refl b.4 more)
+        (parts_done pack base moment Octets (PutsWords me (place_of me spec) b.1 (here Octets))
+        (words_done pack base j0 there0 moment me (place_of me spec) b.1 (here Octets)) (parts_of Octets (length words))
+        0 [] words closing said new b.0 refl b.3 (λ some. refl)
+        (subst (λ u. Comes pack (Serving u) (filling Octets) said new) b.2 rest))
     by Characters t all rest =
         let b = characters_begun pack base j0 there0 moment me j0 spec t (is_job me) few (ring_base me)
         (home Characters t all) in

@@ -17,7 +17,7 @@ use Rattle.meaning.specs.Plans.{Plan, lists, asks_out, deposits, list_words, blo
 use Rattle.meaning.specs.Errands.{fills, fills_parts, part_address, part_words, parts_of}
 use Rattle.meaning.specs.Copies.{Comes, IsLineRefused}
 use Rattle.meaning.specs.declared.encoding.Encoding.{Encoding}
-use Rattle.meaning.specs.declared.encoding.Encoding.TheVariants.{Characters, Words}
+use Rattle.meaning.specs.declared.encoding.Encoding.TheVariants.{Characters, Words, Octets}
 use Rattle.meaning.specs.declared.call.Reply.TheVariants.{Done}
 use Rattle.meaning.proofs.SlotLaws.{all_append}
 use Rattle.meaning.proofs.PlanRuns.{AllDone, IsQuiet, each_done, split_done}
@@ -45,30 +45,40 @@ quiet_fills moment Words part = all_append IsQuiet (deposits (part_address Words
     (all_append IsQuiet (lists (length part)) (asks_out moment ∷ [])
     (quiet_deposits (list_pair (length part)) list_words)
     (tt, tt))
+quiet_fills moment Octets part = all_append IsQuiet (deposits (part_address Octets) part) _
+    (quiet_deposits part (part_address Octets))
+    (all_append IsQuiet (lists (length part)) (asks_out moment ∷ [])
+    (quiet_deposits (list_pair (length part)) list_words)
+    (tt, tt))
 
 -- How many parts there are.
 
 no_words : (encoding : Encoding) (len : ℕ) → 0 ≡ parts_of encoding len → len ≡ 0
 no_words Characters len e = grind arith
 no_words Words len e = grind arith
+no_words Octets len e = grind arith
 
 some_words : (encoding : Encoding) (more len : ℕ) → suc more ≡ parts_of encoding len → 0 < len
 some_words Characters more len e = grind arith
 some_words Words more len e = grind arith
+some_words Octets more len e = grind arith
 
 parts_left : (encoding : Encoding) (more len : ℕ) → suc more ≡ parts_of encoding len
     → more ≡ parts_of encoding (len - part_words encoding)
 parts_left Characters more len e = grind arith
 parts_left Words more len e = grind arith
+parts_left Octets more len e = grind arith
 
 some_part : (encoding : Encoding) → 0 < part_words encoding
 some_part Characters = omega arith
 some_part Words = omega arith
+some_part Octets = omega arith
 
 -- a part that others follow ends at a block's edge
 whole_part : (encoding : Encoding) → blocks_of (part_words encoding) * 128 ≡ part_words encoding
 whole_part Characters = refl
 whole_part Words = refl
+whole_part Octets = refl
 
 next_edge : (k blocks words : ℕ) → blocks * 128 ≡ words → k * 128 + words ≡ (k + blocks) * 128
 next_edge k blocks words e = grind arith

@@ -38,6 +38,7 @@ pub mod UpdateRows
 pub mod RemovalRows
 pub mod RingRows
 pub mod TextRows
+pub mod ToldLaws
 mod ErrandRows
 pub mod SpelledRows
 pub mod SlotLaws

@@ -189,7 +189,7 @@ goes_on pack t moment told said new c =
 
 refused : (files : Files Version) (reply : Reply) (said : Spoken) (new : Service)
     → (said ≡ refuses reply) × HasFiles files new → IsLineRefused files said new
-refused files reply said new (e, h) = (let is : said.refused ≡ true = ap (λ x. x.refused) e in is, h)
+refused files reply said new (e, h) = ((reply, e), h)
 
 pub failed : (pack : Pack) (files : Files Version) (old : Service) (moment : Moment) (reply : Reply) (said : Spoken)
     (new : Service)

@@ -14,7 +14,7 @@ use Rattle.meaning.specs.Looking.{size_word}
 use Rattle.meaning.specs.Outputs.{longest}
 use Rattle.meaning.specs.Room.{Pack}
 use Rattle.meaning.specs.Runs.{Service, Serving, Steps}
-use Rattle.meaning.specs.Texts.{Spoken, prints, printed}
+use Rattle.meaning.specs.Texts.{Spoken, file_said}
 use Rattle.meaning.specs.Plans.{Plan, each, finds, lists, takes, goes_to, fetches, list_words, block_address}
 use Rattle.meaning.specs.Plans.{file_words}
 use Rattle.meaning.specs.Plans.{blocks_at_once, types_runs, types_blocks, types_last, types_body, reads_file}
@@ -306,7 +306,7 @@ reads_are_exact pack moment me s encoding spec said new ready few short come = �
     (quiet_deposits (list_pair 128) list_words)) come)
   where
     closing : List ℕ → Plan
-    closing words = until_end moment (ends moment (prints (printed encoding words)))
+    closing words = until_end moment (ends moment (file_said encoding words))
 
     rests : Plan
     rests = examines moment (file_words + 3) (λ size. types_body moment (blocks_said size) size closing)
@@ -322,11 +322,11 @@ reads_are_exact pack moment me s encoding spec said new ready few short come = �
         → Comes pack (Serving (at s j)) (closing v.file.body) said new
         → IsPrinted me s encoding spec said new ⊎ IsLineRefused s.files said new
     finished v found j is (n, first) more = ⊎_elim inr (λ (j', same, rest). inl (shown (goes_on pack (at s j') moment
-        (prints (printed encoding v.file.body)) said new rest)))
+        (file_said encoding v.file.body) said new rest)))
         (until_done pack s j0 ready.logged_in moment me (reading (place_of me spec) v n)
-        (ends moment (prints (printed encoding v.file.body))) said new j is first more)
+        (ends moment (file_said encoding v.file.body)) said new j is first more)
       where
-        shown : (said ≡ prints (printed encoding v.file.body))
+        shown : (said ≡ file_said encoding v.file.body)
             × ((after : State) × (new ≡ Serving after) × (after.files ≡ s.files))
             → IsPrinted me s encoding spec said new
         shown (e, (after, serves, files)) = ((v, found, e), subst (HasFiles s.files) (sym serves) files)

@@ -2,8 +2,9 @@
 use Rattle.std.specs.Prelude.{◌≡◌, ◌⊎◌, ℕ, Bool, true, false, IsTrue, IsFalse, List, [], ◌∷◌, ◌++◌, unwrap_or}
 use Rattle.std.specs.Prelude.{Result}
 use Rattle.std.specs.List.{AllByRecursion}
+use Rattle.words36.specs.Octets.{AreOctets}
 use Rattle.words36.specs.declared.moment.Moment.{Moment}
-use Rattle.meaning.specs.Texts.{Spoken, prints, printed, refuses, list_said}
+use Rattle.meaning.specs.Texts.{Spoken, prints, typed, file_said, refuses, list_said}
 use Rattle.meaning.specs.Plans.{Plan, Ask, Show, Say, Act, Asks, Looks, each, calls, ends, fails, ok, until_end, takes}
 use Rattle.meaning.specs.Plans.{is_end, shows}
 use Rattle.meaning.specs.declared.command.Command.{Command}
@@ -13,7 +14,7 @@ use Rattle.meaning.specs.declared.command.Command.TheVariants.{Delete as DeleteL
 use Rattle.meaning.specs.declared.command.Command.TheVariants.{Protect as ProtectLine, MakeDir as MakeLine}
 use Rattle.meaning.specs.declared.command.Command.TheVariants.{Quota as QuotaLine}
 use Rattle.meaning.specs.declared.encoding.Encoding.{Encoding}
-use Rattle.meaning.specs.declared.encoding.Encoding.TheVariants.{Characters}
+use Rattle.meaning.specs.declared.encoding.Encoding.TheVariants.{Characters, Octets}
 use Rattle.meaning.specs.declared.entry.Entry.{Entry}
 use Rattle.meaning.specs.declared.style.Style.TheVariants.{Columns}
 use Rattle.meaning.specs.declared.call.Call.TheVariants.{Close, Reset}
@@ -57,7 +58,13 @@ ClosesAtEnd moment plan = plan ≡ until_end moment (each moment (calls moment (
 
 abbrev pub PrintsAtEnd : Moment → Encoding → Plan → Type 0
 PrintsAtEnd moment encoding plan =
-    (words : List ℕ) × (plan ≡ until_end moment (ends moment (prints (printed encoding words))))
+    (words : List ℕ) × (plan ≡ until_end moment (ends moment (file_said encoding words)))
+
+-- A file that was read is refused only if its bytes were asked for, and no bytes have its words.
+abbrev pub TellingsHaveCauses : Type 0
+TellingsHaveCauses =
+    (encoding : Encoding) (words : List ℕ) → IsTrue (file_said encoding words).refused
+    → (encoding ≡ Octets) × ((bytes : List ℕ) → AreOctets words bytes → ⊥)
 
 -- The end of each line. LOGIN asks nothing here, and DIRECTORY no event.
 abbrev pub EndsSo : Moment → ℕ → Command → Plan → Type 0
@@ -79,7 +86,7 @@ SaysSo me (DirectoryLine owner) said =
 SaysSo me (CopyLine to from) said = said ≡ ok
 SaysSo me (RenameLine to from) said = said ≡ ok
 SaysSo me (DeleteLine spec) said = said ≡ ok
-SaysSo me (TypeLine spec) said = (words : List ℕ) × (said ≡ prints (printed Characters words))
+SaysSo me (TypeLine spec) said = (words : List ℕ) × (said ≡ prints (typed words))
 SaysSo me (ProtectLine spec protection) said = said ≡ ok
 SaysSo me (MakeLine owner protection) said = said ≡ ok
 SaysSo me (QuotaLine owner blocks) said = said ≡ ok

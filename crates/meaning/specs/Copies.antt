@@ -1,7 +1,8 @@
 -- What a line of a session, or an errand of job 1, comes to: the file that a copy leaves, the text that a file is shown
 -- as, the file that is put.
-use Rattle.std.specs.Prelude.{◌≡◌, ◌⊎◌, ◌≤◌, ◌<◌, ℕ, ◌^◌, Bool, true, false, IsTrue, List, length, unwrap_or, Option}
-use Rattle.std.specs.Prelude.{Some, None}
+use Rattle.std.specs.Prelude.{◌≡◌, ◌⊎◌, ◌≤◌, ◌<◌, ℕ, ◌^◌, Bool, true, false, List, length, unwrap_or, Option}
+use Rattle.std.specs.Prelude.{Some, None, codes}
+use Rattle.words36.specs.Octets.{AreOctets}
 use Rattle.words36.specs.declared.moment.Moment.{Moment}
 use Rattle.blockdisk.specs.Disk.{Contents}
 use Rattle.meaning.specs.Files.{File, Files, Place}
@@ -13,7 +14,7 @@ use Rattle.meaning.specs.Room.{Pack}
 use Rattle.meaning.specs.Runs.{Service, Serving, Broken, Steps, Answers, AnswersAll, IsStart}
 use Rattle.meaning.specs.Sound.{writes_at}
 use Rattle.meaning.specs.Stands.{Stands}
-use Rattle.meaning.specs.Texts.{Spoken, prints, printed}
+use Rattle.meaning.specs.Texts.{Spoken, prints, file_said, complains, refuses}
 use Rattle.meaning.specs.Plans.{Plan, Act, Conducts, ok, copies, reads_file}
 use Rattle.meaning.specs.Opening.{dump_mode}
 use Rattle.meaning.specs.Transcripts.{Went, core_words}
@@ -24,7 +25,7 @@ use Rattle.meaning.specs.declared.call.Reply.TheVariants.{Done}
 use Rattle.meaning.specs.declared.command.Spec.{Spec}
 use Rattle.meaning.specs.Errands.{keeps, gets}
 use Rattle.meaning.specs.declared.encoding.Encoding.{Encoding}
-use Rattle.meaning.specs.declared.encoding.Encoding.TheVariants.{Characters, Words}
+use Rattle.meaning.specs.declared.encoding.Encoding.TheVariants.{Characters, Words, Octets}
 
 -- The service does what a plan asks, and says this in the end.
 abbrev pub Comes : Pack → Service → Plan → Spoken → Service → Type 0
@@ -60,9 +61,9 @@ abbrev pub HasFiles : Files Version → Service → Type 0
 HasFiles files Broken = Unit {0}
 HasFiles files (Serving after) = after.files ≡ files
 
--- the line is refused, and the files are those from before
+-- the line is refused for a reply, and the files are those from before
 abbrev pub IsLineRefused : Files Version → Spoken → Service → Type 0
-IsLineRefused files said new = IsTrue said.refused × HasFiles files new
+IsLineRefused files said new = ((reply : Reply) × (said ≡ refuses reply)) × HasFiles files new
 
 -- a superseding file keeps the protection of the one that was there
 abbrev pub kept_protection : Option Version → ℕ
@@ -101,11 +102,20 @@ CopiesAreExact =
     → Comes pack (Serving s) (copies moment to from) said new
     → IsCopied moment me s to from said new ⊎ IsLineRefused s.files said new
 
--- A file that is read is printed, or the line is refused; the files stay.
+-- A file that is read is printed, or its words are refused, or the line is; the files stay.
 abbrev pub IsPrinted : ℕ → State → Encoding → Spec → Spoken → Service → Type 0
 IsPrinted me s encoding spec said new =
-    ((v : Version) × (file_at s.files (place_of me spec) ≡ Some v) × (said ≡ prints (printed encoding v.file.body)))
+    ((v : Version) × (file_at s.files (place_of me spec) ≡ Some v) × (said ≡ file_said encoding v.file.body))
     × HasFiles s.files new
+
+-- As bytes of eight bits those are printed whose words these are. If there are none, the file is refused.
+abbrev pub OctetsAreTold : Type 0
+OctetsAreTold = (words bytes : List ℕ) → AreOctets words bytes → file_said Octets words ≡ prints bytes
+
+abbrev pub NoOctetsAreTold : Type 0
+NoOctetsAreTold =
+    (words : List ℕ) → ((bytes : List ℕ) → AreOctets words bytes → ⊥)
+    → file_said Octets words ≡ complains (codes "?Not bytes")
 
 abbrev pub ReadsAreExact : Type 0
 ReadsAreExact =
@@ -120,6 +130,7 @@ ReadsAreExact =
 abbrev pub put_mode : Encoding → ℕ
 put_mode Characters = 0
 put_mode Words = dump_mode
+put_mode Octets = dump_mode
 
 -- A file that is put has these words.
 abbrev pub IsPut : Moment → ℕ → State → Encoding → Spec → List ℕ → Spoken → Service → Type 0

@@ -7,6 +7,7 @@ use Rattle.std.specs.Fmt.{decimal, signed_decimal}
 use Rattle.words36.specs.Words.{IsWord, join}
 use Rattle.words36.specs.Ascii.{packed}
 use Rattle.words36.specs.Blocks.{word_bytes}
+use Rattle.words36.specs.Octets.{octets_packed}
 use Rattle.words36.specs.declared.moment.Moment.{Moment}
 use Rattle.words36.specs.declared.names.FileName.{FileName}
 use Rattle.meaning.specs.Opening.{disk}
@@ -23,7 +24,7 @@ use Rattle.meaning.specs.declared.call.Event.TheVariants.{Login, Deposit}
 use Rattle.meaning.specs.declared.command.Spec.{Spec}
 use Rattle.meaning.specs.declared.encoding.Encoding.{Encoding}
 use Rattle.meaning.specs.declared.style.Style.{Style}
-use Rattle.meaning.specs.declared.encoding.Encoding.TheVariants.{Characters, Words}
+use Rattle.meaning.specs.declared.encoding.Encoding.TheVariants.{Characters, Words, Octets}
 
 -- a file in the directory of the one who logs in
 abbrev pub own_file : FileName → Spec
@@ -33,7 +34,7 @@ own_file name = record { name = name; owner = None }
 abbrev pub enters : ℕ → List Event
 enters owner = Login 1 owner core_words ∷ []
 
--- A file is got: it is read whole, and then printed.
+-- A file is got: it is read whole, and then printed or refused.
 abbrev pub gets : Moment → ℕ → Encoding → Spec → Plan
 gets moment owner encoding spec = each moment (enters owner) (reads_file moment encoding spec)
 
@@ -56,7 +57,7 @@ surveys_of moment style (Ok owners) = surveys moment style owners
 surveys_of moment style (Err reply) = Say (refuses reply)
 
 -- A file is put. Its bytes say which words it has, or that they are none: a character is a byte from 1 to 127, since a
--- null would be lost, and a word has 36 bits.
+-- null would be lost, and a word has 36 bits. Any bytes of eight bits make words.
 
 abbrev pub is_character : ℕ → Bool
 is_character byte = nat_le 1 byte && nat_le byte 127
@@ -66,10 +67,13 @@ AreWords Characters bytes (Some words) = Are is_character bytes × (words ≡ pa
 AreWords Characters bytes None = Are is_character bytes → ⊥
 AreWords Words bytes (Some words) = All IsWord words × (flat_map word_bytes words ≡ bytes)
 AreWords Words bytes None = (words : List ℕ) → All IsWord words → flat_map word_bytes words ≡ bytes → ⊥
+AreWords Octets bytes (Some words) = words ≡ octets_packed bytes
+AreWords Octets bytes None = ⊥
 
 abbrev pub unfit : Encoding → List ℕ
 unfit Characters = codes "?Not ASCII"
 unfit Words = codes "?Bad words"
+unfit Octets = codes "?Bad bytes"
 
 -- Addresses in job 1's core: the header of a ring, and the data of its one buffer, which lies where the rings of a job
 -- begin that has logged in.
@@ -87,6 +91,7 @@ creates moment Characters spec =
     deposits open_words (0 ∷ disk ∷ join header_address 0 ∷ []) ++ calls moment (Open 2 open_words)
     ∷ (names new_words spec 0 ++ calls moment (Enter 2 new_words) ∷ calls moment (Outbuf 2 1) ∷ asks_out moment ∷ [])
 creates moment Words spec = writes moment spec
+creates moment Octets spec = writes moment spec
 
 -- So many words are the next that are put: the header's byte pointer is at the last character of the last of them, or
 -- the command list names them.
@@ -94,11 +99,13 @@ abbrev pub announces : Moment → Encoding → ℕ → List Event
 announces moment Characters count =
     Deposit 1 (header_address + 1) (join 0o010700 (data_address - 1 + count)) ∷ asks_out moment ∷ []
 announces moment Words count = lists count ++ asks_out moment ∷ []
+announces moment Octets count = lists count ++ asks_out moment ∷ []
 
 -- where they stand in core
 abbrev pub part_address : Encoding → ℕ
 part_address Characters = data_address
 part_address Words = block_address
+part_address Octets = block_address
 
 abbrev pub fills : Moment → Encoding → List ℕ → List Event
 fills moment encoding part = deposits (part_address encoding) part ++ announces moment encoding (length part)
@@ -107,6 +114,7 @@ fills moment encoding part = deposits (part_address encoding) part ++ announces 
 abbrev pub part_words : Encoding → ℕ
 part_words Characters = 128
 part_words Words = blocks_at_once * 128
+part_words Octets = blocks_at_once * 128
 
 -- how many parts so many words make
 abbrev pub parts_of : Encoding → ℕ → ℕ

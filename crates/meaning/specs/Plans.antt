@@ -6,7 +6,7 @@ use Rattle.words36.specs.Words.{left, join}
 use Rattle.words36.specs.declared.moment.Moment.{Moment}
 use Rattle.meaning.specs.Costs.{blocks_of}
 use Rattle.meaning.specs.Opening.{disk, dump_mode}
-use Rattle.meaning.specs.Texts.{Spoken, prints, refuses, line, printed, list_said}
+use Rattle.meaning.specs.Texts.{Spoken, prints, refuses, line, file_said, list_said}
 use Rattle.meaning.specs.declared.encoding.Encoding.{Encoding}
 use Rattle.meaning.specs.declared.encoding.Encoding.TheVariants.{Characters}
 use Rattle.meaning.specs.declared.style.Style.TheVariants.{Columns}
@@ -261,7 +261,7 @@ abbrev pub reads_file : Moment → Encoding → Spec → Plan
 reads_file moment encoding spec =
     each moment (finds moment spec ++ lists 128)
     (examines moment (file_words + 3) (λ size. types_body moment (blocks_said size) size
-    (λ words. until_end moment (ends moment (prints (printed encoding words))))))
+    (λ words. until_end moment (ends moment (file_said encoding words)))))
 
 abbrev pub types : Moment → Spec → Plan
 types moment spec = reads_file moment Characters spec

@@ -1,6 +1,6 @@
 -- What a session prints.
 use Rattle.std.specs.Prelude.{ℕ, ◌+◌, ◌-◌, ◌/◌, ◌%◌, ◌^◌, ◌==◌, ◌||◌, Bool, true, false, if◌then◌else◌, List, [], ◌∷◌}
-use Rattle.std.specs.Prelude.{◌++◌, length, take, replicate, flat_map, codes, Result, Ok, Err}
+use Rattle.std.specs.Prelude.{◌++◌, length, take, replicate, flat_map, codes, Result, Ok, Err, Option, Some, None}
 use Rattle.std.specs.Fmt.{decimal, digits}
 use Rattle.std.specs.List.{suffix_len}
 use Rattle.words36.specs.Words.{left, right, ppn_text}
@@ -8,11 +8,12 @@ use Rattle.words36.specs.Sixbit.{characters}
 use Rattle.words36.specs.Ascii.{unpacked}
 use Rattle.words36.specs.declared.names.FileName.{FileName}
 use Rattle.words36.specs.Blocks.{word_bytes}
+use Rattle.words36.specs.Octets.{octets_unpacked}
 use Rattle.meaning.specs.Maps.{total}
 use Rattle.meaning.specs.Lines.{feed}
 use Rattle.meaning.specs.declared.entry.Entry.{Entry}
 use Rattle.meaning.specs.declared.encoding.Encoding.{Encoding}
-use Rattle.meaning.specs.declared.encoding.Encoding.TheVariants.{Characters, Words}
+use Rattle.meaning.specs.declared.encoding.Encoding.TheVariants.{Characters, Words, Octets}
 use Rattle.meaning.specs.declared.style.Style.{Style}
 use Rattle.meaning.specs.declared.style.Style.TheVariants.{Columns, Table}
 use Rattle.meaning.specs.declared.call.Reply.{Reply}
@@ -96,10 +97,17 @@ not_null c = if c == 0 then [] else c ∷ []
 abbrev pub typed : List ℕ → List ℕ
 typed words = flat_map not_null (unpacked words)
 
--- the bytes that words are printed as: characters, or eight bytes for each word, the most significant first
-abbrev pub printed : Encoding → List ℕ → List ℕ
-printed Characters words = typed words
-printed Words words = flat_map word_bytes words
+-- the bytes of words, if there are some, or that there are none
+abbrev pub octets_said : Option (List ℕ) → Spoken
+octets_said (Some bytes) = prints bytes
+octets_said None = complains (codes "?Not bytes")
+
+-- what is said of a file of words: its characters; eight bytes for each word, the most significant first; or its bytes
+-- of eight bits
+abbrev pub file_said : Encoding → List ℕ → Spoken
+file_said Characters words = prints (typed words)
+file_said Words words = prints (flat_map word_bytes words)
+file_said Octets words = octets_said (octets_unpacked words)
 
 -- The list of a directory.
 

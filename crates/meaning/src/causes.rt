@@ -1,9 +1,10 @@
 ghost use Rattle.std.specs.Prelude.{◌≡◌, ◌⊎◌, ℕ, List, Some};
 ghost use Rattle.words36.specs.declared.moment.Moment.{Moment};
 ghost use Rattle.meaning.specs.Causes.{GoesUntilRefused, SaysOk, PrintsAtEnd, EndsSo, SaysSo, IsRefusedAt};
+ghost use Rattle.meaning.specs.Causes.{TellingsHaveCauses};
 ghost use Rattle.meaning.specs.Errands.{gets, keeps};
 ghost use Rattle.meaning.specs.Plans.{Act, Conducts, begins, ok, reads_file};
-ghost use Rattle.meaning.specs.Texts.{Spoken, prints, printed};
+ghost use Rattle.meaning.specs.Texts.{Spoken, file_said};
 ghost use Rattle.meaning.specs.declared.command.Command.{Command};
 ghost use Rattle.meaning.specs.declared.command.Spec.{Spec};
 ghost use Rattle.meaning.specs.declared.encoding.Encoding.{Encoding};
@@ -21,17 +22,19 @@ pub fn plans_go_on()
         → GoesUntilRefused moment (PrintsAtEnd moment encoding) (gets moment me encoding spec) }
 {}
 
-/// A line is refused only at a reply that it did not want, and prints the text of the first one.
+/// A line is refused only at a reply that it did not want, and prints the text of the first one. A file that was read
+/// is refused only if its bytes were asked for, and no bytes have its words.
 pub fn refusals_have_causes()
     ensures lines { (moment : Moment) (me : ℕ) (command : Command) (acts : List Act) (said : Spoken)
         → Conducts (begins moment me command) acts said → SaysSo me command said ⊎ IsRefusedAt moment acts said }
     ensures reads { (moment : Moment) (encoding : Encoding) (spec : Spec) (acts : List Act) (said : Spoken)
         → Conducts (reads_file moment encoding spec) acts said
-        → ((words : List ℕ) × (said ≡ prints (printed encoding words))) ⊎ IsRefusedAt moment acts said }
+        → ((words : List ℕ) × (said ≡ file_said encoding words)) ⊎ IsRefusedAt moment acts said }
     ensures puts { (moment : Moment) (me : ℕ) (encoding : Encoding) (spec : Spec) (words : List ℕ) (acts : List Act)
         (said : Spoken) → Conducts (keeps moment me encoding spec (Some words)) acts said
         → (said ≡ ok) ⊎ IsRefusedAt moment acts said }
     ensures gets { (moment : Moment) (me : ℕ) (encoding : Encoding) (spec : Spec) (acts : List Act) (said : Spoken)
         → Conducts (gets moment me encoding spec) acts said
-        → ((words : List ℕ) × (said ≡ prints (printed encoding words))) ⊎ IsRefusedAt moment acts said }
+        → ((words : List ℕ) × (said ≡ file_said encoding words)) ⊎ IsRefusedAt moment acts said }
+    ensures tells { TellingsHaveCauses }
 {}

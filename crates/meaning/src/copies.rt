@@ -1,4 +1,5 @@
 ghost use Rattle.meaning.specs.Copies.{CopiesAreExact, ReadsAreExact, PutsAreExact, GetsAreExact, BodiesStayShort};
+ghost use Rattle.meaning.specs.Copies.{OctetsAreTold, NoOctetsAreTold};
 ghost use Rattle.meaning.specs.Copies.{LoginsMakeReady, ReadyStays};
 
 /// COPY prints OK where the new file has the words of the version that was found, with the protection, the mode and the
@@ -8,9 +9,12 @@ pub fn copies_are_exact()
 {}
 
 /// A file that is read whole is printed as the words of the version that was found, or the line is refused. TYPE prints
-/// their characters without nulls. The files stay.
+/// their characters without nulls. The files stay. As bytes of eight bits those are printed whose words these are; if
+/// no bytes have these words, the line is refused.
 pub fn reads_are_exact()
-    ensures { ReadsAreExact }
+    ensures reads { ReadsAreExact }
+    ensures bytes { OctetsAreTold }
+    ensures no_bytes { NoOctetsAreTold }
 {}
 
 /// A file that is put has the words that were read, or it is refused and the files are those from before; one that is

@@ -5,4 +5,7 @@ pub enum Encoding {
     Characters,
     /// Words: eight bytes make one, the most significant first.
     Words,
+    /// Bytes of eight bits: four make a word, whose low four bits are 0. In the last word they tell how many of its
+    /// bytes count.
+    Octets,
 }

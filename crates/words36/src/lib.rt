@@ -8,6 +8,7 @@ mod error;
 mod moment;
 mod names;
 mod nines;
+mod octets;
 mod sixbit;
 mod word;
 
@@ -18,5 +19,6 @@ pub use error::WordError;
 pub use moment::Moment;
 pub use names::{FileName, Ppn};
 pub use nines::{PACKED_BYTES, block_from_nine, block_to_nine};
+pub use octets::{OctetReader, octets_are_exact, pack_octets, unpack_octets};
 pub use sixbit::{sixbit_of, text_of};
 pub use word::{BLOCK_WORDS, Block, Half, Word};

@@ -1,20 +1,12 @@
-use Rattle.std.proofs.Common.{refl}
 use Rattle.commands.proofs.TypingLaws.{typed_out, typed_refused}
 use Rattle.commands.proofs.typing.read_out.Goals as goal
 
 pub returns-in-Ok : goal.returns-in-Ok
 returns-in-Ok g c =
-    typed_out g.S.FileService.machine (λ bytes. bytes.items) _ _ _ _ c.args.moment c.args.encoding c.args.spec
-    c.args.tally.now c.args.tally.now c.type_file-read.result c.new-typed.result c.type_file-read.new.typed
-    c.type_file-read.ensures c.reset.ensures
-    c.in-Ok.field-0 c.in-Ok.is refl refl refl c.new-typed.ensures (λ words told. told.1 c.if-typed.true)
-
-pub returns-in-Ok-2 : goal.returns-in-Ok-2
-returns-in-Ok-2 g c =
-    typed_out g.S.FileService.machine (λ bytes. bytes.items) _ _ _ _ c.args.moment c.args.encoding c.args.spec
-    c.args.tally.now c.args.tally.now c.type_file-read.result c.new-typed.result c.type_file-read.new.typed
-    c.type_file-read.ensures c.reset.ensures
-    c.in-Ok.field-0 c.in-Ok.is refl refl refl c.new-typed.ensures (λ words told. tt)
+    typed_out g.S.FileService.machine (λ bytes. bytes.items) c.tell.result _ _ _ c.args.moment c.args.encoding
+    c.args.spec c.args.tally.now c.tell.new.tally c.type_file-read.result c.new-typed.result
+    c.type_file-read.new.typed c.type_file-read.ensures c.reset.ensures
+    c.in-Ok.field-0 c.in-Ok.is c.new-typed.ensures (c.tell.ensures c.args.encoding)
 
 pub returns-in-Err : goal.returns-in-Err
 returns-in-Err g c =

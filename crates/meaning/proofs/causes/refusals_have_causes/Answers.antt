@@ -1,4 +1,5 @@
 use Rattle.meaning.proofs.CauseLaws.{line_refusals, read_refusals, put_refusals, get_refusals}
+use Rattle.meaning.proofs.ToldLaws.{tellings_have_causes}
 use Rattle.meaning.proofs.causes.refusals_have_causes.Goals as goal
 
 pub returns-clause-lines : goal.returns-clause-lines
@@ -12,3 +13,6 @@ returns-clause-puts c = put_refusals
 
 pub returns-clause-gets : goal.returns-clause-gets
 returns-clause-gets c = get_refusals
+
+pub returns-clause-tells : goal.returns-clause-tells
+returns-clause-tells c = tellings_have_causes
