@@ -205,16 +205,16 @@ def row(tries):
 
 def deletes(tries):
     """A file is deleted, and deleted once more; a new one has the room again."""
-    tries.write("E.IMG", image_of())
+    tries.write("DEL.IMG", image_of())
     for output, status in [(b"OK\n", 0), (b"?File not found\n", 1)]:
-        tries.expect(["delete", "E.IMG", "[10,20]", "foo.txt"], b"", [output], status)
-    tries.expect(["check", "E.IMG"], b"", [b"Volume of 64 blocks, room 47\n"], 0)
-    tries.expect(["get", "E.IMG", "10,20", "FOO.TXT"], b"", [b"?File not found\n"], 1)
-    tries.expect(["delete", "E.IMG", "10,20", "FOO.TXT", "--date", "1"], b"", [b""], 2)
-    tries.expect(["put", "E.IMG", "10,20", "FOO.TXT"], HELLO, [b"OK\n"], 0)
-    tries.expect(["run", "E.IMG"], b"LOGIN [10,20]\nPROTECT FOO.TXT<277>\n", [b"Job 1 [10,20]\nOK\n"], 0)
-    tries.expect(["delete", "E.IMG", "10,20", "FOO.TXT"], b"", [b"?Protection failure\n"], 1)
-    tries.expect(["get", "E.IMG", "10,20", "FOO.TXT"], b"", [HELLO], 0)
+        tries.expect(["delete", "DEL.IMG", "[10,20]", "foo.txt"], b"", [output], status)
+    tries.expect(["check", "DEL.IMG"], b"", [b"Volume of 64 blocks, room 47\n"], 0)
+    tries.expect(["get", "DEL.IMG", "10,20", "FOO.TXT"], b"", [b"?File not found\n"], 1)
+    tries.expect(["delete", "DEL.IMG", "10,20", "FOO.TXT", "--date", "1"], b"", [b""], 2)
+    tries.expect(["put", "DEL.IMG", "10,20", "FOO.TXT"], HELLO, [b"OK\n"], 0)
+    tries.expect(["run", "DEL.IMG"], b"LOGIN [10,20]\nPROTECT FOO.TXT<277>\n", [b"Job 1 [10,20]\nOK\n"], 0)
+    tries.expect(["delete", "DEL.IMG", "10,20", "FOO.TXT"], b"", [b"?Protection failure\n"], 1)
+    tries.expect(["get", "DEL.IMG", "10,20", "FOO.TXT"], b"", [HELLO], 0)
 
 
 def lists(tries):

@@ -59,33 +59,6 @@ fn word_of(group: &[u8]) -> Word
     requires ascii { All (λ c. c ≤ 127) group.now }
     ensures { ascii_word_of group.now ≡ result }
 {
-    match *group {
-        [a, b, c, d, e] => word_of_five([a, b, c, d, e]),
-        _ => word_of_few(group),
-    }
-}
-
-/// The word of five characters, all at once.
-fn word_of_five(group: [u8; 5]) -> Word
-    requires { All (λ c. c ≤ 127) group }
-    ensures { ascii_word_of group ≡ result }
-{
-    let [a, b, c, d, e] = group;
-    Word::from_bits(
-        u64::from(a) * 0x2000_0000
-            + u64::from(b) * 0x40_0000
-            + u64::from(c) * 0x8000
-            + u64::from(d) * 0x100
-            + u64::from(e) * 2,
-    )
-}
-
-/// The word of up to five characters, one after the other.
-fn word_of_few(group: &[u8]) -> Word
-    requires short { length group.now ≤ 5 }
-    requires ascii { All (λ c. c ≤ 127) group.now }
-    ensures { ascii_word_of group.now ≡ result }
-{
     let mut bits = 0;
     for place in 0..5 {
         let character = group.get(place).copied().unwrap_or(0);

@@ -1,7 +1,7 @@
 use Rattle.std.proofs.Common.{arith, rules, ◌≡◌, get_or, slice_index}
 use Rattle.words36.proofs.Digits.{leading-none, leading-more, leading_5}
 use Rattle.words36.proofs.AsciiLaws.{front-lt, character-lt, put_character}
-use Rattle.words36.proofs.ascii.word_of_few.Goals as goal
+use Rattle.words36.proofs.ascii.word_of.Goals as goal
 
 pub loop-place-init : goal.loop-place-init
 loop-place-init c = omega (arith, leading-none (slice_index c.args.group.now) 128)
