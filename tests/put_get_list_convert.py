@@ -352,8 +352,9 @@ def octets(tries):
     told = b"?Bad argument\nfilser: --words and --bytes exclude each other\n"
     for command in ["put", "get"]:
         tries.expect([command, "--words", "--bytes", *file], b"", [b""], 2, told)
-    tries.expect(["put", "--bytes", *file], bytes(2048 * 512), [b"?No room\n"], 1)
     tries.same("O.IMG", before)
+    tries.expect(["put", "--bytes", *file], bytes(2048 * 512), [b"?No room\n"], 1)
+    tries.expect(["get", "--words", *file], b"", [data], 0)
 
 
 def converts(tries):
