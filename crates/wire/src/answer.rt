@@ -72,11 +72,7 @@ fn answer_header(answer: &Answer, count: u32) -> Header
 /// # Errors
 ///
 /// `AllocError` if they find no room, or are more than a record can count. A beginning of them may be appended then.
-pub fn push_answer(
-    bytes: &mut Vec<u8>,
-    answer: &Answer,
-    groups: &[u64],
-) -> Result<(), AllocError>
+pub fn push_answer(bytes: &mut Vec<u8>, answer: &Answer, groups: &[u64]) -> Result<(), AllocError>
     ensures ok { OnOk result (bytes.new.items ≡ bytes.old.items
         ++ record_bytes (answer_record answer.now (length groups.now)) ++ block_bytes groups.now) }
     // With room for all of them it doesn't fail.
