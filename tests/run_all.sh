@@ -16,6 +16,7 @@ cd "$(dirname "$0")"
 ./example_emulators.sh "$program"
 ./streams_and_locks.sh "$program"
 ./put_get_list_convert.py "$program"
+./collections.py "$program"
 ./clients.py "$program"
 ./hostile_inputs.py "$program" 2000
 ./hostile_starts.py "$program"

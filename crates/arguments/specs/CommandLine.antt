@@ -3,10 +3,17 @@ use Rattle.std.specs.Prelude.{ℕ, [], ◌∷◌, Some, true, pos, codes}
 use Rattle.clap.specs.Words.{App, Rule, Text, new_app, new_rule, with_rule, with_subcommand}
 use Rattle.clap.specs.declared.builder.value_parser.ValueParser.TheVariants as vp
 use Rattle.clap.specs.declared.builder.action.ArgAction.TheVariants.{SetTrue}
+use Rattle.clap.specs.Lexer.{usize_max}
 
 -- a text that has to be given
 abbrev pub wanted : Text → Rule
 wanted id = record (new_rule id) { required = true }
+
+-- one text or more that have to be given
+abbrev pub several : Text → Rule
+several id = record (wanted id) {
+  range = Some (record { start_inclusive = 1; end_inclusive = usize_max });
+}
 
 -- a number that has to be given, in a range
 abbrev pub numbered : Text → ℕ → ℕ → Rule
@@ -89,13 +96,38 @@ unfoldable pub filed : App → App
 filed app = with_rule (with_rule (located app) (flag (codes "words"))) (flag (codes "bytes"))
 
 unfoldable pub put_app : App
-put_app = formed (dated (filed (new_app (codes "put"))))
+put_app = formed (dated (with_rule (filed (new_app (codes "put"))) (flag (codes "new"))))
 
 unfoldable pub get_app : App
 get_app = formed (dated (filed (new_app (codes "get"))))
 
 unfoldable pub delete_app : App
 delete_app = formed (located (new_app (codes "delete")))
+
+-- with flags that say what the bytes of files are
+unfoldable pub encoded : App → App
+encoded app =
+    with_rule (with_rule (with_rule app (flag (codes "text"))) (flag (codes "bytes"))) (flag (codes "words"))
+
+-- files of the host that go to a directory
+unfoldable pub gathered : App → App
+gathered app =
+    with_rule (with_rule (with_rule app (wanted (codes "IMAGE"))) (wanted (codes "PPN"))) (several (codes "FILE"))
+
+-- with what their names and their dates come from
+unfoldable pub adapted : App → App
+adapted app = with_rule (with_rule app (flag (codes "shorten"))) (flag (codes "dates"))
+
+unfoldable pub import_app : App
+import_app = formed (dated (adapted (encoded (gathered (new_app (codes "import"))))))
+
+-- a folder of the host that files of an image go to
+unfoldable pub scattered : App → App
+scattered app = with_rule (with_rule app (wanted (codes "IMAGE"))) (wanted (codes "FOLDER"))
+
+unfoldable pub export_app : App
+export_app = formed (with_rule (encoded (with_rule (scattered (new_app (codes "export"))) (new_rule (codes "PPN"))))
+    (flag (codes "list")))
 
 unfoldable pub list_app : App
 list_app = formed (with_rule (with_rule (with_rule (new_app (codes "list")) (wanted (codes "IMAGE")))
@@ -110,8 +142,8 @@ convert_app = formed (with_rule (with_rule (new_app (codes "convert")) (wanted (
 unfoldable pub migrate_app : App
 migrate_app = formed (with_rule (new_app (codes "migrate")) (wanted (codes "IMAGE")))
 
--- the subcommands: the one that makes an image, those that serve an input on it, that are for one file, that look, and
--- those that convert and migrate
+-- the subcommands: the one that makes an image, those that serve an input on it, that are for one file, that take files
+-- from the host and to it, that look, and those that convert and migrate
 unfoldable pub making : App → App
 making app = with_subcommand app init_app.top
 
@@ -120,6 +152,9 @@ serving app = with_subcommand (with_subcommand (with_subcommand app run_app.top)
 
 unfoldable pub filing : App → App
 filing app = with_subcommand (with_subcommand (with_subcommand app put_app.top) get_app.top) delete_app.top
+
+unfoldable pub moving : App → App
+moving app = with_subcommand (with_subcommand app import_app.top) export_app.top
 
 unfoldable pub looking : App → App
 looking app = with_subcommand (with_subcommand app list_app.top) check_app.top
@@ -133,4 +168,4 @@ versioned name = record (new_app name) { top = record (new_app name).top { has_v
 
 -- the whole of it
 unfoldable pub command_line : App
-command_line = converting (looking (filing (serving (making (versioned (codes "filser"))))))
+command_line = converting (looking (moving (filing (serving (making (versioned (codes "filser")))))))

@@ -2,8 +2,9 @@
 ghost use Rattle.std.specs.Prelude.{◌≡◌, IfOk, Some, codes, false};
 ghost use Rattle.clap.specs.Words.{app_of, new_rule, rule_of, with_rule};
 ghost use Rattle.clap.specs.declared.builder.command.Command.TheViews.{out-Command as fields_of};
-ghost use Rattle.arguments.specs.CommandLine.{date_rule, dated, filed, flag, form_rule, formed, laid_out, located};
-ghost use Rattle.arguments.specs.CommandLine.{layout_rule, numbered, optional, sized, wanted};
+ghost use Rattle.arguments.specs.CommandLine.{adapted, date_rule, dated, encoded, filed, flag, form_rule, formed};
+ghost use Rattle.arguments.specs.CommandLine.{gathered, laid_out, layout_rule, located, numbered, optional, scattered};
+ghost use Rattle.arguments.specs.CommandLine.{several, sized, wanted};
 
 use clap::{Arg, ArgAction, Command};
 use std::alloc::{AllocError, Global};
@@ -188,6 +189,120 @@ pub(crate) fn filed<'a>(alloc: Global, command: Command<'a>) -> Result<Command<'
 {
     let command = with_argument(located(alloc, command)?, words(alloc))?;
     with_argument(command, octets(alloc))
+}
+
+/// The flag that bytes are characters.
+fn characters<'a>(alloc: Global) -> Arg<'a>
+    ensures rule { rule_of result ≡ flag (codes "text") }
+    ensures local { result.global ≡ false }
+{
+    Arg::new(alloc, "text")
+        .long("text")
+        .action(ArgAction::SetTrue)
+        .help("Read or write text: characters 1 to 127, five to a word")
+}
+
+/// A command with the flags that say what the bytes of files are.
+#[tactic(auto, unfolding(crate::specs::CommandLine::encoded))]
+pub(crate) fn encoded<'a>(alloc: Global, command: Command<'a>) -> Result<Command<'a>, AllocError>
+    ensures app { IfOk result (λ c. app_of c ≡ encoded (app_of command.entry)) }
+    ensures local { IfOk result (λ c. (fields_of c).has_globals ≡ (fields_of command.entry).has_globals) }
+{
+    let command = with_argument(command, characters(alloc))?;
+    let command = with_argument(command, octets(alloc))?;
+    with_argument(command, words(alloc))
+}
+
+/// The files of the host, one or more.
+fn files<'a>(alloc: Global) -> Arg<'a>
+    ensures rule { rule_of result ≡ several (codes "FILE") }
+    ensures local { result.global ≡ false }
+{
+    Arg::new(alloc, "FILE")
+        .required(true)
+        .num_args(1usize..)
+        .help("The files of the host")
+}
+
+/// A command on files of the host that go to a directory.
+#[tactic(auto, unfolding(crate::specs::CommandLine::gathered))]
+pub(crate) fn gathered<'a>(alloc: Global, command: Command<'a>) -> Result<Command<'a>, AllocError>
+    ensures app { IfOk result (λ c. app_of c ≡ gathered (app_of command.entry)) }
+    ensures local { IfOk result (λ c. (fields_of c).has_globals ≡ (fields_of command.entry).has_globals) }
+{
+    let command = with_argument(command, wanted(alloc, "IMAGE", "The image file"))?;
+    let owner = wanted(alloc, "PPN", "The directory, in octal, as 10,20 or [10,20]");
+    let command = with_argument(command, owner)?;
+    with_argument(command, files(alloc))
+}
+
+/// The flag that names may be cut.
+fn shorten<'a>(alloc: Global) -> Arg<'a>
+    ensures rule { rule_of result ≡ flag (codes "shorten") }
+    ensures local { result.global ≡ false }
+{
+    Arg::new(alloc, "shorten")
+        .long("shorten")
+        .action(ArgAction::SetTrue)
+        .help("Cut a name to six letters or digits, and an extension to three")
+}
+
+/// The flag that each file keeps its date.
+fn dates<'a>(alloc: Global) -> Arg<'a>
+    ensures rule { rule_of result ≡ flag (codes "dates") }
+    ensures local { result.global ≡ false }
+{
+    Arg::new(alloc, "dates")
+        .long("dates")
+        .action(ArgAction::SetTrue)
+        .help("Give each file the date and time (UTC) of its last change")
+}
+
+/// A command with the flags on the names and the dates of files of the host.
+#[tactic(auto, unfolding(crate::specs::CommandLine::adapted))]
+pub(crate) fn adapted<'a>(alloc: Global, command: Command<'a>) -> Result<Command<'a>, AllocError>
+    ensures app { IfOk result (λ c. app_of c ≡ adapted (app_of command.entry)) }
+    ensures local { IfOk result (λ c. (fields_of c).has_globals ≡ (fields_of command.entry).has_globals) }
+{
+    let command = with_argument(command, shorten(alloc))?;
+    with_argument(command, dates(alloc))
+}
+
+/// A command that writes files of an image to a folder of the host.
+#[tactic(auto, unfolding(crate::specs::CommandLine::scattered))]
+pub(crate) fn scattered<'a>(alloc: Global, command: Command<'a>) -> Result<Command<'a>, AllocError>
+    ensures app { IfOk result (λ c. app_of c ≡ scattered (app_of command.entry)) }
+    ensures local { IfOk result (λ c. (fields_of c).has_globals ≡ (fields_of command.entry).has_globals) }
+{
+    let command = with_argument(command, wanted(alloc, "IMAGE", "The image file"))?;
+    let folder = wanted(
+        alloc,
+        "FOLDER",
+        "The folder of the host, for FOLDER/10,20/FOO.TXT",
+    );
+    with_argument(command, folder)
+}
+
+/// The flag that files are only listed.
+pub(crate) fn listed<'a>(alloc: Global) -> Arg<'a>
+    ensures rule { rule_of result ≡ flag (codes "list") }
+    ensures local { result.global ≡ false }
+{
+    Arg::new(alloc, "list")
+        .long("list")
+        .action(ArgAction::SetTrue)
+        .help("Print what would be done, and write nothing")
+}
+
+/// The flag that a file that is there stays.
+pub(crate) fn fresh<'a>(alloc: Global) -> Arg<'a>
+    ensures rule { rule_of result ≡ flag (codes "new") }
+    ensures local { result.global ≡ false }
+{
+    Arg::new(alloc, "new")
+        .long("new")
+        .action(ArgAction::SetTrue)
+        .help("Refuse if a file has that name, and replace nothing")
 }
 
 /// The flag that lists are tables.

@@ -1,14 +1,16 @@
 //! The command line as a value of `clap`'s. A subcommand is a function here, and a line of
-//! `with_making`, `with_serving`, `with_filing`, `with_looking` or `with_converting`.
+//! `with_making`, `with_serving`, `with_filing`, `with_moving`, `with_looking` or `with_converting`.
 ghost use Rattle.std.specs.Prelude.{◌≡◌, IfOk, codes, false};
 ghost use Rattle.clap.specs.Words.{app_of, with_subcommand};
 ghost use Rattle.clap.specs.declared.builder.command.Command.TheViews.{out-Command as fields_of};
 ghost use Rattle.arguments.specs.CommandLine.{calls_app, check_app, command_line, convert_app, converting};
-ghost use Rattle.arguments.specs.CommandLine.{delete_app, filing, get_app, init_app, list_app, looking, making, migrate_app};
-ghost use Rattle.arguments.specs.CommandLine.{put_app, run_app, serving, versioned, wire_app};
+ghost use Rattle.arguments.specs.CommandLine.{delete_app, export_app, filing, get_app, import_app, init_app, list_app};
+ghost use Rattle.arguments.specs.CommandLine.{looking, making, migrate_app, moving, put_app, run_app};
+ghost use Rattle.arguments.specs.CommandLine.{serving, versioned, wire_app};
 
 use crate::arguments::{
-    about, dated, filed, formed, laid_out, located, place, shown, sized, tsv, wanted, with_argument,
+    about, adapted, dated, encoded, filed, formed, fresh, gathered, laid_out, listed, located,
+    place, scattered, shown, sized, tsv, wanted, with_argument,
 };
 use clap::Command;
 use std::alloc::{AllocError, Global};
@@ -21,7 +23,7 @@ const NOTES: &str = "\
 Without a command, filser serves a session on a new volume of 64 blocks in
 memory, at date 0 and minute 0. The volume is gone at the end.
 
-Options of run, calls, put and get:
+Options of run, calls, put, get and import:
   --date DATE  date of the files that are written: a number from 0 to 32767,
                1975-01-04 or 4-Jan-1975 [default: 0]
   --minute N   minute of that day, 0 to 1439 [default: 0]
@@ -57,6 +59,22 @@ date, time, words and blocks. PPN, protection and mode are octal.
 Example:
   filser list DISK.IMG 10,20
   filser list --tsv DISK.IMG | cut -f 2,3,8";
+
+/// The text below the arguments of `import` in its help.
+const IMPORT_NOTES: &str = "\
+Without --text, --bytes or --words a file is text if all its bytes are
+characters (1 to 127), else bytes. A file gets its own name in upper case.
+
+Example:
+  filser import DISK.IMG 10,20 --dates foo.txt bar.mac";
+
+/// The text below the arguments of `export` in its help.
+const EXPORT_NOTES: &str = "\
+Without --text, --bytes or --words each file comes out so that import brings
+back its words.
+
+Example:
+  filser export DISK.IMG backup 10,20";
 
 /// A command with one more subcommand.
 fn with_one<'a>(command: Command<'a>, subcommand: Command<'a>) -> Result<Command<'a>, AllocError>
@@ -145,7 +163,7 @@ fn put_command<'a>(alloc: Global) -> Result<Command<'a>, AllocError>
         command,
         "Example:\n  filser put DISK.IMG 10,20 FOO.TXT < foo.txt",
     );
-    let command = filed(alloc, command)?;
+    let command = with_argument(filed(alloc, command)?, fresh(alloc))?;
     formed(alloc, dated(alloc, command)?)
 }
 
@@ -174,6 +192,34 @@ fn delete_command<'a>(alloc: Global) -> Result<Command<'a>, AllocError>
     let command = about(Command::new(alloc, "delete"), "Delete a file");
     let command = shown(command, "Example:\n  filser delete DISK.IMG 10,20 FOO.TXT");
     formed(alloc, located(alloc, command)?)
+}
+
+#[tactic(auto, unfolding(crate::specs::CommandLine::import_app))]
+fn import_command<'a>(alloc: Global) -> Result<Command<'a>, AllocError>
+    ensures app { IfOk result (λ c. app_of c ≡ import_app) }
+    ensures local { IfOk result (λ c. (fields_of c).has_globals ≡ false) }
+{
+    let command = about(
+        Command::new(alloc, "import"),
+        "Store files of the host, each one where no file has its name",
+    );
+    let command = gathered(alloc, shown(command, IMPORT_NOTES))?;
+    let command = adapted(alloc, encoded(alloc, command)?)?;
+    formed(alloc, dated(alloc, command)?)
+}
+
+#[tactic(auto, unfolding(crate::specs::CommandLine::export_app))]
+fn export_command<'a>(alloc: Global) -> Result<Command<'a>, AllocError>
+    ensures app { IfOk result (λ c. app_of c ≡ export_app) }
+    ensures local { IfOk result (λ c. (fields_of c).has_globals ≡ false) }
+{
+    let command = about(
+        Command::new(alloc, "export"),
+        "Write files to new files of the host",
+    );
+    let command = scattered(alloc, shown(command, EXPORT_NOTES))?;
+    let command = encoded(alloc, with_argument(command, place(alloc))?)?;
+    formed(alloc, with_argument(command, listed(alloc))?)
 }
 
 #[tactic(auto, unfolding(crate::specs::CommandLine::list_app))]
@@ -262,6 +308,15 @@ fn with_filing<'a>(alloc: Global, command: Command<'a>) -> Result<Command<'a>, A
     with_one(command, delete_command(alloc)?)
 }
 
+/// Adds those that take files from the host and to it.
+#[tactic(auto, unfolding(crate::specs::CommandLine::moving))]
+fn with_moving<'a>(alloc: Global, command: Command<'a>) -> Result<Command<'a>, AllocError>
+    ensures { IfOk result (λ c. app_of c ≡ moving (app_of command.entry)) }
+{
+    let command = with_one(command, import_command(alloc)?)?;
+    with_one(command, export_command(alloc)?)
+}
+
 /// Adds those that change no file.
 #[tactic(auto, unfolding(crate::specs::CommandLine::looking))]
 fn with_looking<'a>(alloc: Global, command: Command<'a>) -> Result<Command<'a>, AllocError>
@@ -305,6 +360,7 @@ pub fn command_line<'a>(alloc: Global) -> Result<Command<'a>, AllocError>
     let command = with_making(alloc, program(alloc))?;
     let command = with_serving(alloc, command)?;
     let command = with_filing(alloc, command)?;
+    let command = with_moving(alloc, command)?;
     let command = with_looking(alloc, command)?;
     with_converting(alloc, command)
 }

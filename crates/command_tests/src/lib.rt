@@ -17,4 +17,6 @@ mod service;
 #[cfg(test)]
 mod stream_tests;
 #[cfg(test)]
+mod transfer_tests;
+#[cfg(test)]
 mod wire_tests;

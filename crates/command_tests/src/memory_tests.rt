@@ -1,8 +1,10 @@
 use crate::service::{Language, drop_monitor, serve, started};
-use commands::SessionError;
+use blockdisk::MemDisk;
+use commands::{Encoding, Export, Exported, Import, Monitor, SessionError, export, import};
 use std::alloc::Global;
 use std::process::Abort;
 use std::test::Fail;
+use words36::{FileName, Half, Moment, Ppn, Word};
 
 /// Run with each allocation refused in turn: a line whose calls find no memory says so, and a text that finds none ends
 /// the session behind the texts of whole lines.
@@ -46,4 +48,82 @@ fn each_allocation_of_a_script_refused(rt: HostRuntime) -> Result<(), Fail> {
     let lines = b"1 LOGIN 10,20 1000\n1 EXA 121\n1 RESET\n";
     let text = b"DONE\nVALUE 000000000140\nDONE\n";
     expect_ended(&rt, rt.alloc(), Language::Script, lines, text)
+}
+
+/// BAR in [10,20].
+fn bar() -> FileName {
+    FileName {
+        name: Word::from_bits(0o424162000000),
+        ext: Half::from_bits(0),
+    }
+}
+
+/// FOO.TXT, which is there.
+fn foo() -> FileName {
+    FileName {
+        name: Word::from_bits(0o465757000000),
+        ext: Half::from_bits(0o647064),
+    }
+}
+
+/// BAR is made of bytes. If memory was refused, that is said, or nothing is written.
+fn expect_imported(rt: &impl Abort, alloc: Global, monitor: &mut Monitor<MemDisk>) {
+    let file = Import {
+        owner: Ppn::new(0o10, 0o20).unwrap(),
+        name: bar(),
+        encoding: Encoding::Characters,
+        moment: Moment::new(0, 0).unwrap(),
+        label: b"BAR ",
+        bytes: b"SOME TEXT",
+    };
+    let mut writer = Vec::new(alloc);
+    match import(alloc, &mut writer, monitor, &file) {
+        Ok(tally) => {
+            let wanted: &[u8] = if tally.refused {
+                b"BAR ?No memory\n"
+            } else {
+                b"BAR OK\n"
+            };
+            assert!(rt; writer.as_slice() == wanted, "{writer:?}");
+        }
+        Err(error) => {
+            assert!(rt; writer.is_empty());
+            assert!(rt; error != SessionError::Read);
+        }
+    }
+}
+
+/// FOO.TXT is taken out whole. If memory was refused, there are no bytes.
+fn expect_exported(rt: &impl Abort, alloc: Global, monitor: &mut Monitor<MemDisk>) {
+    let file = Export {
+        owner: Ppn::new(0o10, 0o20).unwrap(),
+        name: foo(),
+        mode: 0o17,
+        moment: Moment::new(0, 0).unwrap(),
+        encoding: None,
+    };
+    if let Ok(Exported::File(encoding, bytes)) = export(alloc, monitor, &file) {
+        assert_eq!(rt; encoding, Encoding::Characters);
+        assert!(rt; bytes.as_slice() == b"HELLO\r\n".as_slice(), "{bytes:?}");
+    }
+}
+
+#[test]
+fn each_allocation_of_an_import_refused(rt: HostRuntime) -> Result<(), Fail> {
+    let Ok(Some(mut monitor)) = started(&rt, rt.alloc(), 64) else {
+        return Ok(());
+    };
+    expect_imported(&rt, rt.alloc(), &mut monitor);
+    drop_monitor(monitor);
+    Ok(())
+}
+
+#[test]
+fn each_allocation_of_an_export_refused(rt: HostRuntime) -> Result<(), Fail> {
+    let Ok(Some(mut monitor)) = started(&rt, rt.alloc(), 64) else {
+        return Ok(());
+    };
+    expect_exported(&rt, rt.alloc(), &mut monitor);
+    drop_monitor(monitor);
+    Ok(())
 }

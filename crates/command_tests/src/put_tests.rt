@@ -1,6 +1,6 @@
 use crate::service::{image, start};
 use blockdisk::{Disk, MemDisk, NoMemory};
-use commands::{Encoding, Monitor, get, put};
+use commands::{Encoding, Existing, Monitor, Put, get, put};
 use std::alloc::Global;
 use std::process::Abort;
 use std::test::Fail;
@@ -33,18 +33,15 @@ fn put_foo(
 ) {
     let moment = Moment::new(0, 0).unwrap();
     let owner = Ppn::new(0o10, 0o20).unwrap();
+    let file = Put {
+        owner,
+        name: foo(),
+        encoding: Encoding::Characters,
+        existing: Existing::Replace,
+    };
     let mut reader = text;
     let mut writer = Vec::new(alloc);
-    let _ = put(
-        alloc,
-        &mut reader,
-        &mut writer,
-        monitor,
-        moment,
-        owner,
-        Encoding::Characters,
-        foo(),
-    );
+    let _ = put(alloc, &mut reader, &mut writer, monitor, moment, &file);
     assert!(rt; writer.as_slice() == printed, "{writer:?}");
 }
 

@@ -35,7 +35,7 @@ each_append moment (event ∷ events) more next = ap (λ (p : Plan). Ask event (
     (each_append moment events more next)
 
 -- what comes behind a reply that is not Done, and behind one that is no word
-if_other : (moment : Moment) (next : Plan) (reply : Reply) → reply ≢ Done
+pub if_other : (moment : Moment) (next : Plan) (reply : Reply) → reply ≢ Done
     → if_done moment next reply ≡ fails moment reply
 if_other moment next Done h = absurd (h refl)
 if_other moment next (Value word) h = refl

@@ -37,3 +37,8 @@ pub mod DayLaws
 pub mod RefusalLaws
 pub mod DayRows
 pub mod ServedMonitors
+pub mod WordBytes
+pub mod ImportLaws
+pub mod ExportLaws
+pub mod AbsentLaws
+pub mod NewRuns

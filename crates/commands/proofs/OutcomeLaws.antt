@@ -21,11 +21,16 @@ use Rattle.meaning.proofs.CauseLaws.{put_refusals, get_refusals}
 use Rattle.meaning.proofs.ErrandRuns.{puts_are_exact, gets_are_exact}
 use Rattle.meaning.proofs.ToldLaws.{no_reply}
 use Rattle.commands.specs.Machines.{Machine}
-use Rattle.commands.specs.Outcomes.{IsStored, DeliveriesKeepFiles, ErrandsShowFiles}
+use Rattle.commands.specs.Errands.{keeps_new, no_room}
+use Rattle.commands.specs.Importing.{said_behind}
+use Rattle.commands.specs.Outcomes.{IsStored, IsStoredNew, DeliveriesKeepFiles, DeliveriesMakeFiles, ErrandsShowFiles}
+use Rattle.commands.specs.Outcomes.{ImportsMakeFiles}
 use Rattle.commands.specs.Reasons.{BeginsNoFile}
 use Rattle.commands.specs.Streams.{spoken}
 use Rattle.commands.proofs.GoingLaws.{acts_went}
+use Rattle.commands.proofs.ImportLaws.{unlabelled}
 use Rattle.commands.proofs.InputLaws.{no_file, not_both}
+use Rattle.commands.proofs.NewRuns.{new_puts_are_exact}
 
 -- nothing is asked where the input is no file's
 complained : (pack : Pack) (s : State) (acts : List Act) (text : List ℕ) (said : Spoken) (last : Service)
@@ -71,6 +76,20 @@ delivered pack s moment me encoding spec at_end read (Some words) acts said last
     ))
     (puts_are_exact pack moment me s encoding spec words said last there few (acts, led, went))
 
+-- the same of a file that is put only if its name is free
+delivered_new : (pack : Pack) (s : State) (moment : Moment) (me : ℕ) (encoding : Encoding) (spec : Spec)
+    (at_end : Type 0) (read : List ℕ) (words : Option (List ℕ)) (acts : List Act) (said : Spoken) (last : Service)
+    → 1 < length s.jobs → HasHalfwordExtension spec → at_end ⊎ BeginsNoFile encoding read
+    → AreWords encoding read words → Conducts (keeps_new moment me encoding spec words) acts said
+    → Went pack (Serving s) acts last → IsStoredNew moment me s encoding spec at_end read said last
+delivered_new pack s moment me encoding spec at_end read None acts said last there few ended are led went =
+    let c = complained pack s acts (unfit encoding) said last led went in
+    inr (c.0, c.1)
+delivered_new pack s moment me encoding spec at_end read (Some words) acts said last there few ended are led went =
+    ⊎_elim (λ put. inl (whole encoding read words are ended, words, are, put.0, put.1))
+    (λ refused. inr (says_refused s.files said last refused, refused.1))
+    (new_puts_are_exact pack moment me s encoding spec words said last there few (acts, led, went))
+
 -- the same of a file that is got
 got : (pack : Pack) (s : State) (moment : Moment) (me : ℕ) (encoding : Encoding) (spec : Spec) (acts : List Act)
     (said : Spoken) (last : Service) → 1 < length s.jobs → HasHalfwordExtension spec → AreShort s.files
@@ -101,6 +120,42 @@ module _ {S : Type 0} (machine : S → Machine) where
       inr (c.0, c.1, inr (inl (long.0, c.2))))
       (λ unread. absurd unread.0)) d.delivers in
       (d.read, d.written, d.consumed, d.appended, end.0, end.1, stored)
+
+  pub deliveries_make_files : DeliveriesMakeFiles machine
+  deliveries_make_files source left sink full old new moment me encoding spec tally d honest s serves there few =
+      let end = d.goes.went honest (Serving s) serves in
+      let went = acts_went machine (machine old).pack old (Serving s) d.acts new end.0 end.2 in
+      let stored : IsStoredNew moment me s encoding spec (IsAtEnd left) d.read (spoken d.written tally) end.0 =
+      ⊎_elim
+      (λ done. delivered_new (machine old).pack s moment me encoding spec (IsAtEnd left) d.read done.2 d.acts
+      (spoken d.written tally) end.0 there few done.0 done.3 done.4 went)
+      (⊎_elim
+      (λ long.
+      let c = complained (machine old).pack s d.acts (codes "?No room") (spoken d.written tally) end.0 long.1 went in
+      inr (c.0, c.1))
+      (λ unread. absurd unread.0)) d.delivers in
+      (d.read, d.written, d.consumed, d.appended, end.0, end.1, stored)
+
+  pub imports_make_files : ImportsMakeFiles machine
+  imports_make_files sink full old new moment me encoding spec label bytes tally p honest s serves there few =
+      let end = p.goes.went honest (Serving s) serves in
+      let went = acts_went machine (machine old).pack old (Serving s) p.acts new end.0 end.2 in
+      let told = spoken p.written tally in
+      let stored : (said : Spoken) × (told ≡ said_behind label said)
+      × IsStoredNew moment me s encoding spec (Unit {0}) bytes said end.0 =
+      ⊎_elim
+      (λ done. let inner = unlabelled label (keeps_new moment me encoding spec done.1) p.acts told done.3 in (
+        inner.0,
+        inner.2,
+        delivered_new (machine old).pack s moment me encoding spec (Unit {0}) bytes done.1 p.acts
+            inner.0 end.0 there few (inl tt) done.2 inner.1 went,
+      ))
+      (⊎_elim
+      (λ long. let inner = unlabelled label no_room p.acts told long.1 in
+      let c = complained (machine old).pack s p.acts (codes "?No room") inner.0 end.0 inner.1 went in
+      (inner.0, inner.2, inr (c.0, c.1)))
+      (λ unread. let wrong = unread.0 in cc)) p.imports in
+      (p.written, p.appended, stored.0, stored.1, end.0, end.1, stored.2)
 
   pub errands_show_files : ErrandsShowFiles machine
   errands_show_files sink full old new moment me encoding spec tally e honest s serves there few short =

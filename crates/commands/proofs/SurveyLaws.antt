@@ -72,6 +72,13 @@ module _ {S : Type 0} (machine : S → Machine) (style : Style) (owners : List �
       (ap (λ (l : List ℕ). shows_all style l (spoken bytes counted)) (drop_all i owners h)
       ∙ shows_last style (spoken bytes counted)) p
 
+-- who logs in may look into all directories
+pub entered_as : {S : Type 0} (machine : S → Machine) (a b : S) (moment : Moment) (who : ℕ) → who ≡ operator
+    → (next rest : Plan) → Led machine a b (each moment (enters who) next) rest
+    → Led machine a b (each moment (enters operator) next) rest
+entered_as machine a b moment who is next rest entered =
+    subst (λ (n : ℕ). Led machine a b (each moment (enters n) next) rest) is entered
+
 -- The job has logged in, or it is refused.
 module _ {V E S : Type 0} (machine : S → Machine) (bytes : V → List ℕ) (result : Result V E) (a b c : S)
     (moment : Moment) (style : Style) (owners : List ℕ) (tally counted : Tally) (who : ℕ) (is : who ≡ operator) where

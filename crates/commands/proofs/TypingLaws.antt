@@ -7,13 +7,12 @@ use Rattle.std.proofs.Common.{sym, ◌∙◌, ap, subst, append_assoc, append-ni
 use Rattle.std.proofs.lemmas.Grind.{flat_map-append}
 use Rattle.std.specs.Prelude.{flat_map}
 use Rattle.std.specs.Simd.{first_chunks}
-use Rattle.words36.specs.Ascii.{unpacked, five_characters}
 use Rattle.words36.specs.declared.moment.Moment.{Moment}
 use Rattle.meaning.specs.Plans.{Plan, Say, each, examines, fetches, sizes, finds, lists, takes, goes_to, ends, fails}
 use Rattle.meaning.specs.Plans.{file_words, block_address, blocks_said, types_blocks, types_last, types_body, until_end}
 use Rattle.meaning.specs.Plans.{reads_file, blocks_at_once, types_runs}
 use Rattle.words36.specs.Blocks.{word_bytes, block_bytes}
-use Rattle.meaning.specs.Texts.{Spoken, typed, file_said, not_null, refuses, refusal, is_broken, line}
+use Rattle.meaning.specs.Texts.{Spoken, typed, file_said, refuses, refusal, is_broken, line}
 use Rattle.meaning.specs.declared.encoding.Encoding.{Encoding}
 use Rattle.meaning.specs.declared.call.Event.{Event}
 use Rattle.meaning.specs.declared.call.Reply.{Reply}
@@ -21,16 +20,15 @@ use Rattle.meaning.specs.declared.command.Spec.{Spec}
 use Rattle.commands.specs.Asking.{Led, Concludes, Tells, followed, AreTyped, HasTyped}
 use Rattle.commands.specs.Machines.{Machine, AlwaysStands, AreShown}
 use Rattle.commands.specs.declared.answer.Tally.{Tally}
+use Rattle.commands.specs.declared.typing.Target.{Target}
+use Rattle.commands.specs.declared.typing.Target.TheVariants.{Text}
 use Rattle.commands.specs.declared.typing.Typed.{Typed}
 use Rattle.commands.proofs.AnswerLaws.{or-true}
 use Rattle.commands.proofs.LedLaws.{led_on, led_still, each_append}
 use Rattle.commands.proofs.ReadingLaws.{fetches_next, fetches_shown}
+use Rattle.commands.proofs.WordBytes.{typed-append}
 
 -- Bytes of words that follow one another.
-
-typed-append : (xs ys : List ℕ) → typed (xs ++ ys) ≡ typed xs ++ typed ys
-typed-append xs ys = ap (flat_map not_null) (flat_map-append five_characters xs ys)
-    ∙ flat_map-append not_null (unpacked xs) (unpacked ys)
 
 -- where they were put behind those before
 pub characters_kept : (before after seen words : List ℕ) → after ≡ before ++ typed words → before ≡ typed seen
@@ -104,16 +102,16 @@ module _ {S : Type 0} (machine : S → Machine) where
 
   -- these words were put behind those before
   abbrev pub ArePut : Typed → Typed → List ℕ → Type 0
-  ArePut before after words = (encoding : Encoding) (seen : List ℕ) → AreTyped encoding before seen
-      → AreTyped encoding after (seen ++ words)
+  ArePut before after words = (target : Target) (seen : List ℕ) → AreTyped target before seen
+      → AreTyped target after (seen ++ words)
 
   put_none : (t : Typed) → ArePut t t []
-  put_none t encoding seen h = subst (λ (l : List ℕ). AreTyped encoding t l) (sym (append-nil seen)) h
+  put_none t target seen h = subst (λ (l : List ℕ). AreTyped target t l) (sym (append-nil seen)) h
 
   put_more : (before mid after : Typed) (words others : List ℕ) → ArePut before mid words → ArePut mid after others
       → ArePut before after (words ++ others)
-  put_more before mid after words others p q encoding seen h = subst (λ (l : List ℕ). AreTyped encoding after l)
-      (append_assoc seen words others) (q encoding (seen ++ words) (p encoding seen h))
+  put_more before mid after words others p q target seen h = subst (λ (l : List ℕ). AreTyped target after l)
+      (append_assoc seen words others) (q target (seen ++ words) (p target seen h))
 
   -- Words that were read so far: what is left of a plan, whatever is to be done with all words.
 
@@ -544,13 +542,14 @@ module _ {S : Type 0} (machine : S → Machine) where
       (p : HasTyped machine a b moment (λ next. plan a b moment spec (λ size. behind a b moment spec size next))
       read before after) (closed : (said : Spoken) → Led machine b c (ends moment said) (Say said)) where
     -- it says what there is to be said of the words
-    pub typed_out : (x : X) → read ≡ Ok x → AreTyped encoding before []
-        → ((words : List ℕ) → AreTyped encoding after words → Tells bytes result (file_said encoding words) tally counted)
+    pub typed_out : (x : X) → read ≡ Ok x → AreTyped (Text encoding) before []
+        → ((words : List ℕ) → AreTyped (Text encoding) after words
+        → Tells bytes result (file_said encoding words) tally counted)
         → Concludes bytes result machine a c (reads_file moment encoding spec) tally counted
     typed_out x e fresh tells =
         let q = subst (λ (r : Result X Reply). HasTyped machine a b moment
         (λ next. plan a b moment spec (λ size. behind a b moment spec size next)) r before after) e p in
-        let t = tells q.words (q.types encoding [] fresh) in
+        let t = tells q.words (q.types (Text encoding) [] fresh) in
         record {
           said = file_said encoding q.words;
           led = led_then (q.led (λ words. ends moment (file_said encoding words)))

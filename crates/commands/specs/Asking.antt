@@ -6,13 +6,14 @@ use Rattle.words36.specs.declared.moment.Moment.{Moment}
 use Rattle.meaning.specs.Plans.{Act, Plan, Leads, Show, Say, each, fails}
 use Rattle.meaning.specs.Texts.{Spoken, typed, list_said}
 use Rattle.meaning.specs.declared.entry.Entry.{Entry}
-use Rattle.meaning.specs.declared.encoding.Encoding.{Encoding}
 use Rattle.meaning.specs.declared.encoding.Encoding.TheVariants.{Characters, Words, Octets}
 use Rattle.meaning.specs.declared.style.Style.{Style}
 use Rattle.meaning.specs.declared.call.Reply.{Reply}
 use Rattle.meaning.specs.declared.call.Event.{Event}
 use Rattle.commands.specs.Machines.{Machine, GoesBy}
 use Rattle.commands.specs.declared.answer.Tally.{Tally}
+use Rattle.commands.specs.declared.typing.Target.{Target}
+use Rattle.commands.specs.declared.typing.Target.TheVariants.{Text, List as ListTarget}
 use Rattle.commands.specs.declared.typing.Typed.{Typed}
 
 -- The service went by acts that bring a plan to what is left of it.
@@ -62,19 +63,19 @@ pub record HasShown {V E S : Type 0} (bytes : V → List ℕ) (result : Result V
   pub text : IfOk result (λ v. bytes v ≡ (list_said style owner answer).text)
 
 -- What is kept of words that were read: their characters, or eight bytes for each, as far as there was memory for them;
--- or their bytes of eight bits.
-abbrev pub AreKept : Encoding → Typed → List ℕ → Type 0
-AreKept Characters t words = t.is_whole ≡ true → t.bytes.items ≡ typed words
-AreKept Words t words = t.is_whole ≡ true → t.bytes.items ≡ flat_map word_bytes words
-AreKept Octets t words = HasRead t.octets words
+-- or their bytes of eight bits; or the words.
+abbrev pub AreKept : Target → Typed → List ℕ → Type 0
+AreKept (Text Characters) t words = t.is_whole ≡ true → t.bytes.items ≡ typed words
+AreKept (Text Words) t words = t.is_whole ≡ true → t.bytes.items ≡ flat_map word_bytes words
+AreKept (Text Octets) t words = HasRead t.octets words
+AreKept ListTarget t words = t.is_whole ≡ true → t.words.items ≡ words
 
-abbrev pub AreTyped : Encoding → Typed → List ℕ → Type 0
-AreTyped encoding t words = (t.encoding ≡ encoding) × AreKept encoding t words
+abbrev pub AreTyped : Target → Typed → List ℕ → Type 0
+AreTyped target t words = (t.target ≡ target) × AreKept target t words
 
 -- Words of a body were read by what a plan asks for them, and their bytes put behind those before.
 pub record HasTyped {S X : Type 0} (machine : S → Machine) (old new : S) (moment : Moment) (plan : (List ℕ → Plan)
     → Plan) (result : Result X Reply) (before after : Typed) : Type 0 where
   pub words : List ℕ
-  pub types : (encoding : Encoding) (seen : List ℕ) → AreTyped encoding before seen
-      → AreTyped encoding after (seen ++ words)
+  pub types : (target : Target) (seen : List ℕ) → AreTyped target before seen → AreTyped target after (seen ++ words)
   pub led : (next : List ℕ → Plan) → Led machine old new (plan next) (followed moment result (λ x. next words))

@@ -1,17 +1,20 @@
 -- What becomes of the service, and of a reader and a writer, where job 1 logs in for one thing.
 use Rattle.std.specs.Prelude.{◌≡◌, ◌⊎◌, ◌<◌, ℕ, false, List, [], ◌∷◌, ◌++◌, length, MatchResult, IfOk, IfErr, Option}
-use Rattle.std.specs.Prelude.{Some, None, Result, Ok, Err, codes, ◌≤◌}
+use Rattle.std.specs.Prelude.{Some, None, Result, Ok, Err, codes, ◌≤◌, ◌==◌, if◌then◌else◌}
 use Rattle.words36.specs.declared.moment.Moment.{Moment}
 use Rattle.std.specs.Io.KnownBytes.{Appends, Consumes, IsAtEnd}
-use Rattle.meaning.specs.Errands.{AreWords, enters, surveys_of, volume_line}
+use Rattle.meaning.specs.Errands.{AreWords, creates, enters, fills_all, keeps, surveys_of, unfit, volume_line}
 use Rattle.meaning.specs.Jobs.{State}
 use Rattle.meaning.specs.Maps.{keys}
-use Rattle.meaning.specs.Plans.{Act, Plan, Say, Leads, Conducts, begins, each}
+use Rattle.meaning.specs.Plans.{Act, Plan, Ask, Say, Leads, Conducts, asks_open, begins, calls, each, ends, fails}
+use Rattle.meaning.specs.Plans.{file_words, names, ok}
 use Rattle.meaning.specs.Room.{room}
 use Rattle.meaning.specs.Runs.{Serving, Broken}
 use Rattle.meaning.specs.Texts.{Spoken, complains}
+use Rattle.meaning.specs.declared.call.Call.TheVariants.{Lookup, Close}
+use Rattle.meaning.specs.declared.call.Event.{Event}
 use Rattle.meaning.specs.declared.call.Reply.{Reply}
-use Rattle.meaning.specs.declared.call.Reply.TheVariants.{NoMemory as NoMemoryReply, Failed}
+use Rattle.meaning.specs.declared.call.Reply.TheVariants.{Done, Refused, NoMemory as NoMemoryReply, Failed}
 use Rattle.meaning.specs.declared.command.Command.TheVariants.{Delete as DeleteLine}
 use Rattle.meaning.specs.declared.command.Spec.{Spec}
 use Rattle.meaning.specs.declared.encoding.Encoding.{Encoding}
@@ -23,12 +26,45 @@ use Rattle.commands.specs.Streams.{IsCut, spoken}
 use Rattle.commands.specs.declared.answer.Tally.{Tally}
 use Rattle.commands.specs.declared.error.SessionError.{SessionError}
 use Rattle.commands.specs.declared.error.SessionError.TheVariants.{Read, Write, NoMemory}
+use Rattle.commands.specs.declared.existing.Existing.{Existing}
+use Rattle.commands.specs.declared.existing.Existing.TheVariants.{Replace, Refuse}
 use Rattle.commands.specs.declared.reason.Misfit.TheVariants.{Excess}
 use Rattle.commands.specs.declared.reason.Reason.TheVariants.{Input}
 
 -- A file is deleted, as by DELETE.
 abbrev pub deletes_file : Moment → ℕ → Spec → Plan
 deletes_file moment owner spec = each moment (enters owner) (begins moment owner (DeleteLine spec))
+
+-- What names a file that is to be looked up, on channel 1.
+abbrev pub looks_for : Moment → Spec → List Event
+looks_for moment spec = asks_open moment 1 ++ names file_words spec 0
+
+-- What comes after the LOOKUP of a file that must not be there: if it is there, its name is refused as one that exists,
+-- and a refusal other than "no such file" ends the plan as it is.
+abbrev pub if_absent : Moment → Plan → Reply → Plan
+if_absent moment next Done = fails moment (Refused 4)
+if_absent moment next (Refused code) = if code == 0 then next else fails moment (Refused code)
+if_absent moment next reply = fails moment reply
+
+abbrev pub absent : Moment → Spec → Plan → Plan
+absent moment spec next = each moment (looks_for moment spec)
+    (Ask (calls moment (Lookup 1 file_words)) (if_absent moment next))
+
+-- What comes before a file is entered, by what becomes of one that has its name.
+abbrev pub makes_way : Existing → Moment → Spec → Plan → Plan
+makes_way Replace moment spec next = next
+makes_way Refuse moment spec next = absent moment spec next
+
+-- A file is put if there is none of its name.
+abbrev pub keeps_new : Moment → ℕ → Encoding → Spec → Option (List ℕ) → Plan
+keeps_new moment owner encoding spec None = Say (complains (unfit encoding))
+keeps_new moment owner encoding spec (Some words) =
+    each moment (enters owner) (absent moment spec (each moment (creates moment encoding spec)
+    (fills_all moment encoding words (each moment (calls moment (Close 2 0) ∷ []) (ends moment ok)))))
+
+abbrev pub keeps_as : Existing → Moment → ℕ → Encoding → Spec → Option (List ℕ) → Plan
+keeps_as Replace = keeps
+keeps_as Refuse = keeps_new
 
 -- nothing was counted yet
 abbrev pub fresh : Tally

@@ -13,3 +13,5 @@ pub mod Orders
 pub mod Files
 pub mod DayTexts
 pub mod Reasons
+pub mod Importing
+pub mod Exporting

@@ -3,15 +3,18 @@ use Rattle.std.specs.Prelude.{◌≡◌, ◌⊎◌, ◌<◌, ℕ, IsTrue, List, 
 use Rattle.std.specs.Io.KnownBytes.{Appends, Consumes, IsAtEnd}
 use Rattle.words36.specs.declared.moment.Moment.{Moment}
 use Rattle.meaning.specs.Copies.{AreShort, HasFiles, IsPut, IsLineRefused, IsPrinted, HasHalfwordExtension}
+use Rattle.meaning.specs.Copies.{place_of}
 use Rattle.meaning.specs.Causes.{IsRefusedAt}
 use Rattle.meaning.specs.Errands.{AreWords, gets, keeps, unfit}
 use Rattle.meaning.specs.Jobs.{State}
 use Rattle.meaning.specs.Plans.{Act}
+use Rattle.meaning.specs.Published.{file_at}
 use Rattle.meaning.specs.Runs.{Service, Serving}
 use Rattle.meaning.specs.Texts.{Spoken, complains}
 use Rattle.meaning.specs.declared.command.Spec.{Spec}
 use Rattle.meaning.specs.declared.encoding.Encoding.{Encoding}
-use Rattle.commands.specs.Errands.{Delivery, Errand}
+use Rattle.commands.specs.Errands.{Delivery, Errand, keeps_new}
+use Rattle.commands.specs.Importing.{Imported, said_behind}
 use Rattle.commands.specs.Machines.{Machine}
 use Rattle.commands.specs.Reasons.{BeginsNoFile, IsTooLong}
 use Rattle.commands.specs.Streams.{spoken}
@@ -42,6 +45,43 @@ DeliveriesKeepFiles {S} machine =
     → (read : List ℕ) × (written : List ℕ) × Consumes source left read × Appends sink full written
     × (last : Service) × (machine new).serves last
     × IsStored moment me s encoding spec (IsAtEnd left) read delivery.acts (spoken written tally) last
+
+-- No file has the name, and 0 is no name.
+abbrev pub IsFree : ℕ → State → Spec → Type 0
+IsFree me s spec = (spec.name.name ≡ 0) ⊎ (file_at s.files (place_of me spec) ≡ None)
+
+-- The file has the words of the whole input, and no file had its name. Or the input was refused and nothing has
+-- changed.
+abbrev pub IsStoredNew : Moment → ℕ → State → Encoding → Spec → Type 0 → List ℕ → Spoken → Service → Type 0
+IsStoredNew moment me s encoding spec at_end read said last =
+    (at_end × (words : List ℕ) × AreWords encoding read (Some words)
+    × IsPut moment me s encoding spec words said last × IsFree me s spec)
+    ⊎ (IsTrue said.refused × HasFiles s.files last)
+
+-- The same of an input that is kept only if there is no file of its name.
+abbrev pub DeliveriesMakeFiles : {S : Type 0} → (S → Machine) → Type 0
+DeliveriesMakeFiles {S} machine =
+    (source left sink full : Option (List ℕ)) (old new : S) (moment : Moment) (me : ℕ) (encoding : Encoding)
+    (spec : Spec) (tally : Tally)
+    → (delivery : Delivery source left sink full machine old new encoding (keeps_new moment me encoding spec)
+    (Ok tally))
+    → (machine new).honest → (s : State) → (machine old).serves (Serving s) → 1 < length s.jobs
+    → HasHalfwordExtension spec
+    → (read : List ℕ) × (written : List ℕ) × Consumes source left read × Appends sink full written
+    × (last : Service) × (machine new).serves last
+    × IsStoredNew moment me s encoding spec (IsAtEnd left) read (spoken written tally) last
+
+-- What is written of bytes that are imported is, behind their label, what such a put says.
+abbrev pub ImportsMakeFiles : {S : Type 0} → (S → Machine) → Type 0
+ImportsMakeFiles {S} machine =
+    (sink full : Option (List ℕ)) (old new : S) (moment : Moment) (me : ℕ) (encoding : Encoding) (spec : Spec)
+    (label bytes : List ℕ) (tally : Tally)
+    → Imported sink full machine old new encoding label bytes (keeps_new moment me encoding spec) (Ok tally)
+    → (machine new).honest → (s : State) → (machine old).serves (Serving s) → 1 < length s.jobs
+    → HasHalfwordExtension spec
+    → (written : List ℕ) × Appends sink full written × (said : Spoken) × (spoken written tally ≡ said_behind label said)
+    × (last : Service) × (machine new).serves last
+    × IsStoredNew moment me s encoding spec (Unit {0}) bytes said last
 
 -- What its version's words come to is written of a file that is got, or it is refused at a reply that was not wanted;
 -- the files stay.

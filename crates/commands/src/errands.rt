@@ -1,17 +1,17 @@
 ghost use Rattle.std.specs.Prelude.{◌≡◌, ℕ, List};
-ghost use Rattle.meaning.specs.Errands.{gets, keeps, surveys};
+ghost use Rattle.meaning.specs.Errands.{gets, own_file, surveys};
 ghost use Rattle.meaning.specs.Plans.{Say};
 ghost use Rattle.meaning.specs.Texts.{refuses};
 ghost use Rattle.commands.specs.Asking.{Concludes};
 ghost use Rattle.meaning.specs.declared.encoding.Encoding.{Encoding as Encodings};
-ghost use Rattle.commands.specs.Errands.{Delivery, Errand, deletes_file, no_room};
+ghost use Rattle.commands.specs.Errands.{Delivery, Errand, deletes_file, keeps_as, no_room};
 ghost use Rattle.commands.specs.Reasons.{HasWords, IsInputReason, words_said};
 
 use crate::answer::{Tally, is_broken, refuse};
 use crate::changing::remove;
 use crate::concluding::conclude;
 use crate::input_words::{most_bytes, read_input, unfit, words_of};
-use crate::putting::{enter, put_file};
+use crate::putting::{Put, enter, put_file};
 use crate::run::print;
 use crate::service::FileService;
 use crate::survey::survey;
@@ -150,7 +150,7 @@ pub fn write_refusal<W: Write, S: FileService>(
 }
 
 /// What people are told of bytes that have these words, or none.
-fn reason_of(words: &Result<Vec<Word>, Misfit>) -> Option<Reason>
+pub fn reason_of(words: &Result<Vec<Word>, Misfit>) -> Option<Reason>
     ensures { (encoding : Encodings) (bytes : List ℕ) → HasWords (λ v. v.items) encoding bytes words.now
         → IsInputReason encoding bytes result }
 {
@@ -161,22 +161,21 @@ fn reason_of(words: &Result<Vec<Word>, Misfit>) -> Option<Reason>
 }
 
 /// Puts a file of these words, or says that there are none.
-fn put_words<S: FileService>(
+pub fn put_words<S: FileService>(
     alloc: Global,
     service: &mut S,
     moment: Moment,
     tally: &mut Tally,
-    owner: Ppn,
-    encoding: Encoding,
-    spec: Spec,
+    file: &Put,
     words: &Result<Vec<Word>, Misfit>,
 ) -> Result<Vec<u8>, AllocError>
     ensures { Concludes (λ bytes. bytes.items) result S.machine service.old service.new
-        (keeps moment owner encoding spec (words_said (λ v. v.items) words.now)) tally.old tally.new }
+        (keeps_as file.now.existing moment file.now.owner file.now.encoding (own_file file.now.name)
+        (words_said (λ v. v.items) words.now)) tally.old tally.new }
 {
     match words {
-        Ok(words) => { put_file(alloc, service, moment, tally, owner, encoding, spec, words) }
-        Err(_) => refuse(alloc, tally, unfit(encoding), false),
+        Ok(words) => put_file(alloc, service, moment, tally, file, words),
+        Err(_) => refuse(alloc, tally, unfit(file.encoding), false),
     }
 }
 
@@ -209,27 +208,24 @@ pub fn read_in<R: Read, W: Write, S: FileService>(
     writer: &mut W,
     service: &mut S,
     moment: Moment,
-    owner: Ppn,
-    encoding: Encoding,
-    spec: Spec,
+    file: &Put,
 ) -> Result<Tally, SessionError>
     ensures { Delivery (R.remaining reader.old) (R.remaining reader.new) (W.contents writer.old)
-        (W.contents writer.new) S.machine service.old service.new encoding (keeps moment owner encoding spec) result }
+        (W.contents writer.new) S.machine service.old service.new file.now.encoding
+        (keeps_as file.now.existing moment file.now.owner file.now.encoding (own_file file.now.name)) result }
 {
-    let bytes = read_input(alloc, encoding, reader)?;
-    let most = most_bytes(encoding);
+    let bytes = read_input(alloc, file.encoding, reader)?;
+    let most = most_bytes(file.encoding);
     if bytes.len() > most {
         let mut said = write_no_room(alloc, writer, service)?;
         said.reason = Some(Reason::Input(Misfit::Excess(most)));
         return Ok(said);
     }
-    let Ok(words) = words_of(alloc, encoding, &bytes) else {
+    let Ok(words) = words_of(alloc, file.encoding, &bytes) else {
         return Err(SessionError::NoMemory);
     };
     let mut tally = Tally::none();
-    let text = put_words(
-        alloc, service, moment, &mut tally, owner, encoding, spec, &words,
-    );
+    let text = put_words(alloc, service, moment, &mut tally, file, &words);
     tally.reason = reason_of(&words);
     print(writer, text)?;
     Ok(tally)

@@ -127,6 +127,17 @@ fn first_misfit(bytes: &[u8]) -> Option<Misfit>
     None
 }
 
+/// What bytes are taken for if nobody says it: characters if all of them are, else bytes of eight bits.
+pub fn encoding_of(bytes: &[u8]) -> Encoding
+    ensures characters { (result ≡ Characters) ↔ Are is_character bytes.now }
+    ensures octets { (result ≡ Characters → ⊥) → result ≡ Octets }
+{
+    match first_misfit(bytes) {
+        None => Encoding::Characters,
+        Some(_) => Encoding::Octets,
+    }
+}
+
 /// The words of these characters.
 fn words_of_characters(alloc: Global, bytes: &[u8]) -> Result<Result<Vec<Word>, Misfit>, AllocError>
     ensures { IfOk result (HasWords (λ v. v.items) Characters bytes.now) }

@@ -1,4 +1,4 @@
-ghost use Rattle.std.specs.Prelude.{◌≡◌, ◌↔◌, ◌<◌, ℕ, List, Option, Some, length};
+ghost use Rattle.std.specs.Prelude.{◌≡◌, ◌↔◌, ◌<◌, ℕ, List, Option, Some, None, length};
 ghost use Rattle.words36.specs.declared.moment.Moment.{Moment};
 ghost use Rattle.meaning.specs.Lines.{Line};
 ghost use Rattle.meaning.specs.Commands.{Means};
@@ -13,9 +13,11 @@ ghost use Rattle.meaning.specs.Texts.{Spoken};
 ghost use Rattle.meaning.specs.declared.call.Event.{Event};
 ghost use Rattle.meaning.specs.declared.command.Command.{Command};
 ghost use Rattle.meaning.specs.declared.encoding.Encoding.{Encoding};
-ghost use Rattle.commands.specs.Outcomes.{DeliveriesKeepFiles, ErrandsShowFiles};
+ghost use Rattle.commands.specs.Exporting.{ComesBack, IsExport};
+ghost use Rattle.commands.specs.Outcomes.{DeliveriesKeepFiles, DeliveriesMakeFiles, ErrandsShowFiles, ImportsMakeFiles};
 ghost use Rattle.commands.specs.Reasons.{IsTooLong};
 ghost use Rattle.commands.specs.Streams.{IsServedTranscript};
+ghost use Rattle.commands.specs.declared.exporting.Exported.{Exported};
 ghost use Rattle.commands.specs.declared.language.Language.TheVariants.{Commands, Events};
 
 use crate::service::FileService;
@@ -50,10 +52,20 @@ pub fn long_inputs_fit_no_file()
         → IsTooLong encoding bytes ↔ (longest < length words) }
 {}
 
+/// A file that is taken out without an encoding comes back exactly: its bytes say the words that were read, and no
+/// others.
+pub fn exports_come_back()
+    ensures { (mode : ℕ) (words : List ℕ) (exported : Exported) → IsExport None mode words exported
+        → ComesBack words exported }
+{}
+
 /// What an errand of job 1 comes to, where the service has kept its promises up to its end: a file that was put has the
-/// words that the input says, or it was refused and nothing has changed; a file that was got was written as the words
-/// of the version that was found, or refused.
+/// words that the input says, or it was refused and nothing has changed; if it was put only if its name is free, no
+/// file had the name, and the same holds for one that was imported; a file that was got was written as the words of the
+/// version that was found, or refused.
 pub fn errands_reach_files<S: FileService>()
     ensures put { DeliveriesKeepFiles S.machine }
+    ensures new { DeliveriesMakeFiles S.machine }
+    ensures imported { ImportsMakeFiles S.machine }
     ensures got { ErrandsShowFiles S.machine }
 {}

@@ -39,6 +39,11 @@
 //!    `put` can't be a file, the tally has the first byte or word that doesn't fit, or how much a file holds.
 //!    (`IsMisfit`) Reading stops early only at bytes with which no file begins, or at more than one holds.
 //!    (`BeginsNoFile`, `IsTooLong`, `long_inputs_fit_no_file`)
+//! 12. A `put` that doesn't replace looks the name up first, and goes on only if there is no such file. (`keeps_new`)
+//!    `import` does this for bytes in memory, and writes its answer behind a label. (`Imported`) `entries` gives the
+//!    files of a directory as job 1 is told of them. (`HasEntries`) `export` gives the bytes of a file. If no encoding
+//!    is asked for, it takes the first of the file's mode in which any bytes say its words, and a file that is made of
+//!    these bytes has the very words. (`HasExported`, `exports_come_back`)
 #![tactic(auto)]
 
 mod answer;
@@ -49,8 +54,11 @@ mod copying;
 mod dates;
 mod errands;
 mod error;
+mod existing;
+mod exporting;
 mod fields;
 mod grammar;
+mod importing;
 mod input;
 mod input_words;
 mod language;
@@ -80,17 +88,25 @@ mod waiting;
 pub use answer::{Tally, is_broken};
 pub use dates::date_named;
 pub use error::SessionError;
+pub use existing::Existing;
+pub use exporting::{Export, Exported};
+pub use importing::Import;
+pub use input_words::{encoding_of, most_bytes};
 pub use laws::{
-    errands_reach_files, lines_have_one_meaning, long_inputs_fit_no_file, orders_have_one_reading,
-    served_texts_are_functions,
+    errands_reach_files, exports_come_back, lines_have_one_meaning, long_inputs_fit_no_file,
+    orders_have_one_reading, served_texts_are_functions,
 };
 pub use meaning::{Encoding, Style};
 pub use monitor::{Area, Monitor, StartError};
-pub use monitored::{check, delete, get, list, put, script, session};
+pub use monitored::{
+    check, delete, entries, export, get, import, list, make_directory, put, script, session,
+};
 pub use names::{file_named, owner_named};
+pub use putting::Put;
 pub use reason::{Misfit, Reason, RefusedLines};
 pub use restart::start_after_acts;
 pub use service::FileService;
 pub use stream::write_text;
-pub use text::refusal;
+pub use tables::trimmed;
+pub use text::{extension_text, refusal};
 pub use volume::Volume;

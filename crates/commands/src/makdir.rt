@@ -1,12 +1,17 @@
 ghost use Rattle.std.specs.Prelude.{◌≡◌, ◌<◌, Some};
+ghost use Rattle.meaning.specs.Errands.{enters};
+ghost use Rattle.meaning.specs.Plans.{Plan, asks_make_dir, each};
 ghost use Rattle.meaning.specs.declared.command.Command.TheVariants.{MakeDir as MakeLine};
+ghost use Rattle.commands.specs.Asking.{Led, followed};
 ghost use Rattle.commands.specs.Sessions.{Spoke};
 
 use crate::answer::Tally;
 use crate::asking::ask_all;
 use crate::concluding::conclude;
+use crate::putting::enter;
 use crate::requests::makes;
 use crate::service::FileService;
+use meaning::Reply;
 use std::alloc::{AllocError, Global};
 use words36::{Moment, Ppn};
 
@@ -26,4 +31,19 @@ pub fn make_dir<S: FileService>(
 {
     let made = ask_all(alloc, service, &makes(moment, owner, protection));
     conclude(alloc, service, moment, tally, made)
+}
+
+/// Logs in as an owner, and makes the owner's directory, with protection 775. The error is the reply of the first event
+/// that isn't done.
+pub fn make_own<S: FileService>(
+    alloc: Global,
+    service: &mut S,
+    moment: Moment,
+    owner: Ppn,
+) -> Result<(), Reply>
+    ensures { (next : Plan) → Led S.machine service.old service.new
+        (each moment (enters owner) (each moment (asks_make_dir moment owner 0) next)) (followed moment result (λ unit. next)) }
+{
+    enter(alloc, service, owner)?;
+    ask_all(alloc, service, &makes(moment, owner, 0))
 }

@@ -2,18 +2,28 @@ ghost use Rattle.commands.specs.Machines.{Machine};
 ghost use Rattle.monitor.specs.States.{MonitorState};
 ghost use Rattle.commands.specs.Monitors.{machine_of};
 ghost use Rattle.commands.specs.Sessions.{Session, Script};
-ghost use Rattle.commands.specs.Errands.{Checked, Delivery, Errand, Survey, deletes_file};
-ghost use Rattle.meaning.specs.Errands.{gets, keeps, own_file};
+ghost use Rattle.commands.specs.Errands.{Checked, Delivery, Errand, Survey, deletes_file, keeps_as};
+ghost use Rattle.commands.specs.Exporting.{HasEntries, HasExported, takes_out};
+ghost use Rattle.commands.specs.Importing.{Imported};
+ghost use Rattle.meaning.specs.Errands.{enters, gets, own_file};
+ghost use Rattle.commands.specs.declared.existing.Existing.TheVariants.{Refuse};
+ghost use Rattle.commands.specs.Asking.{Led, followed};
+ghost use Rattle.meaning.specs.Plans.{Plan, asks_make_dir, each};
+ghost use Rattle.std.specs.Prelude.{Some};
 
 use crate::answer::{SESSION_JOB, Tally};
 use crate::errands::{read_in, write_deleted, write_lists, write_out, write_refusal};
+use crate::exporting::{Export, Exported, entries_of, take_out};
+use crate::importing::{Import, take_in};
+use crate::makdir::make_own;
+use crate::putting::Put;
 use crate::run::{converse, play, print};
 use crate::service::FileService;
 use crate::{SessionError, text};
 use blockdisk::{Disk, NoMemory};
 use meaning::{Call, Encoding, Entry, Event, Reply, Spec, Style};
 use monitor::{Area, Monitor};
-use std::alloc::Global;
+use std::alloc::{AllocError, Global};
 use std::io::{Read, Write};
 use words36::{FileName, Moment, Ppn, Word};
 
@@ -141,9 +151,10 @@ pub fn delete<W: Write, D: Disk>(
     write_deleted(alloc, writer, monitor, moment, owner, spec)
 }
 
-/// Makes a file of all that a reader has, by job 1, which logs in for it as the owner of a directory, at a moment; a
-/// file that is there is superseded. All of the input is read and tested before anything is asked. Reading stops
-/// early at bytes with which no file begins, and at more than a file can hold. `OK` is written, or why not.
+/// Makes a file of all that a reader has, by job 1, which logs in for it as the owner of a directory, at a moment. A
+/// file that is there is superseded, or it stays and its name is refused. All of the input is read and tested before
+/// anything is asked. Reading stops early at bytes with which no file begins, and at more than a file can hold. `OK` is
+/// written, or why not.
 ///
 /// # Errors
 ///
@@ -155,18 +166,36 @@ pub fn put<R: Read, W: Write, D: Disk>(
     writer: &mut W,
     monitor: &mut Monitor<D>,
     moment: Moment,
-    owner: Ppn,
-    encoding: Encoding,
-    name: FileName,
+    file: &Put,
 ) -> Result<Tally, SessionError>
     ensures { Delivery (R.remaining reader.old) (R.remaining reader.new) (W.contents writer.old) (W.contents writer.new)
         (λ (m : MonitorState D). machine_of (D.state m.disk) m.map m.failed m.jobs) monitor.old monitor.new
-        encoding (keeps moment owner encoding (own_file name)) result }
+        file.now.encoding
+        (keeps_as file.now.existing moment file.now.owner file.now.encoding (own_file file.now.name)) result }
 {
-    let spec = Spec { name, owner: None };
-    read_in(
-        alloc, reader, writer, monitor, moment, owner, encoding, spec,
-    )
+    read_in(alloc, reader, writer, monitor, moment, file)
+}
+
+/// Makes a file of bytes in memory if there is none of its name, by job 1, which logs in for it as the owner of a
+/// directory. Its label and then `OK` are written as one line, or its label and why not. The bytes are tested before
+/// anything is asked.
+///
+/// # Errors
+///
+/// `Write` if the writer failed: it holds a beginning of the line. `NoMemory` if the words of the bytes found no room:
+/// nothing was asked; or if the line found none: the calls were made. Nothing is written then.
+pub fn import<W: Write, D: Disk>(
+    alloc: Global,
+    writer: &mut W,
+    monitor: &mut Monitor<D>,
+    file: &Import<'_>,
+) -> Result<Tally, SessionError>
+    ensures { Imported (W.contents writer.old) (W.contents writer.new)
+        (λ (m : MonitorState D). machine_of (D.state m.disk) m.map m.failed m.jobs) monitor.old monitor.new
+        file.now.encoding file.now.label.now file.now.bytes.now
+        (keeps_as Refuse file.now.moment file.now.owner file.now.encoding (own_file file.now.name)) result }
+{
+    take_in(alloc, writer, monitor, file)
 }
 
 /// Writes the list of a directory, or of all that there are, one behind the other, as DIRECTORY prints it or as a
@@ -195,6 +224,62 @@ pub fn list<W: Write, D: Disk>(
         Ok(owners) => write_lists(alloc, writer, monitor, moment, style, &owners),
         Err(reply) => write_refusal(alloc, writer, monitor, &reply),
     }
+}
+
+/// Gives the files of a directory, as job 1 is told of them, which logs in for it as [1,2]. All channels are closed if
+/// LOGIN is refused.
+///
+/// # Errors
+///
+/// The reply by which LOGIN or the list was refused.
+pub fn entries<D: Disk>(
+    alloc: Global,
+    monitor: &mut Monitor<D>,
+    moment: Moment,
+    owner: Ppn,
+) -> Result<Vec<Entry>, Reply>
+    ensures { HasEntries (λ v. v.items)
+        (λ (m : MonitorState D). machine_of (D.state m.disk) m.map m.failed m.jobs) monitor.old monitor.new
+        moment owner result }
+{
+    entries_of(alloc, monitor, moment, owner)
+}
+
+/// Gives the bytes of a file, which is read by job 1, which logs in for it as [1,2]. If no encoding is asked for, the
+/// bytes say the very words of the file, in the first encoding of its mode in which any bytes do. In an encoding that
+/// is asked for they are as `get` writes them.
+///
+/// # Errors
+///
+/// `AllocError` if the words or the bytes found no room: the file was read all the same.
+pub fn export<D: Disk>(
+    alloc: Global,
+    monitor: &mut Monitor<D>,
+    file: &Export,
+) -> Result<Exported, AllocError>
+    ensures { HasExported (λ (m : MonitorState D). machine_of (D.state m.disk) m.map m.failed m.jobs) monitor.old
+        monitor.new file.now.encoding file.now.mode
+        (takes_out file.now.moment (record { name = file.now.name; owner = Some file.now.owner })) result }
+{
+    take_out(alloc, monitor, file)
+}
+
+/// Makes the directory of an owner, as whom job 1 logs in for it, with protection 775.
+///
+/// # Errors
+///
+/// The reply that refused it: code 4 if the directory is there.
+pub fn make_directory<D: Disk>(
+    alloc: Global,
+    monitor: &mut Monitor<D>,
+    moment: Moment,
+    owner: Ppn,
+) -> Result<(), Reply>
+    ensures { (next : Plan) → Led (λ (m : MonitorState D). machine_of (D.state m.disk) m.map m.failed m.jobs) monitor.old
+        monitor.new (each moment (enters owner) (each moment (asks_make_dir moment owner 0) next))
+        (followed moment result (λ unit. next)) }
+{
+    make_own(alloc, monitor, moment, owner)
 }
 
 /// Writes how many blocks a volume has, and how many are left.

@@ -1,20 +1,38 @@
 ghost use Rattle.std.specs.Prelude.{◌≡◌, ◌≤◌, ◌+◌, ◌^◌, ◌++◌, ◌∷◌, [], length, Some};
 ghost use Rattle.words36.specs.declared.moment.Moment as moments;
 ghost use Rattle.meaning.specs.Plans.{Plan, each, deposits, calls};
-ghost use Rattle.meaning.specs.Errands.{announces, creates, enters, fills, fills_all as filled_all, keeps};
+ghost use Rattle.meaning.specs.Errands.{announces, creates, enters, fills, fills_all as filled_all, own_file};
 ghost use Rattle.meaning.specs.Errands.{part_address as address_of, part_words as words_of};
 ghost use Rattle.meaning.specs.declared.call.Call.TheVariants.{Close};
 ghost use Rattle.commands.specs.Asking.{Concludes, Led, followed};
+ghost use Rattle.commands.specs.Errands.{absent, if_absent, keeps_as, makes_way};
 
 use crate::answer::{CORE_WORDS, SESSION_JOB, Tally};
 use crate::asking::ask_all;
 use crate::concluding::conclude;
-use crate::requests::{BLOCK_AREA, RUN_WORDS, closes, lists, puts, writes};
+use crate::existing::Existing;
+use crate::requests::{BLOCK_AREA, RUN_WORDS, closes, finds, lists, puts, writes};
 use crate::ring_requests::{BUFFER_DATA, announces_text, creates_text};
 use crate::service::FileService;
 use meaning::{Encoding, Event, Reply, Spec};
 use std::alloc::{AllocError, Global};
-use words36::{BLOCK_WORDS, Moment, Ppn, Word};
+use words36::{BLOCK_WORDS, FileName, Moment, Ppn, Word};
+
+/// A file that is to be put.
+#[derive(Clone, Copy, Debug, PartialEq, Eq)]
+pub struct Put {
+    /// Whose directory it comes into: job 1 logs in as this owner.
+    pub owner: Ppn,
+    /// Its name.
+    pub name: FileName,
+    /// What its bytes say.
+    pub encoding: Encoding,
+    /// What becomes of a file that has its name.
+    pub existing: Existing,
+}
+
+/// Code 4: the name of a file that is there.
+const ALREADY_EXISTS: u32 = 4;
 
 /// Logs job 1 in.
 pub fn enter<S: FileService>(alloc: Global, service: &mut S, owner: Ppn) -> Result<(), Reply>
@@ -144,24 +162,77 @@ fn fill_all<S: FileService>(
     Ok(())
 }
 
+/// What the reply to a LOOKUP says of a file that must not be there. If it is there, its name is refused.
+fn absence_of(reply: Reply) -> Result<(), Reply>
+    ensures { (moment : moments.Moment) (next : Plan) → followed moment result (λ unit. next)
+        ≡ if_absent moment next reply }
+{
+    match reply {
+        Reply::Done => Err(Reply::Refused(ALREADY_EXISTS)),
+        Reply::Refused(0) => Ok(()),
+        _ => Err(reply),
+    }
+}
+
+/// Looks a file up that must not be there.
+fn refuse_existing<S: FileService>(
+    alloc: Global,
+    service: &mut S,
+    moment: Moment,
+    spec: Spec,
+) -> Result<(), Reply>
+    ensures { (next : Plan) → Led S.machine service.old service.new (absent moment spec next)
+        (followed moment result (λ unit. next)) }
+{
+    let events = finds(moment, spec);
+    let (names, lookup) = events.as_slice().split_at(events.len() - 1);
+    ask_all(alloc, service, names)?;
+    let reply = service.event(alloc, &lookup[0]);
+    absence_of(reply)
+}
+
+/// Sees to it that a file may be put where one of its name may be.
+fn make_way<S: FileService>(
+    alloc: Global,
+    service: &mut S,
+    moment: Moment,
+    file: &Put,
+) -> Result<(), Reply>
+    ensures { (next : Plan) → Led S.machine service.old service.new
+        (makes_way file.now.existing moment (own_file file.now.name) next) (followed moment result (λ unit. next)) }
+{
+    let spec = Spec {
+        name: file.name,
+        owner: None,
+    };
+    match file.existing {
+        Existing::Replace => Ok(()),
+        Existing::Refuse => refuse_existing(alloc, service, moment, spec),
+    }
+}
+
 /// Logs in, and makes a file of these words.
 fn write_file<S: FileService>(
     alloc: Global,
     service: &mut S,
     moment: Moment,
-    owner: Ppn,
-    encoding: Encoding,
-    spec: Spec,
+    file: &Put,
     words: &[Word],
 ) -> Result<(), Reply>
     ensures { (next : Plan) → Led S.machine service.old service.new
-        (each moment (enters owner) (each moment (creates moment encoding spec)
-        (filled_all moment encoding words.now (each moment (calls moment (Close 2 0) ∷ []) next))))
+        (each moment (enters file.now.owner) (makes_way file.now.existing moment (own_file file.now.name)
+        (each moment (creates moment file.now.encoding (own_file file.now.name))
+        (filled_all moment file.now.encoding words.now (each moment (calls moment (Close 2 0) ∷ []) next)))))
         (followed moment result (λ unit. next)) }
 {
-    enter(alloc, service, owner)?;
-    create(alloc, service, moment, encoding, spec)?;
-    fill_all(alloc, service, moment, encoding, words)?;
+    let spec = Spec {
+        name: file.name,
+        owner: None,
+    };
+    enter(alloc, service, file.owner)?;
+    make_way(alloc, service, moment, file)?;
+    create(alloc, service, moment, file.encoding, spec)?;
+    fill_all(alloc, service, moment, file.encoding, words)?;
     ask_all(alloc, service, &[closes(moment)])
 }
 
@@ -171,14 +242,13 @@ pub fn put_file<S: FileService>(
     service: &mut S,
     moment: Moment,
     tally: &mut Tally,
-    owner: Ppn,
-    encoding: Encoding,
-    spec: Spec,
+    file: &Put,
     words: &[Word],
 ) -> Result<Vec<u8>, AllocError>
     ensures { Concludes (λ bytes. bytes.items) result S.machine service.old service.new
-        (keeps moment owner encoding spec (Some words.now)) tally.old tally.new }
+        (keeps_as file.now.existing moment file.now.owner file.now.encoding (own_file file.now.name) (Some words.now))
+        tally.old tally.new }
 {
-    let written = write_file(alloc, service, moment, owner, encoding, spec, words);
+    let written = write_file(alloc, service, moment, file, words);
     conclude(alloc, service, moment, tally, written)
 }

@@ -53,7 +53,7 @@ fn show_all<S: FileService>(
 }
 
 /// Who may look into all directories: [1,2].
-fn operator() -> Ppn
+pub fn operator() -> Ppn
     ensures { result ≡ operator }
 {
     Ppn::new(1, 2).unwrap()

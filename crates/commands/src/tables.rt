@@ -62,7 +62,7 @@ fn owner_text(alloc: Global, owner: Ppn) -> Result<String, AllocError>
 }
 
 /// A text of SIXBIT characters without the blanks at its end.
-fn trimmed(text: &[u8]) -> &[u8]
+pub fn trimmed(text: &[u8]) -> &[u8]
     requires { All (λ c. 32 ≤ c) text.now }
     ensures { result.now ≡ trimmed text.now }
 {

@@ -182,7 +182,7 @@ fn push_right(bytes: &mut Vec<u8>, places: usize, text: &str) -> Result<(), Allo
 }
 
 /// The three characters of an extension.
-pub(crate) fn extension_text(ext: Half) -> [u8; 3]
+pub fn extension_text(ext: Half) -> [u8; 3]
     ensures { result ≡ extension_text ext }
 {
     let bits = ext.bits();

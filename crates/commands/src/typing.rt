@@ -8,10 +8,13 @@ ghost use Rattle.meaning.specs.Plans.{reads_file};
 ghost use Rattle.words36.specs.OctetReading.{HasRead};
 ghost use Rattle.words36.specs.Octets.{octets_unpacked};
 ghost use Rattle.meaning.specs.Texts.{typed, file_said, octets_said};
-ghost use Rattle.meaning.specs.declared.encoding.Encoding.{Encoding as Encodings};
+ghost use Rattle.meaning.specs.declared.encoding.Encoding.TheVariants.{Words};
 ghost use Rattle.meaning.specs.declared.command.Command.TheVariants.{TypeOut as TypeLine};
 ghost use Rattle.commands.specs.Asking.{Led, Concludes, Tells, followed, AreTyped, HasTyped};
+ghost use Rattle.commands.specs.Exporting.{HasWordsRead};
 ghost use Rattle.commands.specs.Sessions.{Spoke};
+ghost use Rattle.commands.specs.declared.typing.Target.{Target as Targets};
+ghost use Rattle.commands.specs.declared.typing.Target.TheVariants.{Text, List as ListTarget};
 
 use crate::answer::{Tally, is_broken, refuse};
 use crate::asking::{ask_all, examine, reset};
@@ -23,21 +26,32 @@ use meaning::{Encoding, Reply, Spec};
 use std::alloc::{AllocError, Global};
 use words36::{BLOCK_WORDS, Block, Moment, OctetReader, Ppn, Word, block_to_bytes, unpack_ascii};
 
-/// What was read so far, as it is printed.
+/// What is made of the words of a file.
+#[derive(Clone, Copy, Debug, PartialEq, Eq)]
+pub enum Target {
+    /// What is printed of them.
+    Text(Encoding),
+    /// A list of them.
+    List,
+}
+
+/// What was made so far of the words that were read.
 #[derive(Drop)]
 struct Typed {
-    encoding: Encoding,
-    /// Its characters, or eight bytes for each word.
+    target: Target,
+    /// Their characters, or eight bytes for each word.
     bytes: Vec<u8>,
-    /// Its bytes of eight bits.
+    /// Their bytes of eight bits.
     octets: OctetReader,
-    /// Whether there was memory for all bytes. A file is read to its end in any case, so that the job is left
+    /// The words.
+    words: Vec<Word>,
+    /// Whether there was memory for all of it. A file is read to its end in any case, so that the job is left
     /// as after any line.
     is_whole: bool,
 }
 
 /// Puts the characters of words behind the bytes, without nulls.
-fn push_characters(alloc: Global, bytes: &mut Vec<u8>, words: &[Word]) -> Result<(), AllocError>
+pub fn push_characters(alloc: Global, bytes: &mut Vec<u8>, words: &[Word]) -> Result<(), AllocError>
     ensures { OnOk result (bytes.new.items ≡ bytes.old.items ++ typed words.now) }
 {
     let Ok(characters) = unpack_ascii(alloc, words) else {
@@ -73,7 +87,7 @@ fn push_blocks(bytes: &mut Vec<u8>, blocks: &[Block]) -> Result<(), AllocError>
 }
 
 /// Puts the bytes of words behind the others, eight for each: those of whole blocks at once.
-fn push_words(bytes: &mut Vec<u8>, words: &[Word]) -> Result<(), AllocError>
+pub fn push_words(bytes: &mut Vec<u8>, words: &[Word]) -> Result<(), AllocError>
     ensures { OnOk result (bytes.new.items ≡ bytes.old.items ++ flat_map word_bytes words.now) }
 {
     let (blocks, others) = words.as_chunks::<BLOCK_WORDS>();
@@ -95,26 +109,28 @@ fn push_octets(octets: &mut OctetReader, words: &[Word]) -> Result<(), AllocErro
 }
 
 impl Typed {
-    fn new(alloc: Global, encoding: Encoding) -> Typed
-        ensures { AreTyped encoding result [] }
+    fn new(alloc: Global, target: Target) -> Typed
+        ensures { AreTyped target result [] }
     {
         Typed {
-            encoding,
+            target,
             bytes: Vec::new(alloc),
             octets: OctetReader::new(alloc),
+            words: Vec::new(alloc),
             is_whole: true,
         }
     }
 
-    /// Puts the bytes of words behind, where there is memory for them.
+    /// Puts what is made of words behind, where there is memory for it.
     fn push(&mut self, alloc: Global, words: &[Word])
-        ensures { (encoding : Encodings) (seen : List ℕ) → AreTyped encoding self.old seen
-            → AreTyped encoding self.new (seen ++ words.now) }
+        ensures { (target : Targets) (seen : List ℕ) → AreTyped target self.old seen
+            → AreTyped target self.new (seen ++ words.now) }
     {
-        let pushed = match self.encoding {
-            Encoding::Characters => push_characters(alloc, &mut self.bytes, words),
-            Encoding::Words => push_words(&mut self.bytes, words),
-            Encoding::Octets => push_octets(&mut self.octets, words),
+        let pushed = match self.target {
+            Target::Text(Encoding::Characters) => push_characters(alloc, &mut self.bytes, words),
+            Target::Text(Encoding::Words) => push_words(&mut self.bytes, words),
+            Target::Text(Encoding::Octets) => push_octets(&mut self.octets, words),
+            Target::List => self.words.extend_from_slice(words),
         };
         if pushed.is_err() {
             self.is_whole = false;
@@ -127,6 +143,17 @@ impl Typed {
     {
         if self.is_whole {
             Ok(self.bytes)
+        } else {
+            Err(AllocError)
+        }
+    }
+
+    /// The words.
+    fn into_words(self) -> Result<Vec<Word>, AllocError>
+        ensures { (seen : List ℕ) → AreTyped ListTarget self seen → IfOk result (λ words. words.items ≡ seen) }
+    {
+        if self.is_whole {
+            Ok(self.words)
         } else {
             Err(AllocError)
         }
@@ -146,11 +173,16 @@ fn tell_octets(alloc: Global, tally: &mut Tally, octets: OctetReader) -> Result<
 }
 
 /// Gives what is said of a file that was read, and counts it if it is a refusal.
-fn tell(alloc: Global, tally: &mut Tally, typed: Typed) -> Result<Vec<u8>, AllocError>
-    ensures { (encoding : Encodings) (words : List ℕ) → AreTyped encoding typed words
+fn tell(
+    alloc: Global,
+    tally: &mut Tally,
+    encoding: Encoding,
+    typed: Typed,
+) -> Result<Vec<u8>, AllocError>
+    ensures { (words : List ℕ) → AreTyped (Text encoding) typed words
         → Tells (λ bytes. bytes.items) result (file_said encoding words) tally.old tally.new }
 {
-    match typed.encoding {
+    match encoding {
         Encoding::Characters => typed.into_bytes(),
         Encoding::Words => typed.into_bytes(),
         Encoding::Octets => tell_octets(alloc, tally, typed.octets),
@@ -305,12 +337,34 @@ pub fn read_out<S: FileService>(
     ensures { Concludes (λ bytes. bytes.items) result S.machine service.old service.new
         (reads_file moment encoding spec) tally.old tally.new }
 {
-    let mut typed = Typed::new(alloc, encoding);
+    let mut typed = Typed::new(alloc, Target::Text(encoding));
     let read = type_file(alloc, service, moment, spec, &mut typed);
     reset(alloc, service, moment);
     match read {
-        Ok(()) => tell(alloc, tally, typed),
+        Ok(()) => tell(alloc, tally, encoding, typed),
         Err(reply) => refuse(alloc, tally, text::refusal(&reply), is_broken(&reply)),
+    }
+}
+
+/// Reads the words of a file, for a job that is logged in.
+///
+/// # Errors
+///
+/// The reply that refused it. The value is an `AllocError` if the words found no room: the file was read all the same.
+pub fn read_words<S: FileService>(
+    alloc: Global,
+    service: &mut S,
+    moment: Moment,
+    spec: Spec,
+) -> Result<Result<Vec<Word>, AllocError>, Reply>
+    ensures { HasWordsRead (λ v. v.items) result S.machine service.old service.new (reads_file moment Words spec) }
+{
+    let mut typed = Typed::new(alloc, Target::List);
+    let read = type_file(alloc, service, moment, spec, &mut typed);
+    reset(alloc, service, moment);
+    match read {
+        Ok(()) => Ok(typed.into_words()),
+        Err(reply) => Err(reply),
     }
 }
 

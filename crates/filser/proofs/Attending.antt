@@ -15,7 +15,7 @@ pub was_honest : {D : Type 0} (state : D → DiskState) (task : Task) (source le
 was_honest state (Run at) source left sink full first last result p h = p.goes.was_honest h
 was_honest state (Calls at) source left sink full first last result p h = p.goes.was_honest h
 was_honest state Wire source left sink full first last result p h = p.takes.goes.was_honest h
-was_honest state (Put file at) source left sink full first last result p h = p.goes.was_honest h
+was_honest state (Put file existing at) source left sink full first last result p h = p.goes.was_honest h
 was_honest state (Get file at) source left sink full first last result p h = p.1.goes.was_honest h
 was_honest state (Delete owner name) source left sink full first last result p h = p.3.goes.was_honest h
 was_honest state (ListAll place style) source left sink full first last result p h = p.3.errand.goes.was_honest h

@@ -7,3 +7,4 @@ mod Matching
 mod Unasked
 mod Naming
 mod ExitCodes
+mod CollectionLaws

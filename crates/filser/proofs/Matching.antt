@@ -1,31 +1,37 @@
 -- From what `clap` matched to what is asked for.
 use Rattle.std.proofs.Common.{◌≡◌, ◌+◌, ◌*◌, ◌≤◌, ◌<◌, ◌^◌, ◌∙◌, sym, ap, subst, refl, List, ℕ, map, codes, Option}
 use Rattle.std.proofs.Common.{Some, None}
-use Rattle.std.proofs.Common.{Err, arith, true, inl, inr}
-use Rattle.std.specs.Prelude.{[], slice_index, option_map, IfSome, IfNone, MatchOption, IsErrOf}
+use Rattle.std.proofs.Common.{Err, arith, true, false, true≢false, Bool, ◌||◌, inl, inr}
+use Rattle.std.specs.Prelude.{[], ◌==◌, slice_index, option_map, IfSome, IfNone, MatchOption, IsErrOf}
 use Rattle.std.specs.Str.Parse.{IsNumeral, digits_value, without_leading_plus}
-use Rattle.clap.specs.Words.{Text, Row, App, one_of, first_value, one_text, rows_of, is_simple, kind_of, fault_of}
+use Rattle.clap.specs.Words.{Text, Row, App, all_of, one_of, first_value, matched_of, one_text, raw_values, rows_of}
+use Rattle.clap.specs.Words.{is_simple, kind_of, fault_of}
 use Rattle.clap.specs.Words.{is_simple_and_free, HasKind, IsAmong, HasMatchesOf, subcommand_of, subcommand_rows_of}
 use Rattle.clap.specs.declared.parser.matches.ArgMatches.{ArgMatches}
 use Rattle.clap.specs.declared.parser.matches.Found.{Found}
 use Rattle.clap.specs.declared.error.Error.{Error}
 use Rattle.clap.specs.declared.error.kind.ErrorKind.TheVariants.{OutOfMemory, ValueValidation}
 use Rattle.clap.proofs.OnLiterals.{clap_on_literals}
-use Rattle.clap.proofs.WalkLemmas.{first_value-rows, one_text-rows}
+use Rattle.clap.proofs.WalkLemmas.{first_value-rows, one_text-rows, raw_values-rows}
 use Rattle.words36.specs.declared.moment.Moment.{Moment}
 use Rattle.imagefile.specs.declared.form.Form.{Form}
 use Rattle.meaning.specs.Lines.{upper}
 use Rattle.meaning.specs.declared.encoding.Encoding.{Encoding}
-use Rattle.meaning.specs.declared.encoding.Encoding.TheVariants.{Words, Octets}
+use Rattle.meaning.specs.declared.encoding.Encoding.TheVariants.{Characters, Words, Octets}
 use Rattle.meaning.specs.declared.layout.Layout.{Layout}
 use Rattle.commands.specs.DayTexts.{IsDayText}
 use Rattle.commands.specs.Files.{IsFileName, IsOwnerName}
 use Rattle.arguments.specs.CommandLine.{command_line, making, serving, filing, looking, init_app, run_app, calls_app}
-use Rattle.arguments.specs.CommandLine.{put_app, get_app, delete_app, list_app, check_app, convert_app, converting, dated, filed}
-use Rattle.arguments.specs.CommandLine.{formed, laid_out, located, migrate_app, sized, wire_app}
+use Rattle.arguments.specs.CommandLine.{put_app, get_app, delete_app, list_app, check_app, convert_app, converting}
+use Rattle.arguments.specs.CommandLine.{dated, filed, formed, laid_out, located, migrate_app, sized, wire_app}
+use Rattle.arguments.specs.CommandLine.{adapted, encoded, export_app, gathered, import_app, moving}
+use Rattle.arguments.specs.CommandLine.{scattered}
 use Rattle.filser.specs.Requests.{Asks, IsAsked, IsTask, IsAt, IsNamedFile, IsListedPlace, HasForm, HasText, HasNumber}
-use Rattle.filser.specs.Requests.{HasLayout, IsEncoding, IsWrong, LacksOwned}
+use Rattle.filser.specs.Requests.{AsksFor, HasLayout, HasOwner, IsEncoding, IsExportTask, IsImportTask}
+use Rattle.filser.specs.Requests.{IsOneEncoding, IsWrong, LacksOwned, NamesEncoding}
 use Rattle.filser.specs.Requests.{HasDate, IsDateNumber, IsMistaken, IsUsage, NamesNoDate, SaysDate, Spells, task_name}
+use Rattle.collection.specs.declared.task.ExportTask.{ExportTask}
+use Rattle.collection.specs.declared.task.ImportTask.{ImportTask}
 use Rattle.filser.specs.declared.task.NamedFile.{NamedFile}
 use Rattle.filser.specs.declared.task.Task.{Task}
 use Rattle.filser.specs.declared.task.Task.TheVariants.{Run, Calls, Wire, Put, Get, Delete, List as ListAll, Check}
@@ -35,17 +41,20 @@ use Rattle.filser.specs.declared.error.WrongArgument.TheVariants.{Encodings}
 use Rattle.filser.specs.declared.error.RequestError.TheVariants.{Usage}
 use Rattle.filser.specs.declared.asked.Request.{Request}
 use Rattle.filser.specs.declared.asked.Request.TheVariants.{Fresh, Init, Work, Convert, Migrate}
+use Rattle.filser.specs.declared.asked.Request.TheVariants.{Import, Export}
 
 -- The command line is one of those whose matches `clap` computes.
 
 pub line-simple : is_simple command_line ≡ true
-unfolding clap_on_literals command_line making serving filing looking init_app dated located filed run_app calls_app
-    wire_app put_app get_app delete_app list_app check_app convert_app migrate_app converting formed sized laid_out
+unfolding clap_on_literals command_line making serving filing moving looking init_app dated located filed run_app
+    calls_app wire_app put_app get_app delete_app import_app export_app list_app check_app convert_app migrate_app
+    converting formed sized laid_out encoded gathered adapted scattered
 line-simple = refl
 
 pub line-free : is_simple_and_free command_line ≡ true
-unfolding clap_on_literals command_line making serving filing looking init_app dated located filed run_app calls_app
-    wire_app put_app get_app delete_app list_app check_app convert_app migrate_app converting formed sized laid_out
+unfolding clap_on_literals command_line making serving filing moving looking init_app dated located filed run_app
+    calls_app wire_app put_app get_app delete_app import_app export_app list_app check_app convert_app migrate_app
+    converting formed sized laid_out encoded gathered adapted scattered
 line-free = refl
 
 -- Texts and numbers.
@@ -61,6 +70,12 @@ pub text_matched : {X : Type 0} (f : Found) (id : Text) (now : X → Text) (resu
     → MatchOption result ((t : Text) → HasText (rows_of f) id t → ⊥) (λ t. HasText (rows_of f) id (now t))
 text_matched f id now None e = λ t has. some_is_none t (sym has ∙ sym (first_value-rows f id) ∙ sym e)
 text_matched f id now (Some t) e = sym (e ∙ first_value-rows f id)
+
+pub texts_matched : {X : Type 0} (f : Found) (id : Text) (now : X → List Text) (result : Option X)
+    → option_map now result ≡ option_map raw_values (matched_of f id)
+    → MatchOption result (all_of id (rows_of f) ≡ None) (λ s. all_of id (rows_of f) ≡ Some (now s))
+texts_matched f id now None e = sym (e ∙ raw_values-rows f id)
+texts_matched f id now (Some s) e = sym (e ∙ raw_values-rows f id)
 
 -- what `get_one` reads, where the type's own reading is that of numbers below 2 ^ 32
 abbrev pub Parsed : Option Text → Option ℕ → Type 0
@@ -118,11 +133,15 @@ out_of_range rows id least most m parsed outside n has =
 
 -- Arguments that name a file, a directory or a moment, and don't.
 
-pub no_owner : (rows : List Row) (text : Text) → HasText rows (codes "PPN") text
-    → ((owner : ℕ) → IsOwnerName text owner → ⊥) → LacksOwned rows
-no_owner rows text has none owner file owned =
-    let same = same_some owned.0.0 text (sym owned.0.1 ∙ has) in
-    none owner (subst (λ (t : Text). IsOwnerName t owner) same owned.0.2)
+pub has_owner : (rows : List Row) (text : Text) (found : Option ℕ) → HasText rows (codes "PPN") text
+    → IfSome found (IsOwnerName text) → IfNone found ((owner : ℕ) → IsOwnerName text owner → ⊥)
+    → MatchOption found ((owner : ℕ) → HasOwner rows owner → ⊥) (HasOwner rows)
+has_owner rows text (Some owner) has some none = (text, has, some)
+has_owner rows text None has some none = λ owner owned.
+    none owner (subst (λ (t : Text). IsOwnerName t owner) (same_some owned.0 text (sym owned.1 ∙ has)) owned.2)
+
+pub no_owned : (rows : List Row) → ((owner : ℕ) → HasOwner rows owner → ⊥) → LacksOwned rows
+no_owned rows none owner file owned = none owner owned.0
 
 pub no_name : (rows : List Row) (text : Text) → HasText rows (codes "NAME") text
     → ((name ext : ℕ) → IsFileName (map upper text) name ext → ⊥) → LacksOwned rows
@@ -138,8 +157,67 @@ pub no_encoding : (rows : List Row) → ((e : Encoding) → IsEncoding rows e �
 no_encoding rows none f named = none f.encoding named.encoding
 
 -- both flags ask for two encodings
-pub both_encodings : (rows : List Row) → IsWrong rows Encodings → (e : Encoding) → IsEncoding rows e → ⊥
+pub both_encodings : (rows : List Row) → AsksFor rows Words × AsksFor rows Octets → (e : Encoding) → IsEncoding rows e
+    → ⊥
 both_encodings rows both e is = let wrong : Words ≡ Octets = sym (is.0.1 both.0) ∙ is.1.1 both.1 in cc
+
+-- no two of three flags are given
+pub names_encoding : (rows : List Row) → (AsksFor rows Characters × AsksFor rows Words → ⊥)
+    → (AsksFor rows Characters × AsksFor rows Octets → ⊥) → (AsksFor rows Words × AsksFor rows Octets → ⊥)
+    → NamesEncoding rows
+names_encoding rows first second third Characters Characters a b = refl
+names_encoding rows first second third Characters Words a b = absurd (first (a, b))
+names_encoding rows first second third Characters Octets a b = absurd (second (a, b))
+names_encoding rows first second third Words Characters a b = absurd (first (b, a))
+names_encoding rows first second third Words Words a b = refl
+names_encoding rows first second third Words Octets a b = absurd (third (a, b))
+names_encoding rows first second third Octets Characters a b = absurd (second (b, a))
+names_encoding rows first second third Octets Words a b = absurd (third (b, a))
+names_encoding rows first second third Octets Octets a b = refl
+
+-- the first encoding whose flag is given is the only one, if no two are
+pub one_asked : (rows : List Row) (found : Option Encoding) → IfSome found (AsksFor rows)
+    → IfNone found ((e : Encoding) → AsksFor rows e → ⊥) → NamesEncoding rows → IsOneEncoding rows found
+one_asked rows (Some e) some none names other = (
+  λ same. subst (AsksFor rows) (same_some e other same) some,
+  λ asks. ap Some (names e other some asks),
+)
+one_asked rows None some none names other =
+    (λ same. absurd (some_is_none other (sym same)), λ asks. absurd (none other asks))
+
+-- two flags that are given leave none to be the only one
+pub two_asked : (rows : List Row) (one other : Encoding) → IsWrong rows (Encodings one other)
+    → (asked : Option Encoding) → IsOneEncoding rows asked → ⊥
+two_asked rows one other wrong asked is =
+    wrong.0 (same_some one other (sym ((is one).1 wrong.1) ∙ (is other).1 wrong.2))
+
+-- the task of `import` wants files, and what else names them
+pub no_files : (rows : List Row) → all_of (codes "FILE") rows ≡ None → (t : ImportTask) → IsImportTask rows t → ⊥
+no_files rows none t is = some_is_none (map (λ p. p.now) t.paths.items) (sym is.paths ∙ none)
+
+pub no_directory : (rows : List Row) → ((owner : ℕ) → HasOwner rows owner → ⊥) → (t : ImportTask)
+    → IsImportTask rows t → ⊥
+no_directory rows none t is = none t.owner is.owner
+
+pub no_one_encoding : (rows : List Row) → ((e : Option Encoding) → IsOneEncoding rows e → ⊥) → (t : ImportTask)
+    → IsImportTask rows t → ⊥
+no_one_encoding rows none t is = none t.encoding is.encoding
+
+pub no_moment : (rows : List Row) → ((at : Moment) → IsAt rows at → ⊥) → (t : ImportTask) → IsImportTask rows t → ⊥
+no_moment rows none t is = none t.moment is.moment
+
+-- the task of `export` wants a folder
+pub no_folder : (rows : List Row) → ((t : Text) → HasText rows (codes "FOLDER") t → ⊥) → (t : ExportTask)
+    → IsExportTask rows t → ⊥
+no_folder rows none t is = none t.folder.now is.folder
+
+pub no_listed : (rows : List Row) → ((p : Option ℕ) → IsListedPlace rows p → ⊥) → (t : ExportTask)
+    → IsExportTask rows t → ⊥
+no_listed rows none t is = none t.owner is.owner
+
+pub no_export_encoding : (rows : List Row) → ((e : Option Encoding) → IsOneEncoding rows e → ⊥) → (t : ExportTask)
+    → IsExportTask rows t → ⊥
+no_export_encoding rows none t is = none t.encoding is.encoding
 
 pub no_place : (rows : List Row) (text : Text) → HasText rows (codes "PPN") text
     → ((owner : ℕ) → IsOwnerName text owner → ⊥) → (place : Option ℕ) → IsListedPlace rows place → ⊥
@@ -169,7 +247,7 @@ abbrev task_mark : Task → ℕ
 task_mark (Run at) = 348
 task_mark (Calls at) = 293
 task_mark Wire = 329
-task_mark (Put file at) = 346
+task_mark (Put file existing at) = 346
 task_mark (Get file at) = 305
 task_mark (Delete owner file) = 302
 task_mark (ListAll place style) = 318
@@ -179,7 +257,7 @@ marked : (task : Task) → mark (task_name task) ≡ task_mark task
 marked (Run at) = refl
 marked (Calls at) = refl
 marked Wire = refl
-marked (Put file at) = refl
+marked (Put file existing at) = refl
 marked (Get file at) = refl
 marked (Delete owner file) = refl
 marked (ListAll place style) = refl
@@ -190,69 +268,100 @@ other_task : (name x : Text) (task : Task) (m : ℕ) → mark x ≡ m → (m ≡
 other_task name x task m p other is asked = differ name x (task_name task) m (task_mark task) p (marked task) other is
     asked
 
-init_is_no_task : (name : Text) (task : Task) → name ≡ codes "init" → name ≡ task_name task → ⊥
-init_is_no_task name (Run at) is asked = other_task name (codes "init") (Run at) 325 refl (λ e. omega arith) is asked
-init_is_no_task name (Calls at) is asked = other_task name (codes "init") (Calls at) 325 refl
-    (λ e. omega arith) is asked
-init_is_no_task name Wire is asked = other_task name (codes "init") Wire 325 refl (λ e. omega arith) is asked
-init_is_no_task name (Delete owner file) is asked = other_task name (codes "init") (Delete owner file) 325 refl
-    (λ e. omega arith) is asked
-init_is_no_task name (Put file at) is asked = other_task name (codes "init") (Put file at) 325 refl (λ e. omega arith)
-    is asked
-init_is_no_task name (Get file at) is asked = other_task name (codes "init") (Get file at) 325 refl (λ e. omega arith)
-    is asked
-init_is_no_task name (ListAll place style) is asked = other_task name (codes "init") (ListAll place style) 325 refl
-    (λ e. omega arith) is asked
-init_is_no_task name Check is asked = other_task name (codes "init") Check 325 refl (λ e. omega arith) is asked
+-- whether a mark is that of a task's word
+abbrev is_task_mark : ℕ → Bool
+is_task_mark m = m == 348 || m == 293 || m == 329 || m == 346 || m == 305 || m == 302 || m == 318 || m == 307
+
+is_task : (task : Task) → is_task_mark (task_mark task) ≡ true
+is_task (Run at) = refl
+is_task (Calls at) = refl
+is_task Wire = refl
+is_task (Put file existing at) = refl
+is_task (Get file at) = refl
+is_task (Delete owner file) = refl
+is_task (ListAll place style) = refl
+is_task Check = refl
+
+-- another word is no task's
+no_task : (name x : Text) (m : ℕ) (task : Task) → mark x ≡ m → is_task_mark m ≡ false → name ≡ x
+    → name ≡ task_name task → ⊥
+no_task name x m task p other is asked =
+    true≢false (sym (is_task task) ∙ ap is_task_mark (sym (marked task) ∙ ap mark (sym asked ∙ is) ∙ p) ∙ other)
 
 pub no_init : (name : Text) (rows : List Row) → name ≡ codes "init"
     → ((n : ℕ) → HasNumber rows (codes "BLOCKS") 64 131072 n → ⊥) → (r : Request) → IsAsked name rows r → ⊥
 no_init name rows is none Fresh asked = asked
 no_init name rows is none (Init image blocks form layout) asked = none blocks asked.2
-no_init name rows is none (Work image form task) asked = init_is_no_task name task is asked.2.0
-no_init name rows is none (Convert image new form) asked = differ name (codes "init")
-    (codes "convert") 325 321 refl refl
-    (λ e. omega arith) is asked.0
-no_init name rows is none (Migrate image form) asked = differ name (codes "init") (codes "migrate") 325 319 refl refl
-    (λ e. omega arith) is asked.0
+no_init name rows is none (Work image form task) asked = no_task name (codes "init") 325 task refl refl is
+    asked.2.0
+no_init name rows is none (Convert image new form) asked =
+    differ name (codes "init") (codes "convert") 325 321 refl refl (λ e. omega arith) is asked.0
+no_init name rows is none (Migrate image form) asked =
+    differ name (codes "init") (codes "migrate") 325 319 refl refl (λ e. omega arith) is asked.0
+no_init name rows is none (Import image form task) asked =
+    differ name (codes "init") (codes "import") 325 323 refl refl (λ e. omega arith) is asked.0
+no_init name rows is none (Export image form task) asked =
+    differ name (codes "init") (codes "export") 325 341 refl refl (λ e. omega arith) is asked.0
 
-pub no_layout : (name : Text) (rows : List Row) → name ≡ codes "init" → ((l : Layout) → HasLayout rows l → ⊥)
-    → (r : Request) → IsAsked name rows r → ⊥
+pub no_layout : (name : Text) (rows : List Row) → name ≡ codes "init"
+    → ((l : Layout) → HasLayout rows l → ⊥) → (r : Request) → IsAsked name rows r → ⊥
 no_layout name rows is none Fresh asked = asked
 no_layout name rows is none (Init image blocks form layout) asked = none layout asked.4
-no_layout name rows is none (Work image form task) asked = init_is_no_task name task is asked.2.0
-no_layout name rows is none (Convert image new form) asked = differ name (codes "init")
-    (codes "convert") 325 321 refl refl
-    (λ e. omega arith) is asked.0
-no_layout name rows is none (Migrate image form) asked = differ name (codes "init") (codes "migrate") 325 319 refl
-    refl (λ e. omega arith) is asked.0
-
-convert_is_no_task : (name : Text) (task : Task) → name ≡ codes "convert" → name ≡ task_name task → ⊥
-convert_is_no_task name (Run at) is asked = other_task name (codes "convert") (Run at) 321 refl (λ e. omega arith) is
-    asked
-convert_is_no_task name (Calls at) is asked = other_task name (codes "convert") (Calls at) 321 refl (λ e. omega arith)
-    is asked
-convert_is_no_task name Wire is asked = other_task name (codes "convert") Wire 321 refl (λ e. omega arith) is asked
-convert_is_no_task name (Delete owner file) is asked = other_task name (codes "convert") (Delete owner file) 321 refl
-    (λ e. omega arith) is asked
-convert_is_no_task name (Put file at) is asked = other_task name (codes "convert") (Put file at) 321 refl
-    (λ e. omega arith) is asked
-convert_is_no_task name (Get file at) is asked = other_task name (codes "convert") (Get file at) 321 refl
-    (λ e. omega arith) is asked
-convert_is_no_task name (ListAll place style) is asked = other_task name (codes "convert")
-    (ListAll place style) 321 refl
-    (λ e. omega arith) is asked
-convert_is_no_task name Check is asked = other_task name (codes "convert") Check 321 refl (λ e. omega arith) is asked
+no_layout name rows is none (Work image form task) asked = no_task name (codes "init") 325 task refl refl is
+    asked.2.0
+no_layout name rows is none (Convert image new form) asked =
+    differ name (codes "init") (codes "convert") 325 321 refl refl (λ e. omega arith) is asked.0
+no_layout name rows is none (Migrate image form) asked =
+    differ name (codes "init") (codes "migrate") 325 319 refl refl (λ e. omega arith) is asked.0
+no_layout name rows is none (Import image form task) asked =
+    differ name (codes "init") (codes "import") 325 323 refl refl (λ e. omega arith) is asked.0
+no_layout name rows is none (Export image form task) asked =
+    differ name (codes "init") (codes "export") 325 341 refl refl (λ e. omega arith) is asked.0
 
 pub no_convert : (name : Text) (rows : List Row) → name ≡ codes "convert"
     → ((t : Text) → HasText rows (codes "NEW") t → ⊥) → (r : Request) → IsAsked name rows r → ⊥
 no_convert name rows is none Fresh asked = asked
-no_convert name rows is none (Init image blocks form layout) asked = differ name (codes "convert") (codes "init")
-    321 325 refl refl (λ e. omega arith) is asked.0
-no_convert name rows is none (Work image form task) asked = convert_is_no_task name task is asked.2.0
+no_convert name rows is none (Init image blocks form layout) asked =
+    differ name (codes "convert") (codes "init") 321 325 refl refl (λ e. omega arith) is asked.0
+no_convert name rows is none (Work image form task) asked = no_task name (codes "convert") 321 task refl refl is
+    asked.2.0
 no_convert name rows is none (Convert image new form) asked = none new.now asked.2
-no_convert name rows is none (Migrate image form) asked = differ name (codes "convert") (codes "migrate") 321 319 refl
-    refl (λ e. omega arith) is asked.0
+no_convert name rows is none (Migrate image form) asked =
+    differ name (codes "convert") (codes "migrate") 321 319 refl refl (λ e. omega arith) is asked.0
+no_convert name rows is none (Import image form task) asked =
+    differ name (codes "convert") (codes "import") 321 323 refl refl (λ e. omega arith) is asked.0
+no_convert name rows is none (Export image form task) asked =
+    differ name (codes "convert") (codes "export") 321 341 refl refl (λ e. omega arith) is asked.0
+
+pub no_import : (name : Text) (rows : List Row) → name ≡ codes "import"
+    → ((t : ImportTask) → IsImportTask rows t → ⊥) → (r : Request) → IsAsked name rows r → ⊥
+no_import name rows is none Fresh asked = asked
+no_import name rows is none (Init image blocks form layout) asked =
+    differ name (codes "import") (codes "init") 323 325 refl refl (λ e. omega arith) is asked.0
+no_import name rows is none (Work image form task) asked = no_task name (codes "import") 323 task refl refl is
+    asked.2.0
+no_import name rows is none (Convert image new form) asked =
+    differ name (codes "import") (codes "convert") 323 321 refl refl (λ e. omega arith) is asked.0
+no_import name rows is none (Migrate image form) asked =
+    differ name (codes "import") (codes "migrate") 323 319 refl refl (λ e. omega arith) is asked.0
+no_import name rows is none (Import image form task) asked = none task asked.3
+no_import name rows is none (Export image form task) asked =
+    differ name (codes "import") (codes "export") 323 341 refl refl (λ e. omega arith) is asked.0
+
+pub no_export : (name : Text) (rows : List Row) → name ≡ codes "export"
+    → ((t : ExportTask) → IsExportTask rows t → ⊥) → (r : Request) → IsAsked name rows r → ⊥
+no_export name rows is none Fresh asked = asked
+no_export name rows is none (Init image blocks form layout) asked =
+    differ name (codes "export") (codes "init") 341 325 refl refl (λ e. omega arith) is asked.0
+no_export name rows is none (Work image form task) asked = no_task name (codes "export") 341 task refl refl is
+    asked.2.0
+no_export name rows is none (Convert image new form) asked =
+    differ name (codes "export") (codes "convert") 341 321 refl refl (λ e. omega arith) is asked.0
+no_export name rows is none (Migrate image form) asked =
+    differ name (codes "export") (codes "migrate") 341 319 refl refl (λ e. omega arith) is asked.0
+no_export name rows is none (Import image form task) asked =
+    differ name (codes "export") (codes "import") 341 323 refl refl (λ e. omega arith) is asked.0
+no_export name rows is none (Export image form task) asked = none task asked.3
 
 pub no_form : (name : Text) (rows : List Row) → ((f : Form) → HasForm rows f → ⊥) → (r : Request)
     → IsAsked name rows r → ⊥
@@ -261,14 +370,36 @@ no_form name rows none (Init image blocks form layout) asked = none form asked.3
 no_form name rows none (Work image form task) asked = none form asked.1
 no_form name rows none (Convert image new form) asked = none form asked.3
 no_form name rows none (Migrate image form) asked = none form asked.2
+no_form name rows none (Import image form task) asked = none form asked.2
+no_form name rows none (Export image form task) asked = none form asked.2
 
-pub no_work : (name : Text) (rows : List Row) → (name ≡ codes "init" → ⊥) → (name ≡ codes "convert" → ⊥)
-    → (name ≡ codes "migrate" → ⊥) → ((t : Task) → IsTask name rows t → ⊥) → (r : Request) → IsAsked name rows r → ⊥
-no_work name rows other another third none Fresh asked = asked
-no_work name rows other another third none (Init image blocks form layout) asked = other asked.0
-no_work name rows other another third none (Work image form task) asked = none task asked.2
-no_work name rows other another third none (Convert image new form) asked = another asked.0
-no_work name rows other another third none (Migrate image form) asked = third asked.0
+pub no_image : (name : Text) (rows : List Row) → ((t : Text) → HasText rows (codes "IMAGE") t → ⊥) → (r : Request)
+    → IsAsked name rows r → ⊥
+no_image name rows none Fresh asked = asked
+no_image name rows none (Init image blocks form layout) asked = none image.now asked.1
+no_image name rows none (Work image form task) asked = none image.now asked.0
+no_image name rows none (Convert image new form) asked = none image.now asked.1
+no_image name rows none (Migrate image form) asked = none image.now asked.1
+no_image name rows none (Import image form task) asked = none image.now asked.1
+no_image name rows none (Export image form task) asked = none image.now asked.1
+
+-- A word that is no other request's is asked for by a task alone.
+pub record IsNoRequestWord (name : Text) : Type 0 where
+  pub init : name ≡ codes "init" → ⊥
+  pub convert : name ≡ codes "convert" → ⊥
+  pub migrate : name ≡ codes "migrate" → ⊥
+  pub import : name ≡ codes "import" → ⊥
+  pub export : name ≡ codes "export" → ⊥
+
+pub no_work : (name : Text) (rows : List Row) → IsNoRequestWord name → ((t : Task) → IsTask name rows t → ⊥)
+    → (r : Request) → IsAsked name rows r → ⊥
+no_work name rows other none Fresh asked = asked
+no_work name rows other none (Init image blocks form layout) asked = other.init asked.0
+no_work name rows other none (Work image form task) asked = none task asked.2
+no_work name rows other none (Convert image new form) asked = other.convert asked.0
+no_work name rows other none (Migrate image form) asked = other.migrate asked.0
+no_work name rows other none (Import image form task) asked = other.import asked.0
+no_work name rows other none (Export image form task) asked = other.export asked.0
 
 -- A task of a word has what belongs to that word.
 
@@ -280,7 +411,7 @@ no_run name rows is none (Calls at) asked = other_task name (codes "run") (Calls
 no_run name rows is none Wire asked = other_task name (codes "run") Wire 348 refl (λ e. omega arith) is asked.0
 no_run name rows is none (Delete owner file) asked = other_task name (codes "run") (Delete owner file) 348 refl
     (λ e. omega arith) is asked.0
-no_run name rows is none (Put file at) asked = other_task name (codes "run") (Put file at) 348 refl
+no_run name rows is none (Put file existing at) asked = other_task name (codes "run") (Put file existing at) 348 refl
     (λ e. omega arith) is
     asked.0
 no_run name rows is none (Get file at) asked = other_task name (codes "run") (Get file at) 348 refl
@@ -298,7 +429,8 @@ no_calls name rows is none (Calls at) asked = none at asked.1
 no_calls name rows is none Wire asked = other_task name (codes "calls") Wire 293 refl (λ e. omega arith) is asked.0
 no_calls name rows is none (Delete owner file) asked = other_task name (codes "calls") (Delete owner file) 293 refl
     (λ e. omega arith) is asked.0
-no_calls name rows is none (Put file at) asked = other_task name (codes "calls") (Put file at) 293 refl
+no_calls name rows is none (Put file existing at) asked =
+    other_task name (codes "calls") (Put file existing at) 293 refl
     (λ e. omega arith) is asked.0
 no_calls name rows is none (Get file at) asked = other_task name (codes "calls") (Get file at) 293 refl
     (λ e. omega arith) is asked.0
@@ -314,7 +446,7 @@ no_put name rows is none (Calls at) asked = other_task name (codes "put") (Calls
 no_put name rows is none Wire asked = other_task name (codes "put") Wire 346 refl (λ e. omega arith) is asked.0
 no_put name rows is none (Delete owner file) asked = other_task name (codes "put") (Delete owner file) 346 refl
     (λ e. omega arith) is asked.0
-no_put name rows is none (Put file at) asked = none file at asked.1.0 asked.1.1
+no_put name rows is none (Put file existing at) asked = none file at asked.1.0 asked.1.2
 no_put name rows is none (Get file at) asked = other_task name (codes "put") (Get file at) 346 refl
     (λ e. omega arith) is
     asked.0
@@ -330,7 +462,7 @@ no_get name rows is none (Calls at) asked = other_task name (codes "get") (Calls
 no_get name rows is none Wire asked = other_task name (codes "get") Wire 305 refl (λ e. omega arith) is asked.0
 no_get name rows is none (Delete owner file) asked = other_task name (codes "get") (Delete owner file) 305 refl
     (λ e. omega arith) is asked.0
-no_get name rows is none (Put file at) asked = other_task name (codes "get") (Put file at) 305 refl
+no_get name rows is none (Put file existing at) asked = other_task name (codes "get") (Put file existing at) 305 refl
     (λ e. omega arith) is
     asked.0
 no_get name rows is none (Get file at) asked = none file at asked.1.0 asked.1.1
@@ -345,7 +477,8 @@ no_delete name rows is none (Run at) asked = other_task name (codes "delete") (R
 no_delete name rows is none (Calls at) asked = other_task name (codes "delete") (Calls at) 302 refl (λ e. omega arith)
     is asked.0
 no_delete name rows is none Wire asked = other_task name (codes "delete") Wire 302 refl (λ e. omega arith) is asked.0
-no_delete name rows is none (Put file at) asked = other_task name (codes "delete") (Put file at) 302 refl
+no_delete name rows is none (Put file existing at) asked =
+    other_task name (codes "delete") (Put file existing at) 302 refl
     (λ e. omega arith) is asked.0
 no_delete name rows is none (Get file at) asked = other_task name (codes "delete") (Get file at) 302 refl
     (λ e. omega arith) is asked.0
@@ -398,6 +531,19 @@ pub of_none : (app : App) (words : List Text) (m : ArgMatches) → app ≡ comma
 of_none app words m is has none r asks =
     let P : Option (Text × List Row) → Type 0 = λ found. Asks found r in
     none r (subst P (sym (of_matches app words m is has)) asks)
+
+-- what was found is asked for, or nothing is
+pub found_asked : (found : Option (Text × List Row)) (o : Option Request) (r : Request)
+    → MatchOption o ((x : Request) → Asks found x → ⊥) (Asks found) → o ≡ Some r → Asks found r
+found_asked found o r matched is =
+    let P : Option Request → Type 0 = λ x. MatchOption x ((y : Request) → Asks found y → ⊥) (Asks found) in
+    subst P is matched
+
+pub found_nothing : (found : Option (Text × List Row)) (o : Option Request)
+    → MatchOption o ((x : Request) → Asks found x → ⊥) (Asks found) → o ≡ None → (r : Request) → Asks found r → ⊥
+found_nothing found o matched is =
+    let P : Option Request → Type 0 = λ x. MatchOption x ((y : Request) → Asks found y → ⊥) (Asks found) in
+    subst P is matched
 
 -- Why they ask for nothing.
 

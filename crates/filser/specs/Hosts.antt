@@ -3,6 +3,7 @@
 use Rattle.std.specs.Prelude.{ℕ, ℤ, List, Option, Result, Ok, pos, ◌<ℤ◌}
 use Rattle.std.specs.declared.io.Error.{Error}
 use Rattle.std.specs.declared.fs.TryLockError.{TryLockError}
+use Rattle.collection.specs.HostFacts.{FileFacts}
 use Rattle.imagefile.specs.Unseen.{Unseen}
 use Rattle.filser.specs.declared.identity.FileId.{FileId}
 
@@ -22,6 +23,8 @@ pub record HostFacts (F : Type 0) : Type 1 where
   pub number : F → ℤ
   -- this is supposed of an open file that the calls on it don't show
   pub supposed : F → Unseen → Type 0
+  -- what it was asked about files that are no images
+  pub files : FileFacts
 
 -- A lock was asked for, and the system gave it.
 abbrev pub IsKept : {F : Type 0} → HostFacts F → F → Type 0

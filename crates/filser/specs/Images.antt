@@ -75,8 +75,16 @@ HasNoDisk (Unserved disk) = ⊥
 HasNoDisk (Served image) = ⊥
 HasNoDisk (Made disk right) = ⊥
 
--- What became of it: it was served, by asking its disk alone since the file was opened; or not, for a reason that
--- stands.
+-- What became of it, if this is what a run on its disk comes to: it was run on, by asking its disk alone since the file
+-- was opened; or not, for a reason that stands.
+abbrev pub IsOnImageBy : {H L M F D I : Type 0} → HostFacts H → Views M F D I → List ℕ → Form → Unseen
+    → (DiskState → I → Status → Type 0) → Option (List ℕ) → Option (List ℕ) → Disks L F D I → Status → Type 0
+IsOnImageBy {I = I} facts views path form u IsRun sink full disks status =
+    ((image : I) × (disks ≡ Served image) × IsOpened facts path u × IsWhole form u (views.image image)
+    × IsRun (begun_image form (views.image image).size u) image status)
+    ⊎ ((fault : ImageFault) × IsDenied facts views path form u fault disks × IsExplained sink full status fault)
+
+-- The same of one that is served.
 abbrev pub IsOnImage : {H L M F D I : Type 0} → HostFacts H → Views M F D I → List ℕ → Form → Unseen → Task
     → Option (List ℕ) → Option (List ℕ) → Option (List ℕ) → Option (List ℕ) → Disks L F D I → Status → Type 0
 IsOnImage {I = I} facts views path form u task source left sink full disks status =

@@ -13,4 +13,6 @@ pub mod Denials
 pub mod Sparing
 pub mod Images
 pub mod Migrations
+pub mod Importing
+pub mod Exporting
 pub mod Runs

@@ -1,7 +1,7 @@
 -- What is asked for, by the subcommand that `clap` matched and what it found there.
-use Rattle.std.specs.Prelude.{◌≡◌, ◌≤◌, ◌↔◌, ◌⊎◌, [], ℕ, List, map, Option, Some, None, codes}
+use Rattle.std.specs.Prelude.{◌≡◌, ◌≢◌, ◌≤◌, ◌↔◌, ◌⊎◌, [], ℕ, List, map, Option, Some, None, Bool, IsTrue, codes}
 use Rattle.std.specs.Str.Parse.{IsNumeral, digits_value, without_leading_plus}
-use Rattle.clap.specs.Words.{IsAmong, Kinds, Row, Text, first_of, kind_of, one_of}
+use Rattle.clap.specs.Words.{IsAmong, Kinds, Row, Text, all_of, first_of, kind_of, one_of}
 use Rattle.clap.specs.declared.error.Error.{Error}
 use Rattle.clap.specs.declared.error.kind.ErrorKind.TheVariants.{ValueValidation}
 use Rattle.words36.specs.declared.moment.Moment.{Moment}
@@ -12,15 +12,20 @@ use Rattle.imagefile.specs.declared.form.Form.TheVariants.{Wide, Packed}
 use Rattle.meaning.specs.Layouts.{layout_number}
 use Rattle.meaning.specs.declared.layout.Layout.{Layout}
 use Rattle.meaning.specs.declared.encoding.Encoding.{Encoding}
-use Rattle.meaning.specs.declared.encoding.Encoding.TheVariants.{Words, Octets}
+use Rattle.meaning.specs.declared.encoding.Encoding.TheVariants.{Characters, Words, Octets}
 use Rattle.meaning.specs.declared.style.Style.{Style}
 use Rattle.meaning.specs.declared.style.Style.TheVariants.{Table}
 use Rattle.commands.specs.DayTexts.{IsDayText}
 use Rattle.commands.specs.Files.{IsFileName, IsOwnerName}
+use Rattle.commands.specs.declared.existing.Existing.{Existing}
+use Rattle.commands.specs.declared.existing.Existing.TheVariants.{Refuse}
 use Rattle.filser.specs.declared.asked.Request.{Request}
 use Rattle.filser.specs.declared.asked.Request.TheVariants.{Fresh, Init, Work, Convert, Migrate}
+use Rattle.filser.specs.declared.asked.Request.TheVariants.{Import, Export}
 use Rattle.filser.specs.declared.error.WrongArgument.{WrongArgument}
 use Rattle.filser.specs.declared.error.WrongArgument.TheVariants.{Owner, Name, Encodings, Date}
+use Rattle.collection.specs.declared.task.ExportTask.{ExportTask}
+use Rattle.collection.specs.declared.task.ImportTask.{ImportTask}
 use Rattle.filser.specs.declared.task.NamedFile.{NamedFile}
 use Rattle.filser.specs.declared.task.Task.{Task}
 use Rattle.filser.specs.declared.task.Task.TheVariants.{Run, Calls, Wire, Put, Get, Delete, List as ListAll, Check}
@@ -63,6 +68,27 @@ pub record IsNamedFile (rows : List Row) (file : NamedFile) : Type 0 where
   pub name : HasFileName rows file.name.name file.name.ext
   pub encoding : IsEncoding rows file.encoding
 
+-- a file that has the name of one that is put stays where that is asked for
+abbrev pub IsExisting : List Row → Existing → Type 0
+IsExisting rows existing = (existing ≡ Refuse) ↔ HasText rows (codes "new") (codes "true")
+
+-- the flag that asks for an encoding, and whether it is given
+abbrev pub encoding_flag : Encoding → Text
+encoding_flag Characters = codes "text"
+encoding_flag Words = codes "words"
+encoding_flag Octets = codes "bytes"
+
+abbrev pub AsksFor : List Row → Encoding → Type 0
+AsksFor rows encoding = HasText rows (encoding_flag encoding) (codes "true")
+
+-- the encoding whose flag is given, and that of no other; or none, and no flag of one is given
+abbrev pub IsOneEncoding : List Row → Option Encoding → Type 0
+IsOneEncoding rows asked = (encoding : Encoding) → ((asked ≡ Some encoding) ↔ AsksFor rows encoding)
+
+-- whether a flag is given
+abbrev pub IsFlag : List Row → Text → Bool → Type 0
+IsFlag rows id value = IsTrue value ↔ HasText rows id (codes "true")
+
 -- the directory that is to be listed, or all
 abbrev pub IsListedPlace : List Row → Option ℕ → Type 0
 IsListedPlace rows None = first_of (codes "PPN") rows ≡ None
@@ -77,7 +103,7 @@ abbrev pub task_name : Task → Text
 task_name (Run at) = codes "run"
 task_name (Calls at) = codes "calls"
 task_name Wire = codes "wire"
-task_name (Put file at) = codes "put"
+task_name (Put file existing at) = codes "put"
 task_name (Get file at) = codes "get"
 task_name (Delete owner name) = codes "delete"
 task_name (ListAll place style) = codes "list"
@@ -102,7 +128,7 @@ abbrev pub HasTask : List Row → Task → Type 0
 HasTask rows (Run at) = IsAt rows at
 HasTask rows (Calls at) = IsAt rows at
 HasTask rows Wire = Unit
-HasTask rows (Put file at) = IsNamedFile rows file × IsAt rows at
+HasTask rows (Put file existing at) = IsNamedFile rows file × IsExisting rows existing × IsAt rows at
 HasTask rows (Get file at) = IsNamedFile rows file × IsAt rows at
 HasTask rows (Delete owner name) = HasOwned rows owner name
 HasTask rows (ListAll place style) = IsListedPlace rows place × IsStyle rows style
@@ -123,6 +149,22 @@ HasForm rows form = HasNumber rows (codes "form") 1 2 (form_number form)
 abbrev pub HasLayout : List Row → Layout → Type 0
 HasLayout rows layout = HasNumber rows (codes "layout") 1 2 (layout_number layout)
 
+-- files of the host, all that are named, in their order, and what becomes of them
+pub record IsImportTask (rows : List Row) (task : ImportTask) : Type 0 where
+  pub owner : HasOwner rows task.owner
+  pub paths : all_of (codes "FILE") rows ≡ Some (map (λ p. p.now) task.paths.items)
+  pub encoding : IsOneEncoding rows task.encoding
+  pub moment : IsAt rows task.moment
+  pub dated : IsFlag rows (codes "dates") task.dated
+  pub shortens : IsFlag rows (codes "shorten") task.shortens
+
+-- a folder of the host, and what goes there
+pub record IsExportTask (rows : List Row) (task : ExportTask) : Type 0 where
+  pub folder : HasText rows (codes "FOLDER") task.folder.now
+  pub owner : IsListedPlace rows task.owner
+  pub encoding : IsOneEncoding rows task.encoding
+  pub lists : IsFlag rows (codes "list") task.lists
+
 abbrev pub IsAsked : Text → List Row → Request → Type 0
 IsAsked name rows Fresh = ⊥
 IsAsked name rows (Init image blocks form layout) =
@@ -135,6 +177,10 @@ IsAsked name rows (Convert image new form) =
     × HasForm rows form
 IsAsked name rows (Migrate image form) =
     (name ≡ codes "migrate") × HasText rows (codes "IMAGE") image.now × HasForm rows form
+IsAsked name rows (Import image form task) =
+    (name ≡ codes "import") × HasText rows (codes "IMAGE") image.now × HasForm rows form × IsImportTask rows task
+IsAsked name rows (Export image form task) =
+    (name ≡ codes "export") × HasText rows (codes "IMAGE") image.now × HasForm rows form × IsExportTask rows task
 
 -- without a subcommand a fresh volume is asked for
 abbrev pub Asks : Option (Text × List Row) → Request → Type 0
@@ -143,6 +189,8 @@ Asks None (Init image blocks form layout) = ⊥
 Asks None (Work image form task) = ⊥
 Asks None (Convert image new form) = ⊥
 Asks None (Migrate image form) = ⊥
+Asks None (Import image form task) = ⊥
+Asks None (Export image form task) = ⊥
 Asks (Some found) request = IsAsked found.0 found.1 request
 
 -- Why nothing is asked for.
@@ -152,8 +200,7 @@ abbrev pub IsWrong : List Row → WrongArgument → Type 0
 IsWrong rows (Owner text) = HasText rows (codes "PPN") text.now × ((owner : ℕ) → IsOwnerName text.now owner → ⊥)
 IsWrong rows (Name text) =
     HasText rows (codes "NAME") text.now × ((name ext : ℕ) → IsFileName (map upper text.now) name ext → ⊥)
-IsWrong rows Encodings =
-    HasText rows (codes "words") (codes "true") × HasText rows (codes "bytes") (codes "true")
+IsWrong rows (Encodings one other) = (one ≢ other) × AsksFor rows one × AsksFor rows other
 IsWrong rows (Date text) = HasText rows (codes "date") text.now × ((n : ℕ) → SaysDate text.now n → ⊥)
 
 -- the arguments that are what they should be, if they are given
@@ -165,8 +212,7 @@ NamesFile rows =
     (text : Text) → HasText rows (codes "NAME") text → (name : ℕ) × (ext : ℕ) × IsFileName (map upper text) name ext
 
 abbrev pub NamesEncoding : List Row → Type 0
-NamesEncoding rows =
-    HasText rows (codes "words") (codes "true") → HasText rows (codes "bytes") (codes "true") → ⊥
+NamesEncoding rows = (one other : Encoding) → AsksFor rows one → AsksFor rows other → one ≡ other
 
 abbrev pub NamesDate : List Row → Type 0
 NamesDate rows = (text : Text) → HasText rows (codes "date") text → (n : ℕ) × SaysDate text n
@@ -203,6 +249,8 @@ InRange (Init image blocks form layout) = (64 ≤ blocks) × (blocks ≤ 131072)
 InRange (Work image form task) = Unit
 InRange (Convert image new form) = Unit
 InRange (Migrate image form) = Unit
+InRange (Import image form task) = Unit
+InRange (Export image form task) = Unit
 
 -- the path of the image that is named: of two, of the one that is there
 abbrev pub image_named : Request → Option Text
@@ -211,3 +259,5 @@ image_named (Init image blocks form layout) = Some image.now
 image_named (Work image form task) = Some image.now
 image_named (Convert image new form) = Some image.now
 image_named (Migrate image form) = Some image.now
+image_named (Import image form task) = Some image.now
+image_named (Export image form task) = Some image.now

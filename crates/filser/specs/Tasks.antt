@@ -2,13 +2,14 @@
 use Rattle.std.specs.Prelude.{◌≡◌, ℕ, List, Option, Result}
 use Rattle.words36.specs.declared.moment.Moment.{Moment}
 use Rattle.blockdisk.specs.Disk.{DiskState}
-use Rattle.meaning.specs.Errands.{gets, keeps, own_file}
+use Rattle.meaning.specs.Errands.{gets, own_file}
 use Rattle.monitor.specs.States.{MonitorState}
 use Rattle.commands.specs.Errands.{Checked, Delivery, Errand, Survey, deletes_file}
 use Rattle.commands.specs.Sessions.{Session, Script}
 use Rattle.commands.specs.declared.answer.Tally.{Tally}
 use Rattle.commands.specs.declared.error.SessionError.{SessionError}
 use Rattle.exchange.specs.Exchanges.{Exchange}
+use Rattle.commands.specs.Errands.{keeps_as}
 use Rattle.filser.specs.ServedDisks.{machine_over}
 use Rattle.filser.specs.declared.task.Task.{Task}
 use Rattle.filser.specs.declared.task.Task.TheVariants.{Run, Calls, Wire, Put, Get, Delete, List as ListAll, Check}
@@ -27,9 +28,9 @@ Attends state (Calls at) source left sink full first last result =
     Script source left sink full (machine_over state) first last at result
 Attends state Wire source left sink full first last result =
     Exchange source left sink full (machine_over state) first last result
-Attends state (Put file at) source left sink full first last result =
+Attends state (Put file existing at) source left sink full first last result =
     Delivery source left sink full (machine_over state) first last file.encoding
-    (keeps at file.owner file.encoding (own_file file.name)) result
+    (keeps_as existing at file.owner file.encoding (own_file file.name)) result
 Attends state (Get file at) source left sink full first last result = (left ≡ source)
     × Errand sink full (machine_over state) first last (gets at file.owner file.encoding (own_file file.name)) result
 Attends state (Delete owner name) source left sink full first last result = (left ≡ source)

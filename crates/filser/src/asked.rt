@@ -1,12 +1,12 @@
 ghost use Rattle.std.specs.Prelude.{◌≡◌, option_map};
 ghost use Rattle.filser.specs.Requests.{image_named};
 
-use crate::Task;
+use crate::{ExportTask, ImportTask, Task};
 use imagefile::Form;
 use meaning::layout::Layout;
 
 /// What the words of a command line ask for. An image is named by its path.
-#[derive(Clone, Copy, Debug, PartialEq, Eq)]
+#[derive(Debug, Drop, PartialEq, Eq)]
 pub enum Request<'a> {
     /// No subcommand: serve the input on a fresh volume that nobody keeps.
     Fresh,
@@ -18,6 +18,10 @@ pub enum Request<'a> {
     Convert(&'a str, &'a str, Form),
     /// `migrate`: give the volume of this image, which has this form, layout 2.
     Migrate(&'a str, Form),
+    /// `import`: make files on this image, which has this form, of files of the host.
+    Import(&'a str, Form, ImportTask<'a>),
+    /// `export`: write files of this image, which has this form, to new files of the host.
+    Export(&'a str, Form, ExportTask<'a>),
 }
 
 impl<'a> Request<'a> {
@@ -29,6 +33,7 @@ impl<'a> Request<'a> {
             Request::Fresh => None,
             Request::Init(path, _, _, _) | Request::Work(path, _, _) => Some(*path),
             Request::Convert(path, _, _) | Request::Migrate(path, _) => Some(*path),
+            Request::Import(path, _, _) | Request::Export(path, _, _) => Some(*path),
         }
     }
 }

@@ -46,6 +46,20 @@ pub(crate) struct Conversion<'a> {
     pub(crate) telling: Telling,
 }
 
+impl<'a> Conversion<'a> {
+    /// The conversion of the image of this form at a path to a new one.
+    pub(crate) fn new(path: &'a str, form: Form, new: &'a str, telling: Telling) -> Self
+        ensures { result ≡ record { path = path.entry; form = form; new = new.entry; telling = telling } }
+    {
+        Conversion {
+            path,
+            form,
+            new,
+            telling,
+        }
+    }
+}
+
 /// Writes what is on an image to a new one of the other form, and prints how many blocks they have. Nothing else is
 /// written to the one that is there than its recovery. A new one that can't be finished is left, and people are told
 /// that it is incomplete; where `telling` says so, they are told before how far it is.

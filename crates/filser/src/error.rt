@@ -1,5 +1,6 @@
 use crate::Escaped;
 use clap::Error as ClapError;
+use commands::Encoding;
 use thiserror::Error;
 
 /// An argument that isn't what it should be, with its text.
@@ -11,12 +12,21 @@ pub enum WrongArgument<'a> {
     /// The file.
     #[error("NAME {}: 1 to 6 letters and digits, and at most 3 more after a full stop, as FOO.TXT", Escaped(.0))]
     Name(&'a str),
-    /// Both flags that say what the bytes of a file are.
-    #[error("--words and --bytes exclude each other")]
-    Encodings,
+    /// Two flags that say what the bytes of a file are.
+    #[error("--{} and --{} exclude each other", flag_of(.0), flag_of(.1))]
+    Encodings(Encoding, Encoding),
     /// The date.
     #[error("--date {}: a day from 1964-01-01 to 2052-02-01, as 1975-01-04 or 4-Jan-1975, or its number", Escaped(.0))]
     Date(&'a str),
+}
+
+/// The flag that asks for an encoding.
+fn flag_of(encoding: &Encoding) -> &'static str {
+    match encoding {
+        Encoding::Characters => "text",
+        Encoding::Words => "words",
+        Encoding::Octets => "bytes",
+    }
 }
 
 /// Why the words of a command line ask for nothing that is done.

@@ -8,14 +8,17 @@ ghost use Rattle.filser.specs.Hosts.{HostFacts};
 
 use crate::FileId;
 use blockdisk::Disk;
+use collection::{HostFiles, Source, moment_of, second_of};
 use imagefile::{Durable, Form, HostFile, ImageDisk, ImageError, Supposition};
+use std::alloc::Global;
 use std::fs::{self, File, Metadata, OpenOptions, Permissions, TryLockError};
-use std::io::{self, ErrorKind, Write};
+use std::io::{self, ErrorKind, Read, Write};
 use std::os::fd::{AsRawFd, RawFd};
 use std::os::unix::fs::{MetadataExt, OpenOptionsExt, PermissionsExt};
 use std::path::Path;
 use std::rt::Files;
-use words36::BLOCK_BYTES;
+use std::time::{Duration, SystemTime};
+use words36::{BLOCK_BYTES, Moment};
 
 /// The permission bits of a file that its owner alone may read and write.
 const OWNER_ALONE: u32 = 0o600;
@@ -119,6 +122,63 @@ pub trait Host {
     /// The system's.
     fn remove(&self, path: &str, right: RemovalRight) -> io::Result<()>
         requires { (file : Self.File) × (facts self.now).created path.now (Ok file) };
+
+    /// Reads the file at a path to its end, or until it has more bytes than `most`.
+    ///
+    /// # Errors
+    ///
+    /// The system's, and `OutOfMemory` if its bytes find no room.
+    fn read(&self, alloc: Global, path: &str, most: usize) -> io::Result<Source>
+        ensures { (facts self.now).files.read path.now most result };
+
+    /// Makes a folder at a path, unless there is one.
+    ///
+    /// # Errors
+    ///
+    /// The system's. Its parent has to be there.
+    fn make_folder(&self, path: &str) -> io::Result<()>
+        ensures { (facts self.now).files.folder path.now result };
+
+    /// Makes a file of these bytes at a path where there is none, last changed at this moment, in UTC. One before 1970
+    /// isn't given to it.
+    ///
+    /// # Errors
+    ///
+    /// The system's: `AlreadyExists` if something has that name, which is left alone. If the bytes can't be written,
+    /// the file that was made is removed.
+    fn store(&self, path: &str, bytes: &[u8], changed: Option<Moment>) -> io::Result<()>
+        ensures { (facts self.now).files.stored path.now bytes.now changed result };
+}
+
+/// What a host does with files that are no images.
+#[derive(Clone, Copy, Drop)]
+pub(crate) struct Shelf<'a, H: Host> {
+    host: &'a H,
+}
+
+impl<'a, H: Host> Shelf<'a, H> {
+    /// That of this host.
+    pub(crate) fn of(host: &'a H) -> Self
+        ensures { result.host.now ≡ host.entry.now }
+    {
+        Shelf { host }
+    }
+}
+
+impl<H: Host> HostFiles for Shelf<'_, H> {
+    ghost files = { λ shelf. (H.facts shelf.host.now).files };
+
+    fn read(&self, alloc: Global, path: &str, most: usize) -> io::Result<Source> {
+        self.host.read(alloc, path, most)
+    }
+
+    fn make_folder(&self, path: &str) -> io::Result<()> {
+        self.host.make_folder(path)
+    }
+
+    fn store(&self, path: &str, bytes: &[u8], changed: Option<Moment>) -> io::Result<()> {
+        self.host.store(path, bytes, changed)
+    }
 }
 
 /// What an open file is for.
@@ -273,6 +333,11 @@ impl<F: Files<File = File>> Host for SystemHost<'_, F> {
       found = λ path file. Unit {0};
       number = λ file. file_raw_fd file;
       supposed = λ file u. Unit {0};
+      files = record {
+        read = λ path most result. Unit {0};
+        folder = λ path result. Unit {0};
+        stored = λ path bytes changed result. Unit {0};
+      };
     } };
 
     fn open(
@@ -328,12 +393,83 @@ impl<F: Files<File = File>> Host for SystemHost<'_, F> {
     }
 
     fn remove(&self, path: &str, right: RemovalRight) -> io::Result<()> {
-        // A link that somebody has put there leads elsewhere, so it isn't followed.
-        let found = file_id(fs::symlink_metadata(self.files, path));
-        if found.is_some() && found == right.made {
-            fs::remove_file(self.files, path)
-        } else {
-            Ok(())
+        remove_made(self.files, path, right.made)
+    }
+
+    fn read(&self, alloc: Global, path: &str, most: usize) -> io::Result<Source> {
+        let file = File::open(self.files, path)?;
+        let changed = moment_of(file.metadata()?.mtime());
+        let bytes = read_most(alloc, file, most)?;
+        Ok(Source { bytes, changed })
+    }
+
+    fn make_folder(&self, path: &str) -> io::Result<()> {
+        match fs::create_dir(self.files, path) {
+            Err(error) if error.kind() == ErrorKind::AlreadyExists && is_folder(self.files, path) =>
+                Ok(()),
+            made => made,
         }
+    }
+
+    fn store(&self, path: &str, bytes: &[u8], changed: Option<Moment>) -> io::Result<()> {
+        let file = File::create_new(self.files, path)?;
+        let made = file_id(file.metadata());
+        let filled = fill_file(&file, bytes, changed);
+        if filled.is_err() {
+            let _ = remove_made(self.files, path, made);
+        }
+        filled
+    }
+}
+
+/// Whether a folder is at a path.
+fn is_folder<F: Files<File = File>>(files: &F, path: &str) -> bool {
+    fs::metadata(files, path).is_ok_and(|found| found.is_dir())
+}
+
+/// The bytes of a file up to its end, or one more than so many.
+///
+/// # Errors
+///
+/// The system's, and `OutOfMemory` if they find no room.
+fn read_most(alloc: Global, file: File, most: usize) -> io::Result<Vec<u8>> {
+    let mut bytes = Vec::new(alloc);
+    file.take((most as u64).saturating_add(1))
+        .read_to_end(&mut bytes)?;
+    Ok(bytes)
+}
+
+/// The time of a moment, if that isn't before 1970.
+fn time_of(moment: Moment) -> Option<SystemTime> {
+    let seconds = u64::try_from(second_of(moment)?).ok()?;
+    SystemTime::UNIX_EPOCH.checked_add(Duration::from_secs(seconds))
+}
+
+/// Writes the bytes of a file that was made, and the moment of its last change, if that isn't before 1970.
+///
+/// # Errors
+///
+/// The system's.
+fn fill_file(file: &File, bytes: &[u8], changed: Option<Moment>) -> io::Result<()> {
+    let mut writer = file;
+    writer.write_all(bytes)?;
+    match changed.and_then(time_of) {
+        Some(time) => file.set_modified(time),
+        None => Ok(()),
+    }
+}
+
+/// Removes the file that was made at a path, unless something else has come to its place.
+fn remove_made<F: Files<File = File>>(
+    files: &F,
+    path: &str,
+    made: Option<FileId>,
+) -> io::Result<()> {
+    // A link that somebody has put there leads elsewhere, so it isn't followed.
+    let found = file_id(fs::symlink_metadata(files, path));
+    if found.is_some() && found == made {
+        fs::remove_file(files, path)
+    } else {
+        Ok(())
     }
 }

@@ -31,6 +31,15 @@ use volume::VolumeError;
 /// How many blocks of an image are kept in memory while it is served.
 const KEPT_BLOCKS: usize = 256;
 
+/// An image that words name.
+#[derive(Clone, Copy, Debug, PartialEq, Eq)]
+pub(crate) struct NamedImage<'a> {
+    /// Its path.
+    pub(crate) path: &'a str,
+    /// Its form.
+    pub(crate) form: Form,
+}
+
 /// The volume of a new image.
 #[derive(Clone, Copy, Debug, PartialEq, Eq)]
 pub(crate) struct NewVolume {
@@ -40,6 +49,19 @@ pub(crate) struct NewVolume {
     pub(crate) form: Form,
     /// Its layout.
     pub(crate) layout: Layout,
+}
+
+impl NewVolume {
+    /// A volume of this layout on an image of this form, which has this many blocks.
+    pub(crate) fn new(blocks: u32, form: Form, layout: Layout) -> Self
+        ensures { result ≡ record { blocks = blocks; form = form; layout = layout } }
+    {
+        NewVolume {
+            blocks,
+            form,
+            layout,
+        }
+    }
 }
 
 /// Why an image isn't served, and what is left of its disk.

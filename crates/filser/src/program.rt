@@ -22,8 +22,10 @@ ghost use Rattle.filser.specs.declared.status.Status.TheVariants.{Done, BadArgum
 
 use crate::convert::{Conversion, convert_image};
 use crate::escaped::EscapedLines;
+use crate::exporting::export_image;
 use crate::fault::{report, tell_fault, tell_no_memory};
-use crate::image::{NewVolume, make_image};
+use crate::image::{NamedImage, NewVolume, make_image};
+use crate::importing::import_image;
 use crate::lines::LineReader;
 use crate::migrating::migrate_image;
 use crate::outcome::Outcome;
@@ -292,40 +294,32 @@ fn perform<H: Host, R: Read, W: Write, E: Write>(
     match *asked {
         Request::Fresh => on_memory(serve_fresh(alloc, reader, writer, errors), leaves),
         Request::Init(path, blocks, form, layout) => {
-            let volume = NewVolume {
-                blocks,
-                form,
-                layout,
-            };
+            let volume = NewVolume::new(blocks, form, layout);
             let made = init_image(host, path, &volume, leaves.new, writer, errors);
             on_new(made, leaves.image)
         }
         Request::Work(path, form, task) => {
-            let served = serve_image(
-                host,
-                alloc,
-                path,
-                form,
-                leaves.image,
-                task,
-                reader,
-                writer,
-                errors,
-            );
+            let leave = leaves.image;
+            let served = serve_image(host, alloc, path, form, leave, task, reader, writer, errors);
             on_image(served, leaves.new)
         }
         Request::Convert(path, new, form) => {
-            let conversion = Conversion {
-                path,
-                form,
-                new,
-                telling,
-            };
+            let conversion = Conversion::new(path, form, new, telling);
             convert_image(host, alloc, &conversion, leaves, writer, errors)
         }
         Request::Migrate(path, form) => {
             let migrated = migrate_image(host, alloc, path, form, leaves.image, writer, errors);
             on_image(migrated, leaves.new)
+        }
+        Request::Import(path, form, ref task) => {
+            let image = NamedImage { path, form };
+            let imported = import_image(host, alloc, &image, leaves.image, task, writer, errors);
+            on_image(imported, leaves.new)
+        }
+        Request::Export(path, form, ref task) => {
+            let image = NamedImage { path, form };
+            let exported = export_image(host, alloc, &image, leaves.image, task, writer, errors);
+            on_image(exported, leaves.new)
         }
     }
 }

@@ -1,12 +1,13 @@
-ghost use Rattle.std.specs.Prelude.{◌≡◌, ◌≤◌, List, ℕ, [], map, codes, IfOk, MatchOption, option_map, IsErrOf, Err};
-ghost use Rattle.std.specs.Prelude.{◌↔◌, Some, Option, IfSome, IfNone, IsTrue, IsFalse};
-ghost use Rattle.clap.specs.Words.{Row, found_of, rows_of, first_of, subcommand_of, subcommand_rows_of, fault_of};
-ghost use Rattle.clap.specs.Words.{kind_of};
+ghost use Rattle.std.specs.Prelude.{◌≡◌, ◌≢◌, ◌≤◌, List, ℕ, [], map, codes, IfOk, MatchOption, option_map};
+ghost use Rattle.std.specs.Prelude.{IsErrOf, Err, ◌↔◌, Some, None, Option, IfSome, IfNone, IsTrue, IsFalse};
+ghost use Rattle.clap.specs.Words.{Row, all_of, found_of, rows_of, first_of, subcommand_of, subcommand_rows_of};
+ghost use Rattle.clap.specs.Words.{fault_of, kind_of};
 ghost use Rattle.clap.specs.declared.error.Error.{Error as ClapError};
 ghost use Rattle.clap.specs.declared.error.kind.ErrorKind.TheVariants.{OutOfMemory};
 ghost use Rattle.arguments.specs.CommandLine.{command_line};
 ghost use Rattle.filser.specs.Requests.{Asks, IsAsked, IsAt, IsNamedFile};
-ghost use Rattle.filser.specs.Requests.{HasOwned, LacksOwned};
+ghost use Rattle.filser.specs.Requests.{AsksFor, HasOwned, HasOwner, IsExisting, IsExportTask, IsImportTask};
+ghost use Rattle.filser.specs.Requests.{IsOneEncoding, LacksOwned};
 ghost use Rattle.filser.specs.Requests.{IsListedPlace, IsStyle, IsTask, HasForm, HasLayout, HasText};
 ghost use Rattle.filser.specs.Requests.{HasDate, HasNumber, IsFaultIn, IsMistaken, IsUsage, IsWrong, NamesDate};
 ghost use Rattle.filser.specs.Requests.{IsEncoding, NamesEncoding};
@@ -18,17 +19,19 @@ ghost use Rattle.meaning.specs.declared.layout.Layout.{Layout as Layouts};
 ghost use Rattle.filser.specs.declared.task.NamedFile.{NamedFile as NamedFiles};
 ghost use Rattle.filser.specs.declared.task.Task.{Task as Tasks};
 ghost use Rattle.meaning.specs.declared.encoding.Encoding.{Encoding as Encodings};
+ghost use Rattle.collection.specs.declared.task.ExportTask.{ExportTask as ExportTasks};
+ghost use Rattle.collection.specs.declared.task.ImportTask.{ImportTask as ImportTasks};
 ghost use Rattle.filser.specs.declared.asked.Request.{Request as Asked};
 ghost use Rattle.filser.specs.declared.error.RequestError.TheVariants.{Usage, BadArgument};
 ghost use Rattle.filser.specs.declared.error.WrongArgument.{WrongArgument as WrongArguments};
 ghost use Rattle.filser.specs.declared.error.WrongArgument.TheVariants as wrong;
 ghost use Rattle.clap.specs.declared.error.kind.ErrorKind.TheVariants.{ValueValidation};
 
-use crate::{NamedFile, Request, RequestError, Task, WrongArgument};
+use crate::{ExportTask, ImportTask, NamedFile, Request, RequestError, Task, WrongArgument};
 use arguments::command_line;
 use clap::error::ErrorKind;
 use clap::{ArgMatches, Error};
-use commands::{Encoding, Style, date_named, file_named, owner_named};
+use commands::{Encoding, Existing, Style, date_named, file_named, owner_named};
 use imagefile::Form;
 use meaning::layout::Layout;
 use std::alloc::{AllocError, Global};
@@ -64,9 +67,10 @@ pub fn request<'a>(alloc: Global, words: &'a [&'a str]) -> Result<Request<'a>, R
         Ok(matches) => matches,
         Err(error) => return Err(refusal(error)),
     };
-    match matched(&matches) {
-        Some(request) => Ok(request),
-        None => Err(unmatched(alloc, &matches)),
+    match matched(alloc, &matches) {
+        Ok(Some(request)) => Ok(request),
+        Ok(None) => Err(unmatched(alloc, &matches)),
+        Err(_) => Err(RequestError::NoMemory),
     }
 }
 
@@ -82,18 +86,81 @@ fn refusal<'a>(error: Error) -> RequestError<'a>
 }
 
 /// What the matches ask for.
-fn matched<'a>(matches: &ArgMatches<'a>) -> Option<Request<'a>>
-    ensures { MatchOption result ((r : Asked) → Asks (subcommand_rows_of matches.entry.now) r
-        → ⊥) (λ r. Asks (subcommand_rows_of matches.entry.now) r) }
+fn matched<'a>(alloc: Global, matches: &ArgMatches<'a>) -> Result<Option<Request<'a>>, AllocError>
+    ensures { IfOk result (λ found. MatchOption found ((r : Asked) → Asks (subcommand_rows_of matches.entry.now) r
+        → ⊥) (λ r. Asks (subcommand_rows_of matches.entry.now) r)) }
 {
     match matches.subcommand() {
-        Some((name, inner)) => subcommand(name, inner),
-        None => Some(Request::Fresh),
+        Some((name, inner)) => subcommand(alloc, name, inner),
+        None => Ok(Some(Request::Fresh)),
     }
 }
 
 /// What a subcommand with its matches asks for.
-fn subcommand<'a>(name: &'a str, matches: &ArgMatches<'a>) -> Option<Request<'a>>
+fn subcommand<'a>(
+    alloc: Global,
+    name: &'a str,
+    matches: &ArgMatches<'a>,
+) -> Result<Option<Request<'a>>, AllocError>
+    ensures { IfOk result (λ found. MatchOption found ((r : Asked)
+        → IsAsked name.entry.now (rows_of (found_of matches.entry.now)) r → ⊥)
+        (IsAsked name.entry.now (rows_of (found_of matches.entry.now)))) }
+{
+    match name {
+        "import" => import(alloc, matches),
+        _ => Ok(other_than_import(name, matches)),
+    }
+}
+
+/// What `import` with its matches asks for.
+fn import<'a>(alloc: Global, matches: &ArgMatches<'a>) -> Result<Option<Request<'a>>, AllocError>
+    ensures { IfOk result (λ found. MatchOption found ((r : Asked)
+        → IsAsked (codes "import") (rows_of (found_of matches.entry.now)) r → ⊥)
+        (IsAsked (codes "import") (rows_of (found_of matches.entry.now)))) }
+{
+    match texts(matches, "FILE") {
+        Some(paths) => Ok(import_of(matches, paths.to_vec(alloc)?)),
+        None => Ok(None),
+    }
+}
+
+/// What `import` with its matches asks for, if these are its files.
+fn import_of<'a>(matches: &ArgMatches<'a>, paths: Vec<&'a str>) -> Option<Request<'a>>
+    requires { all_of (codes "FILE") (rows_of (found_of matches.now)) ≡ Some (map (λ p. p.now) paths.items) }
+    ensures { MatchOption result ((r : Asked)
+        → IsAsked (codes "import") (rows_of (found_of matches.entry.now)) r → ⊥)
+        (IsAsked (codes "import") (rows_of (found_of matches.entry.now))) }
+{
+    let path = text(matches, "IMAGE")?;
+    let form = form(matches)?;
+    let Some(task) = import_task(matches, paths) else {
+        return None;
+    };
+    Some(Request::Import(path, form, task))
+}
+
+/// The task of `import` on these files.
+fn import_task<'a>(matches: &ArgMatches<'a>, paths: Vec<&'a str>) -> Option<ImportTask<'a>>
+    requires { all_of (codes "FILE") (rows_of (found_of matches.now)) ≡ Some (map (λ p. p.now) paths.items) }
+    ensures { MatchOption result ((t : ImportTasks) → IsImportTask (rows_of (found_of matches.entry.now)) t → ⊥)
+        (IsImportTask (rows_of (found_of matches.entry.now))) }
+{
+    let owner = directory(matches)?;
+    let encoding = one_encoding(matches)?;
+    let moment = moment(matches)?;
+    Some(ImportTask {
+        owner,
+        paths,
+        encoding,
+        moment,
+        dated: given(matches, "dates"),
+        shortens: given(matches, "shorten"),
+    })
+}
+
+/// What a subcommand other than `import` with its matches asks for.
+fn other_than_import<'a>(name: &'a str, matches: &ArgMatches<'a>) -> Option<Request<'a>>
+    requires { name.now ≢ codes "import" }
     ensures { MatchOption result ((r : Asked) → IsAsked name.entry.now (rows_of (found_of matches.entry.now)) r
         → ⊥) (IsAsked name.entry.now (rows_of (found_of matches.entry.now))) }
 {
@@ -106,8 +173,30 @@ fn subcommand<'a>(name: &'a str, matches: &ArgMatches<'a>) -> Option<Request<'a>
         }
         "convert" => Some(Request::Convert(image, text(matches, "NEW")?, form)),
         "migrate" => Some(Request::Migrate(image, form)),
+        "export" => {
+            let Some(task) = export_task(matches) else {
+                return None;
+            };
+            Some(Request::Export(image, form, task))
+        }
         _ => Some(Request::Work(image, form, task(name, matches)?)),
     }
+}
+
+/// The task of `export`.
+fn export_task<'a>(matches: &ArgMatches<'a>) -> Option<ExportTask<'a>>
+    ensures { MatchOption result ((t : ExportTasks) → IsExportTask (rows_of (found_of matches.entry.now)) t → ⊥)
+        (IsExportTask (rows_of (found_of matches.entry.now))) }
+{
+    let folder = text(matches, "FOLDER")?;
+    let owner = place(matches)?;
+    let encoding = one_encoding(matches)?;
+    Some(ExportTask {
+        folder,
+        owner,
+        encoding,
+        lists: given(matches, "list"),
+    })
 }
 
 /// The form of the image.
@@ -141,7 +230,10 @@ fn task(name: &str, matches: &ArgMatches) -> Option<Task>
         "run" => Some(Task::Run(moment(matches)?)),
         "calls" => Some(Task::Calls(moment(matches)?)),
         "wire" => Some(Task::Wire),
-        "put" => Some(Task::Put(named(matches)?, moment(matches)?)),
+        "put" => {
+            let file = named(matches)?;
+            Some(Task::Put(file, existing(matches), moment(matches)?))
+        }
         "get" => Some(Task::Get(named(matches)?, moment(matches)?)),
         "delete" => {
             let (owner, name) = owned(matches)?;
@@ -249,8 +341,8 @@ fn wrong_argument<'a>(matches: &ArgMatches<'a>) -> Option<WrongArgument<'a>>
     if let Some(text) = wrong_name(matches) {
         return Some(WrongArgument::Name(text));
     }
-    if has_both(matches) {
-        return Some(WrongArgument::Encodings);
+    if let Some((one, other)) = two_encodings(matches) {
+        return Some(WrongArgument::Encodings(one, other));
     }
     if let Some(text) = wrong_date(matches) {
         return Some(WrongArgument::Date(text));
@@ -321,12 +413,20 @@ fn style(matches: &ArgMatches) -> Style
     }
 }
 
+/// The directory that is given.
+fn directory(matches: &ArgMatches) -> Option<Ppn>
+    ensures { MatchOption result ((owner : ℕ) → HasOwner (rows_of (found_of matches.now)) owner → ⊥)
+        (HasOwner (rows_of (found_of matches.now))) }
+{
+    owner_named(text(matches, "PPN")?.as_bytes())
+}
+
 /// The owner and the name that are given.
 fn owned(matches: &ArgMatches) -> Option<(Ppn, FileName)>
     ensures { MatchOption result (LacksOwned (rows_of (found_of matches.now)))
         (λ file. HasOwned (rows_of (found_of matches.now)) file.0 file.1) }
 {
-    let owner = owner_named(text(matches, "PPN")?.as_bytes())?;
+    let owner = directory(matches)?;
     let name = file_named(text(matches, "NAME")?.as_bytes())?;
     Some((owner, name))
 }
@@ -350,7 +450,7 @@ fn encoding(matches: &ArgMatches) -> Option<Encoding>
     ensures { MatchOption result ((e : Encodings) → IsEncoding (rows_of (found_of matches.now)) e → ⊥)
         (IsEncoding (rows_of (found_of matches.now))) }
 {
-    if has_both(matches) {
+    if both_given(matches, "bytes", "words") {
         return None;
     }
     if given(matches, "words") {
@@ -362,13 +462,69 @@ fn encoding(matches: &ArgMatches) -> Option<Encoding>
     Some(Encoding::Characters)
 }
 
-/// Whether words and bytes of eight bits are asked for at once.
-fn has_both(matches: &ArgMatches) -> bool
-    ensures both { IsTrue result → IsWrong (rows_of (found_of matches.now)) wrong.Encodings }
-    ensures one { IsFalse result → NamesEncoding (rows_of (found_of matches.now)) }
+/// What becomes of a file that has the name of one that is put.
+fn existing(matches: &ArgMatches) -> Existing
+    ensures { IsExisting (rows_of (found_of matches.now)) result }
 {
+    if given(matches, "new") {
+        Existing::Refuse
+    } else {
+        Existing::Replace
+    }
+}
+
+/// What the bytes of files say, if it is asked for by one flag.
+fn one_encoding(matches: &ArgMatches) -> Option<Option<Encoding>>
+    ensures { MatchOption result ((e : Option Encodings) → IsOneEncoding (rows_of (found_of matches.now)) e → ⊥)
+        (IsOneEncoding (rows_of (found_of matches.now))) }
+{
+    match two_encodings(matches) {
+        Some(_) => None,
+        None => Some(first_encoding(matches)),
+    }
+}
+
+/// An encoding that is asked for.
+fn first_encoding(matches: &ArgMatches) -> Option<Encoding>
+    ensures some { IfSome result (AsksFor (rows_of (found_of matches.now))) }
+    ensures none { IfNone result ((e : Encodings) → AsksFor (rows_of (found_of matches.now)) e → ⊥) }
+{
+    if given(matches, "text") {
+        return Some(Encoding::Characters);
+    }
     if given(matches, "words") {
-        given(matches, "bytes")
+        return Some(Encoding::Words);
+    }
+    if given(matches, "bytes") {
+        return Some(Encoding::Octets);
+    }
+    None
+}
+
+/// Two encodings that are asked for at once.
+fn two_encodings(matches: &ArgMatches) -> Option<(Encoding, Encoding)>
+    ensures some { IfSome result (λ both. IsWrong (rows_of (found_of matches.now)) (wrong.Encodings both.0 both.1)) }
+    ensures none { IfNone result (NamesEncoding (rows_of (found_of matches.now))) }
+{
+    if both_given(matches, "text", "words") {
+        return Some((Encoding::Characters, Encoding::Words));
+    }
+    if both_given(matches, "text", "bytes") {
+        return Some((Encoding::Characters, Encoding::Octets));
+    }
+    if both_given(matches, "words", "bytes") {
+        return Some((Encoding::Words, Encoding::Octets));
+    }
+    None
+}
+
+/// Whether two flags are given.
+fn both_given(matches: &ArgMatches, one: &str, other: &str) -> bool
+    ensures { IsTrue result ↔ HasText (rows_of (found_of matches.now)) one.now (codes "true")
+        × HasText (rows_of (found_of matches.now)) other.now (codes "true") }
+{
+    if given(matches, one) {
+        given(matches, other)
     } else {
         false
     }
@@ -390,6 +546,14 @@ fn text<'a>(matches: &ArgMatches<'a>, id: &str) -> Option<&'a str>
         → ⊥) (λ t. HasText (rows_of (found_of matches.now)) id.now t.now) }
 {
     matches.get_str(id)
+}
+
+/// All texts of an argument, in their order.
+fn texts<'b, 'a>(matches: &'b ArgMatches<'a>, id: &str) -> Option<&'b [&'a str]>
+    ensures { MatchOption result (all_of id.now (rows_of (found_of matches.entry.now)) ≡ None)
+        (λ s. all_of id.now (rows_of (found_of matches.entry.now)) ≡ Some (map (λ t. t.now) s.now)) }
+{
+    matches.get_strs(id)
 }
 
 /// The number of an argument, where it lies in its range.

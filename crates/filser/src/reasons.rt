@@ -1,16 +1,17 @@
+use crate::Status;
 use crate::fault::{report, tell_no_memory};
-use crate::{Status, Task};
 use commands::{Misfit, Reason, RefusedLines, SessionError, Tally};
 use std::io::Write;
 use volume::Layout;
+use words36::Moment;
 
 /// What lines and files come from, as people are told.
 const INPUT: &str = "standard input";
 
-/// Tells people that every call will be refused, if the date of a task is past those of the volume. A task has no date
+/// Tells people that every call will be refused, if the date that is asked for is past those of the volume. None is
 /// past those of layout 2, so the day that is told is the last one of layout 1.
-pub(crate) fn tell_late_date<E: Write>(errors: &mut E, task: &Task, layout: Layout) {
-    let Some(at) = task.moment() else {
+pub(crate) fn tell_late_date<E: Write>(errors: &mut E, moment: Option<Moment>, layout: Layout) {
+    let Some(at) = moment else {
         return;
     };
     let date = at.date;

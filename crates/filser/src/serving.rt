@@ -16,7 +16,7 @@ use crate::reasons::{tell_ending, tell_late_date};
 use crate::{Disks, Host, ImageDisks, OpeningLeave, Refusal, Run, Seen, Status, Task};
 use blockdisk::{Disk, MemDisk};
 use commands::{
-    Monitor, SessionError, Tally, Volume, check, delete, get, list, put, script, session,
+    Monitor, Put, SessionError, Tally, Volume, check, delete, get, list, put, script, session,
 };
 use exchange::serve_wire;
 use imagefile::Form;
@@ -57,7 +57,7 @@ fn status_of(tally: Tally) -> Status
 }
 
 /// The status of a session or a script, which may have broken off.
-fn ending(talked: Result<Tally, SessionError>) -> Status
+pub(crate) fn ending(talked: Result<Tally, SessionError>) -> Status
     ensures ends { IsEnding result talked }
     ensures serving { result ≢ BadArguments }
 {
@@ -89,16 +89,15 @@ fn attend<D: Disk, R: Read, W: Write>(
         Task::Run(at) => session(alloc, reader, writer, monitor, at),
         Task::Calls(at) => script(alloc, reader, writer, monitor, at),
         Task::Wire => serve_wire(alloc, reader, writer, monitor),
-        Task::Put(file, at) => put(
-            alloc,
-            reader,
-            writer,
-            monitor,
-            at,
-            file.owner,
-            file.encoding,
-            file.name,
-        ),
+        Task::Put(file, existing, at) => {
+            let file = Put {
+                owner: file.owner,
+                name: file.name,
+                encoding: file.encoding,
+                existing,
+            };
+            put(alloc, reader, writer, monitor, at, &file)
+        }
         Task::Get(file, at) => get(
             alloc,
             writer,
@@ -131,7 +130,7 @@ fn serve<D: Disk + Drop, R: Read, W: Write, E: Write>(
 {
     match Monitor::start(alloc, disk) {
         Ok(mut monitor) => {
-            tell_late_date(errors, &task, monitor.layout());
+            tell_late_date(errors, task.moment(), monitor.layout());
             let attended = attend(alloc, task, reader, writer, &mut monitor);
             let status = ending(attended);
             tell_ending(errors, status, &attended);

@@ -1,5 +1,5 @@
 use crate::Access;
-use commands::{Encoding, Style};
+use commands::{Encoding, Existing, Style};
 use words36::{FileName, Moment, Ppn};
 
 /// A file as the words of a command line name it, and what the bytes are that it is put from or got as.
@@ -22,8 +22,8 @@ pub enum Task {
     Calls(Moment),
     /// `wire`: serve the orders of the input.
     Wire,
-    /// `put`: make a file of the input.
-    Put(NamedFile, Moment),
+    /// `put`: make a file of the input, and what becomes of one that has its name.
+    Put(NamedFile, Existing, Moment),
     /// `get`: print a file.
     Get(NamedFile, Moment),
     /// `delete`: delete a file, which is in the directory of this owner.
@@ -38,7 +38,7 @@ impl Task {
     /// The moment of what is written, if the task has one.
     pub fn moment(&self) -> Option<Moment> {
         match self {
-            Task::Run(at) | Task::Calls(at) | Task::Put(_, at) | Task::Get(_, at) => Some(*at),
+            Task::Run(at) | Task::Calls(at) | Task::Put(_, _, at) | Task::Get(_, at) => Some(*at),
             Task::Wire | Task::Delete(_, _) | Task::List(_, _) | Task::Check => None,
         }
     }
@@ -47,7 +47,7 @@ impl Task {
     pub fn access(&self) -> Access {
         match self {
             Task::Get(_, _) | Task::List(_, _) | Task::Check => Access::Read,
-            Task::Run(_) | Task::Calls(_) | Task::Wire | Task::Put(_, _) | Task::Delete(_, _) =>
+            Task::Run(_) | Task::Calls(_) | Task::Wire | Task::Put(_, _, _) | Task::Delete(_, _) =>
                 Access::Write,
         }
     }

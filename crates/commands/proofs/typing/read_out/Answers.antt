@@ -6,7 +6,7 @@ returns-in-Ok g c =
     typed_out g.S.FileService.machine (λ bytes. bytes.items) c.tell.result _ _ _ c.args.moment c.args.encoding
     c.args.spec c.args.tally.now c.tell.new.tally c.type_file-read.result c.new-typed.result
     c.type_file-read.new.typed c.type_file-read.ensures c.reset.ensures
-    c.in-Ok.field-0 c.in-Ok.is c.new-typed.ensures (c.tell.ensures c.args.encoding)
+    c.in-Ok.field-0 c.in-Ok.is c.new-typed.ensures c.tell.ensures
 
 pub returns-in-Err : goal.returns-in-Err
 returns-in-Err g c =

@@ -12,11 +12,11 @@ returns-in_err-moment-in-calls c =
     rw c.from_residual-in_err-moment-in-calls.ensures
     (no_calls c.args.name.now (rows_of (found_of c.args.matches.now)) c.in-calls.is c.in_err-moment-in-calls.ensures)
 
-pub returns-in_err-named-in-put : goal.returns-in_err-named-in-put
-returns-in_err-named-in-put c =
-    rw c.from_residual-in_err-named-in-put.ensures
+pub returns-in_err-file-in-put : goal.returns-in_err-file-in-put
+returns-in_err-file-in-put c =
+    rw c.from_residual-in_err-file-in-put.ensures
     (no_put c.args.name.now (rows_of (found_of c.args.matches.now)) c.in-put.is
-    (λ f at named is. c.in_err-named-in-put.ensures f named))
+    (λ f at named is. c.in_err-file-in-put.ensures f named))
 
 pub returns-in_err-moment-in-put : goal.returns-in_err-moment-in-put
 returns-in_err-moment-in-put c =

@@ -1,6 +1,6 @@
 use Rattle.clap.specs.Words.{found_of, rows_of}
 use Rattle.filser.proofs.Matching.{no_init, no_layout}
-use Rattle.filser.proofs.reading.subcommand.Goals as goal
+use Rattle.filser.proofs.reading.other_than_import.Goals as goal
 
 pub returns-in_err-blocks-in-init : goal.returns-in_err-blocks-in-init
 returns-in_err-blocks-in-init c =

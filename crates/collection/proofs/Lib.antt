@@ -1,0 +1,4 @@
+mod Going
+mod NamingLaws
+mod Moving
+mod EachLaws

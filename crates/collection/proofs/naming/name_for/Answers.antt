@@ -1,0 +1,20 @@
+use Rattle.std.proofs.Common.{ℕ, List, Some, IfNone, map, subst, sym, ◌∙◌}
+use Rattle.words36.specs.declared.names.FileName.{FileName}
+use Rattle.meaning.specs.Lines.{upper}
+use Rattle.commands.specs.Files.{IsFileName}
+use Rattle.collection.specs.Naming.{IsOwnText}
+use Rattle.collection.proofs.NamingLaws.{apart, no_name, ok_none_then}
+use Rattle.collection.proofs.naming.name_for.Goals as goal
+
+pub returns-in-None-clause-none : goal.returns-in-None-clause-none
+returns-in-None-clause-none c = ok_none_then c.short_name.result
+    (λ short. no_name c.args.shortens c.args.path.now
+    (subst (λ o. IfNone o ((text : List ℕ) (file : FileName) → IsOwnText c.args.path.now (Some text)
+    → IsFileName (map upper text) file.name file.ext → ⊥)) c.in-None.is c.in_ok-named.ensures.none)
+    (λ wanted. short)) c.short_name.ensures.none
+
+pub returns-in-None-2-clause-none : goal.returns-in-None-2-clause-none
+returns-in-None-2-clause-none c = no_name c.args.shortens c.args.path.now
+    (subst (λ o. IfNone o ((text : List ℕ) (file : FileName) → IsOwnText c.args.path.now (Some text)
+    → IsFileName (map upper text) file.name file.ext → ⊥)) c.in-None.is c.in_ok-named.ensures.none)
+    (λ wanted. absurd (apart (sym wanted ∙ c.if-shortens.false)))

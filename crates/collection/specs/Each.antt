@@ -1,0 +1,33 @@
+-- One thing after the other is done, each with a result that is counted, until one ends the run.
+use Rattle.std.specs.Prelude.{◌≡◌, ◌||◌, ℕ, false, List, [], ◌∷◌, Option, None, Result, Ok, Err, MatchResult}
+use Rattle.meaning.specs.Plans.{Act}
+use Rattle.commands.specs.Machines.{GoesBy, Machine}
+use Rattle.commands.specs.declared.answer.Tally.{Tally}
+use Rattle.commands.specs.declared.error.SessionError.{SessionError}
+
+-- nothing was counted yet
+abbrev pub none_counted : Tally
+none_counted = record { refused = false; broke = false; reason = None }
+
+-- what was counted so far, with what was counted of one thing more; no reason is kept
+abbrev pub added : Tally → Tally → Tally
+added tally one = record {
+  refused = tally.refused || one.refused;
+  broke = tally.broke || one.broke;
+  reason = None;
+}
+
+-- What is said of one thing by the writer and the service before and after it, and its result, was done with each of
+-- these, in their order, after others of which this was counted. A result that is no tally ends the run.
+abbrev pub EachDone : {X S : Type 0} → (X → Option (List ℕ) → Option (List ℕ) → S → S → Result Tally SessionError
+    → Type 0) → List X → Tally → Option (List ℕ) → Option (List ℕ) → S → S → Result Tally SessionError → Type 0
+EachDone step [] tally sink full old new result = (full ≡ sink) × (new ≡ old) × (result ≡ Ok tally)
+EachDone {S = S} step (x ∷ xs) tally sink full old new result =
+    (one : Result Tally SessionError) × (middle : Option (List ℕ)) × (mid : S) × step x sink middle old mid one
+    × MatchResult one (λ counted. EachDone step xs (added tally counted) middle full mid new result)
+    (λ error. (full ≡ middle) × (new ≡ mid) × (result ≡ Err error))
+
+-- The service went from one value to another by some acts, moment by moment.
+pub record Goes {S : Type 0} (machine : S → Machine) (old new : S) : Type 0 where
+  pub acts : List Act
+  pub goes : GoesBy machine old new acts

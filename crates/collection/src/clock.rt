@@ -1,0 +1,114 @@
+ghost use Rattle.std.specs.Prelude.{◌≡◌, ◌≤◌, ◌+◌, ◌*◌, IfSome, IfNone, ℕ, pos, ◌*ℤ◌};
+ghost use Rattle.jiff_core.specs.Timestamp.{IsTimestampNanos};
+ghost use Rattle.collection.specs.Clock.{IsAtSecond, IsDayAt, IsShownAt, IsUndated, at_first};
+
+use jiff_core::civil::{Date, DateTime, Time};
+use jiff_core::{Offset, Timestamp};
+use words36::{Moment, date_of, day_of};
+
+/// How many nanoseconds a second has.
+const NANOSECONDS: i128 = 1_000_000_000;
+
+/// How many minutes an hour has.
+const HOUR: u32 = 60;
+
+/// What the calendar shows at a second, if that is near enough.
+fn shown_at(second: i64) -> Option<DateTime>
+    ensures some { IfSome result (IsShownAt second) }
+    ensures none { IfNone result (IsTimestampNanos (second *ℤ pos 1_000_000_000) → ⊥) }
+{
+    match Timestamp::from_nanosecond(i128::from(second) * NANOSECONDS) {
+        Ok(instant) => Some(Offset::UTC.to_datetime(instant)),
+        Err(_) => None,
+    }
+}
+
+/// The second at which the calendar shows this, if it is the beginning of one.
+fn second_at(shown: DateTime) -> Option<i64>
+    ensures { IfSome result (λ second. IsShownAt second shown) }
+{
+    let instant = Offset::UTC.to_timestamp(shown).ok()?;
+    let second = i64::try_from(instant.nanosecond / NANOSECONDS).ok()?;
+    if i128::from(second) * NANOSECONDS == instant.nanosecond {
+        Some(second)
+    } else {
+        None
+    }
+}
+
+/// The number of a day of the calendar, if a file can have it.
+fn number_of(day: Date) -> Option<u32>
+    ensures some { IfSome result (IsDayAt day) }
+    ensures none { IfNone result ((number : ℕ) → IsDayAt day number → ⊥) }
+{
+    if day.year < 0 {
+        return None;
+    }
+    match date_of(day.year as u32, u32::from(day.month), u32::from(day.day)) {
+        Ok(number) => Some(number),
+        Err(_) => None,
+    }
+}
+
+/// The day of the calendar that has this number, if there is one.
+fn calendar_day(number: u32) -> Option<Date>
+    ensures { IfSome result (λ day. IsDayAt day number) }
+{
+    let day = day_of(number).ok()?;
+    Date::new(day.year as i16, day.month as i8, day.day as i8).ok()
+}
+
+/// The minute of a time of day.
+fn minute_of(time: Time) -> u32
+    ensures value { result ≡ 60 * time.hour + time.minute }
+    ensures few { result ≤ 1439 }
+{
+    HOUR * u32::from(time.hour) + u32::from(time.minute)
+}
+
+/// The moment of a date and a minute.
+fn moment_at(date: u32, minute: u32) -> Moment
+    requires date { date ≤ 32767 }
+    requires minute { minute ≤ 1439 }
+    ensures date { result.date ≡ date }
+    ensures minute { result.minute ≡ minute }
+{
+    Moment::new(date, minute).unwrap()
+}
+
+/// The moment of a second, counted from the beginning of 1970 in UTC, if a file can have its date.
+pub fn moment_of(second: i64) -> Option<Moment>
+    ensures some { IfSome result (IsAtSecond second) }
+    ensures none { IfNone result (IsUndated second) }
+{
+    let shown = shown_at(second)?;
+    match number_of(shown.date) {
+        Some(date) => Some(moment_at(date, minute_of(shown.time))),
+        None => None,
+    }
+}
+
+/// The time of day at the beginning of a minute.
+fn time_of(minute: u32) -> Option<Time>
+    requires { minute ≤ 1439 }
+    ensures { IfSome result (λ time. minute ≡ 60 * time.hour + time.minute) }
+{
+    Time::new((minute / HOUR) as i8, (minute % HOUR) as i8, 0, 0).ok()
+}
+
+/// The first second of a moment, counted from the beginning of 1970 in UTC, if its date is a day of the calendar.
+pub fn second_of(moment: Moment) -> Option<i64>
+    ensures { IfSome result (λ second. IsAtSecond second moment) }
+{
+    let date = calendar_day(moment.date)?;
+    let time = time_of(moment.minute)?;
+    let second = second_at(DateTime { date, time })?;
+    Some(second)
+}
+
+/// The moment of calls for which none counts: date 0, minute 0.
+pub(crate) fn first_moment() -> Moment
+    ensures { at_first result }
+{
+    Moment::new(0, 0).unwrap()
+}

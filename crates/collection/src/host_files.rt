@@ -1,0 +1,38 @@
+ghost use Rattle.collection.specs.HostFacts.{FileFacts};
+
+use crate::Source;
+use std::alloc::Global;
+use std::io;
+use words36::Moment;
+
+/// What is done with files of the host that are no images: they are read whole, and new ones are made. No file that is
+/// there is changed or removed.
+pub trait HostFiles {
+    ghost files: { Self → FileFacts };
+
+    /// Reads the file at a path to its end, or until it has more bytes than `most`.
+    ///
+    /// # Errors
+    ///
+    /// The system's, and `OutOfMemory` if its bytes find no room.
+    fn read(&self, alloc: Global, path: &str, most: usize) -> io::Result<Source>
+        ensures { (files self.now).read path.now most result };
+
+    /// Makes a folder at a path, unless there is one.
+    ///
+    /// # Errors
+    ///
+    /// The system's. Its parent has to be there.
+    fn make_folder(&self, path: &str) -> io::Result<()>
+        ensures { (files self.now).folder path.now result };
+
+    /// Makes a file of these bytes at a path where there is none. It was last changed at this moment, in UTC, if one is
+    /// given, and the system has such files.
+    ///
+    /// # Errors
+    ///
+    /// The system's: `AlreadyExists` if something has that name, which is left alone. If the bytes can't be written,
+    /// the file that was made is removed.
+    fn store(&self, path: &str, bytes: &[u8], changed: Option<Moment>) -> io::Result<()>
+        ensures { (files self.now).stored path.now bytes.now changed result };
+}

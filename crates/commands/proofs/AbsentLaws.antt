@@ -1,0 +1,71 @@
+-- Files that must not be there, and what comes before a file is entered.
+use Rattle.std.proofs.Common.{◌≡◌, ℕ, zero, suc, Bool, false, nat_eq, if◌then◌else◌, List, Some, None, Result}
+use Rattle.std.proofs.Common.{refl, sym, ap, subst, arith}
+use Rattle.std.proofs.lemmas.Bool.Decides.{nat_tests}
+use Rattle.words36.specs.declared.moment.Moment.{Moment}
+use Rattle.meaning.specs.Errands.{creates, enters, unfit}
+use Rattle.meaning.specs.Plans.{Plan, Ask, Say, calls, each, ends, fails, file_words, ok}
+use Rattle.meaning.specs.Texts.{complains}
+use Rattle.meaning.specs.declared.call.Call.TheVariants.{Lookup}
+use Rattle.meaning.specs.declared.call.Event.{Event}
+use Rattle.meaning.specs.declared.call.Reply.{Reply}
+use Rattle.meaning.specs.declared.call.Reply.TheVariants.{Done, Value, Refused, Stopped, NoChannel, AddressCheck, NoJob}
+use Rattle.meaning.specs.declared.call.Reply.TheVariants.{NoMemory, Device, Failed, DateRange}
+use Rattle.meaning.specs.declared.command.Spec.{Spec}
+use Rattle.meaning.specs.declared.encoding.Encoding.{Encoding}
+use Rattle.commands.specs.Asking.{Led, followed}
+use Rattle.commands.specs.Errands.{absent, if_absent, keeps_as, looks_for, makes_way}
+use Rattle.commands.specs.Machines.{AlwaysStands, IsAnswered, Machine}
+use Rattle.commands.specs.declared.existing.Existing.{Existing}
+use Rattle.commands.specs.declared.existing.Existing.TheVariants.{Replace, Refuse}
+use Rattle.commands.proofs.LedLaws.{led_asked, led_on}
+use Rattle.commands.proofs.PuttingLaws.{filled_then}
+
+-- another reply than that the file is there, or that there is no such file
+pub if_unsure : (moment : Moment) (next : Plan) (reply : Reply) → (reply ≡ Done → ⊥) → (reply ≡ Refused 0 → ⊥)
+    → if_absent moment next reply ≡ fails moment reply
+if_unsure moment next Done there none = absurd (there refl)
+if_unsure moment next (Value word) there none = refl
+if_unsure moment next (Refused zero) there none = absurd (none refl)
+if_unsure moment next (Refused (suc code)) there none =
+    let other : nat_eq (suc code) 0 ≡ false = grind (arith, nat_tests) in
+    ap (λ (b : Bool). if b then next else fails moment (Refused (suc code))) other
+if_unsure moment next (Stopped status) there none = refl
+if_unsure moment next NoChannel there none = refl
+if_unsure moment next AddressCheck there none = refl
+if_unsure moment next NoJob there none = refl
+if_unsure moment next NoMemory there none = refl
+if_unsure moment next Device there none = refl
+if_unsure moment next Failed there none = refl
+if_unsure moment next DateRange there none = refl
+
+module _ {S : Type 0} (machine : S → Machine) (stands : AlwaysStands machine) (a b c : S) (moment : Moment)
+    (spec : Spec) where
+  module _ (names : List Event) (is : names ≡ looks_for moment spec) (lookup : Event)
+      (is_lookup : lookup ≡ calls moment (Lookup 1 file_words)) (reply : Reply)
+      (named : (m : Moment) (next : Plan) → Led machine a b (each m names next) next)
+      (answered : IsAnswered (machine b) (machine c) lookup reply) where
+    pub looked_up : (result : Result (Unit {0}) Reply)
+        → ((next : Plan) → followed moment result (λ unit. next) ≡ if_absent moment next reply) → (next : Plan)
+        → Led machine a c (absent moment spec next) (followed moment result (λ unit. next))
+    looked_up result says next =
+        let behind : Plan = Ask (calls moment (Lookup 1 file_words)) (if_absent moment next) in
+        subst (λ (l : Plan). Led machine a c (absent moment spec next) l) (sym (says next))
+        (led_on machine a b c (absent moment spec next) behind (if_absent moment next reply)
+        (subst (λ (l : List Event). Led machine a b (each moment l behind) behind) is (named moment behind))
+        (led_asked machine stands b c (calls moment (Lookup 1 file_words)) reply (if_absent moment next)
+        (subst (λ (e : Event). IsAnswered (machine b) (machine c) e reply) is_lookup answered)))
+
+-- The plan of a put, by what becomes of a file that has its name.
+
+pub keeps_some : (existing : Existing) (moment : Moment) (owner : ℕ) (encoding : Encoding) (spec : Spec)
+    (words : List ℕ) → keeps_as existing moment owner encoding spec (Some words)
+    ≡ each moment (enters owner) (makes_way existing moment spec (each moment (creates moment encoding spec)
+    (filled_then moment encoding words (ends moment ok))))
+keeps_some Replace moment owner encoding spec words = refl
+keeps_some Refuse moment owner encoding spec words = refl
+
+pub keeps_none : (existing : Existing) (moment : Moment) (owner : ℕ) (encoding : Encoding) (spec : Spec)
+    → keeps_as existing moment owner encoding spec None ≡ Say (complains (unfit encoding))
+keeps_none Replace moment owner encoding spec = refl
+keeps_none Refuse moment owner encoding spec = refl

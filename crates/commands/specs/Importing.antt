@@ -1,0 +1,44 @@
+-- Files that are made of bytes in memory, each answered behind a label.
+use Rattle.std.specs.Prelude.{◌≡◌, ◌⊎◌, ◌≤◌, ℕ, List, [], ◌++◌, length, Option, Result, Err}
+use Rattle.std.specs.Io.KnownBytes.{Appends}
+use Rattle.meaning.specs.Errands.{AreWords}
+use Rattle.meaning.specs.Plans.{Act, Plan, Ask, Show, Say}
+use Rattle.meaning.specs.Texts.{Spoken}
+use Rattle.meaning.specs.declared.encoding.Encoding.{Encoding}
+use Rattle.commands.specs.Errands.{Performs, TellsMisfit, no_room}
+use Rattle.commands.specs.Machines.{Machine, GoesBy}
+use Rattle.commands.specs.Reasons.{IsTooLong, most_bytes}
+use Rattle.commands.specs.declared.answer.Tally.{Tally}
+use Rattle.commands.specs.declared.error.SessionError.{SessionError}
+use Rattle.commands.specs.declared.error.SessionError.TheVariants.{NoMemory}
+
+-- the same is said behind a label
+abbrev pub said_behind : List ℕ → Spoken → Spoken
+said_behind label said = record { text = label ++ said.text; refused = said.refused; broke = said.broke }
+
+-- the same is asked, and what is said in the end is said behind a label
+abbrev pub labels : List ℕ → Plan → Plan
+labels label (Ask event next) = Ask event (λ reply. labels label (next reply))
+labels label (Show owner next) = Show owner (λ answer. labels label (next answer))
+labels label (Say said) = Say (said_behind label said)
+
+-- The plan for the words that the bytes say was done, or the bytes are too long, and that was said, each behind the
+-- label; or there was no memory for the words, and nothing was done and written.
+abbrev pub Imports : Encoding → List ℕ → (Option (List ℕ) → Plan) → List ℕ → List Act → List ℕ
+    → Result Tally SessionError → Type 0
+Imports encoding label plan bytes acts written result =
+    ((length bytes ≤ most_bytes encoding) × (words : Option (List ℕ)) × AreWords encoding bytes words
+    × Performs (labels label (plan words)) acts written result)
+    ⊎ (IsTooLong encoding bytes × Performs (labels label no_room) acts written result)
+    ⊎ ((result ≡ Err NoMemory) × (acts ≡ []) × (written ≡ []))
+
+-- What was put into the writer for the bytes, and what became of the service.
+pub record Imported {S : Type 0} (sink full : Option (List ℕ)) (machine : S → Machine) (old new : S)
+    (encoding : Encoding) (label bytes : List ℕ) (plan : Option (List ℕ) → Plan) (result : Result Tally SessionError)
+    : Type 0 where
+  pub written : List ℕ
+  pub acts : List Act
+  pub appended : Appends sink full written
+  pub goes : GoesBy machine old new acts
+  pub imports : Imports encoding label plan bytes acts written result
+  pub tells : TellsMisfit encoding bytes result

@@ -1,0 +1,35 @@
+-- Runs on an image that put files of the host or make some.
+use Rattle.std.proofs.Common.{◌≡◌, ◌⊎◌, ◌*◌, ◌∙◌, ⊎_elim, inl, inr, ℕ, List, Option, Result, sym, subst}
+use Rattle.std.specs.Prelude.{None as Nothing}
+use Rattle.blockdisk.specs.Disk.{DiskState}
+use Rattle.imagefile.specs.Began.{BeganAs, begun_image}
+use Rattle.imagefile.specs.Image.{block_length}
+use Rattle.imagefile.specs.Unseen.{Unseen}
+use Rattle.imagefile.specs.declared.form.Form.{Form}
+use Rattle.monitor.specs.States.{MonitorState}
+use Rattle.commands.specs.declared.answer.Tally.{Tally}
+use Rattle.commands.specs.declared.error.SessionError.{SessionError}
+use Rattle.filser.specs.Hosts.{HostFacts, IsOpened}
+use Rattle.filser.specs.Images.{IsWhole}
+use Rattle.filser.specs.ServedDisks.{IsServed, IsUnserved}
+use Rattle.filser.specs.declared.status.Status.{Status}
+use Rattle.filser.proofs.Since.{served_since, unserved_since}
+
+pub run_image : {H I : Type 0} (facts : HostFacts H) (state : I → DiskState) (path : List ℕ) (form : Form) (u : Unseen)
+    (IsTranscript : MonitorState I → MonitorState I → Result Tally SessionError → Type 0) (sink full : Option (List ℕ))
+    (status : Status) (image end : I)
+    → IsOpened facts path u → BeganAs form u (state image) → (state image).failures ≡ 0
+    → (state end).size ≡ (state image).size → ((state end).honest → (state image).honest)
+    → IsServed state (state image) end status IsTranscript
+    ⊎ IsUnserved (state image) (state end) Nothing Nothing sink full status
+    → IsOpened facts path u × IsWhole form u (state end)
+    × (IsServed state (begun_image form (state end).size u) end status IsTranscript
+    ⊎ IsUnserved (begun_image form (state end).size u) (state end) Nothing Nothing sink full status)
+run_image facts state path form u IsTranscript sink full status image end opened began sound size was ran = (
+  opened,
+  record { size = λ h. began.size (was h) ∙ (λ i. block_length form * sym size i) },
+  subst (λ n. IsServed state (begun_image form n u) end status IsTranscript
+      ⊎ IsUnserved (begun_image form n u) (state end) Nothing Nothing sink full status) (sym size)
+      (⊎_elim (λ p. inl (served_since form u (state image) began sound state end status IsTranscript p))
+      (λ p. inr (unserved_since form u (state image) began sound (state end) Nothing Nothing sink full status p)) ran),
+)
