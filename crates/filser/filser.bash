@@ -3,7 +3,7 @@
 # Whether the word at a place is a file or a folder of the host.
 _filser_is_path() {
     case $1 in
-        convert | export) [ "$2" -eq 2 ] || [ "$2" -eq 3 ] ;;
+        convert | export | salvage) [ "$2" -eq 2 ] || [ "$2" -eq 3 ] ;;
         import) [ "$2" -eq 2 ] || [ "$2" -ge 4 ] ;;
         *) [ "$2" -eq 2 ] ;;
     esac
@@ -12,7 +12,7 @@ _filser_is_path() {
 _filser() {
     local word=${COMP_WORDS[COMP_CWORD]} command=${COMP_WORDS[1]-}
     if [ "$COMP_CWORD" -eq 1 ]; then
-        mapfile -t COMPREPLY < <(compgen -W 'init run calls wire put get delete import export list check convert migrate help -h --help -V --version' -- "$word")
+        mapfile -t COMPREPLY < <(compgen -W 'init run calls wire put get delete import export salvage list check convert migrate help -h --help -V --version' -- "$word")
         return
     fi
     local options='--form --help'
@@ -23,13 +23,13 @@ _filser() {
         put) options='--words --bytes --new --date --minute --form --help' ;;
         get) options='--words --bytes --date --minute --form --help' ;;
         import) options='--text --bytes --words --shorten --dates --date --minute --form --help' ;;
-        export) options='--text --bytes --words --list --form --help' ;;
+        export | salvage) options='--text --bytes --words --list --form --help' ;;
         help) options=--help ;;
     esac
     if [[ $word == -* ]]; then
         mapfile -t COMPREPLY < <(compgen -W "$options" -- "$word")
     elif [ "$command" = help ]; then
-        mapfile -t COMPREPLY < <(compgen -W 'init run calls wire put get delete import export list check convert migrate' -- "$word")
+        mapfile -t COMPREPLY < <(compgen -W 'init run calls wire put get delete import export salvage list check convert migrate' -- "$word")
     elif _filser_is_path "$command" "$COMP_CWORD"; then
         compopt -o filenames
         mapfile -t COMPREPLY < <(compgen -f -- "$word")

@@ -125,9 +125,15 @@ import_app = formed (dated (adapted (encoded (gathered (new_app (codes "import")
 unfoldable pub scattered : App → App
 scattered app = with_rule (with_rule app (wanted (codes "IMAGE"))) (wanted (codes "FOLDER"))
 
+-- the same for one directory or all, with what the bytes of files are, and whether files are only listed
+unfoldable pub unloaded : App → App
+unloaded app = with_rule (encoded (with_rule (scattered app) (new_rule (codes "PPN")))) (flag (codes "list"))
+
 unfoldable pub export_app : App
-export_app = formed (with_rule (encoded (with_rule (scattered (new_app (codes "export"))) (new_rule (codes "PPN"))))
-    (flag (codes "list")))
+export_app = formed (unloaded (new_app (codes "export")))
+
+unfoldable pub salvage_app : App
+salvage_app = formed (unloaded (new_app (codes "salvage")))
 
 unfoldable pub list_app : App
 list_app = formed (with_rule (with_rule (with_rule (new_app (codes "list")) (wanted (codes "IMAGE")))
@@ -154,7 +160,7 @@ unfoldable pub filing : App → App
 filing app = with_subcommand (with_subcommand (with_subcommand app put_app.top) get_app.top) delete_app.top
 
 unfoldable pub moving : App → App
-moving app = with_subcommand (with_subcommand app import_app.top) export_app.top
+moving app = with_subcommand (with_subcommand (with_subcommand app import_app.top) export_app.top) salvage_app.top
 
 unfoldable pub looking : App → App
 looking app = with_subcommand (with_subcommand app list_app.top) check_app.top

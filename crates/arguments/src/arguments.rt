@@ -4,7 +4,7 @@ ghost use Rattle.clap.specs.Words.{app_of, new_rule, rule_of, with_rule};
 ghost use Rattle.clap.specs.declared.builder.command.Command.TheViews.{out-Command as fields_of};
 ghost use Rattle.arguments.specs.CommandLine.{adapted, date_rule, dated, encoded, filed, flag, form_rule, formed};
 ghost use Rattle.arguments.specs.CommandLine.{gathered, laid_out, layout_rule, located, numbered, optional, scattered};
-ghost use Rattle.arguments.specs.CommandLine.{several, sized, wanted};
+ghost use Rattle.arguments.specs.CommandLine.{several, sized, unloaded, wanted};
 
 use clap::{Arg, ArgAction, Command};
 use std::alloc::{AllocError, Global};
@@ -270,7 +270,7 @@ pub(crate) fn adapted<'a>(alloc: Global, command: Command<'a>) -> Result<Command
 
 /// A command that writes files of an image to a folder of the host.
 #[tactic(auto, unfolding(crate::specs::CommandLine::scattered))]
-pub(crate) fn scattered<'a>(alloc: Global, command: Command<'a>) -> Result<Command<'a>, AllocError>
+fn scattered<'a>(alloc: Global, command: Command<'a>) -> Result<Command<'a>, AllocError>
     ensures app { IfOk result (λ c. app_of c ≡ scattered (app_of command.entry)) }
     ensures local { IfOk result (λ c. (fields_of c).has_globals ≡ (fields_of command.entry).has_globals) }
 {
@@ -283,8 +283,19 @@ pub(crate) fn scattered<'a>(alloc: Global, command: Command<'a>) -> Result<Comma
     with_argument(command, folder)
 }
 
+/// A command that writes files of an image to a folder of the host: of which directory, what their bytes are, and whether
+/// they are only listed.
+#[tactic(auto, unfolding(crate::specs::CommandLine::unloaded))]
+pub(crate) fn unloaded<'a>(alloc: Global, command: Command<'a>) -> Result<Command<'a>, AllocError>
+    ensures app { IfOk result (λ c. app_of c ≡ unloaded (app_of command.entry)) }
+    ensures local { IfOk result (λ c. (fields_of c).has_globals ≡ (fields_of command.entry).has_globals) }
+{
+    let command = with_argument(scattered(alloc, command)?, place(alloc))?;
+    with_argument(encoded(alloc, command)?, listed(alloc))
+}
+
 /// The flag that files are only listed.
-pub(crate) fn listed<'a>(alloc: Global) -> Arg<'a>
+fn listed<'a>(alloc: Global) -> Arg<'a>
     ensures rule { rule_of result ≡ flag (codes "list") }
     ensures local { result.global ≡ false }
 {

@@ -6,11 +6,11 @@ ghost use Rattle.clap.specs.declared.builder.command.Command.TheViews.{out-Comma
 ghost use Rattle.arguments.specs.CommandLine.{calls_app, check_app, command_line, convert_app, converting};
 ghost use Rattle.arguments.specs.CommandLine.{delete_app, export_app, filing, get_app, import_app, init_app, list_app};
 ghost use Rattle.arguments.specs.CommandLine.{looking, making, migrate_app, moving, put_app, run_app};
-ghost use Rattle.arguments.specs.CommandLine.{serving, versioned, wire_app};
+ghost use Rattle.arguments.specs.CommandLine.{salvage_app, serving, versioned, wire_app};
 
 use crate::arguments::{
-    about, adapted, dated, encoded, filed, formed, fresh, gathered, laid_out, listed, located,
-    place, scattered, shown, sized, tsv, wanted, with_argument,
+    about, adapted, dated, encoded, filed, formed, fresh, gathered, laid_out, located, place,
+    shown, sized, tsv, unloaded, wanted, with_argument,
 };
 use clap::Command;
 use std::alloc::{AllocError, Global};
@@ -75,6 +75,14 @@ back its words.
 
 Example:
   filser export DISK.IMG backup 10,20";
+
+/// The text below the arguments of `salvage` in its help.
+const SALVAGE_NOTES: &str = "\
+Nothing is written to the image. A fault costs the file that is named beside it;
+all others are written, as export writes them.
+
+Example:
+  filser salvage DISK.IMG saved";
 
 /// A command with one more subcommand.
 fn with_one<'a>(command: Command<'a>, subcommand: Command<'a>) -> Result<Command<'a>, AllocError>
@@ -217,9 +225,19 @@ fn export_command<'a>(alloc: Global) -> Result<Command<'a>, AllocError>
         Command::new(alloc, "export"),
         "Write files to new files of the host",
     );
-    let command = scattered(alloc, shown(command, EXPORT_NOTES))?;
-    let command = encoded(alloc, with_argument(command, place(alloc))?)?;
-    formed(alloc, with_argument(command, listed(alloc))?)
+    formed(alloc, unloaded(alloc, shown(command, EXPORT_NOTES))?)
+}
+
+#[tactic(auto, unfolding(crate::specs::CommandLine::salvage_app))]
+fn salvage_command<'a>(alloc: Global) -> Result<Command<'a>, AllocError>
+    ensures app { IfOk result (λ c. app_of c ≡ salvage_app) }
+    ensures local { IfOk result (λ c. (fields_of c).has_globals ≡ false) }
+{
+    let command = about(
+        Command::new(alloc, "salvage"),
+        "Write the files that are whole on a damaged image to new files of the host",
+    );
+    formed(alloc, unloaded(alloc, shown(command, SALVAGE_NOTES))?)
 }
 
 #[tactic(auto, unfolding(crate::specs::CommandLine::list_app))]
@@ -314,7 +332,8 @@ fn with_moving<'a>(alloc: Global, command: Command<'a>) -> Result<Command<'a>, A
     ensures { IfOk result (λ c. app_of c ≡ moving (app_of command.entry)) }
 {
     let command = with_one(command, import_command(alloc)?)?;
-    with_one(command, export_command(alloc)?)
+    let command = with_one(command, export_command(alloc)?)?;
+    with_one(command, salvage_command(alloc)?)
 }
 
 /// Adds those that change no file.

@@ -50,4 +50,4 @@ mod recovery;
 pub use change_set::{ChangeSet, MAX_PUTS};
 pub use error::LogError;
 pub use order::commit;
-pub use recovery::recover;
+pub use recovery::{find_pending, recover};

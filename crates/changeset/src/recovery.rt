@@ -88,12 +88,16 @@ fn recover_synced<D: Disk>(disk: &mut D) -> Result<(), LogError>
     Ok(())
 }
 
-/// Whether the gate is open; the puts of the log then, in a list that is empty before.
+/// Whether the gate is open; the puts of the log then, in a list that is empty before. Nothing is written: what the disk
+/// holds once these puts are made is what a start would find.
 ///
 /// # Errors
 ///
 /// `BadLog` where the gate is open and the log isn't good, `Device` where the device failed.
-fn find_pending<D: Disk>(disk: &mut D, puts: &mut ArrayVec<Put, MAX_PUTS>) -> Result<bool, LogError>
+pub fn find_pending<D: Disk>(
+    disk: &mut D,
+    puts: &mut ArrayVec<Put, MAX_PUTS>,
+) -> Result<bool, LogError>
     requires { puts.old.items ≡ [] }
     ensures closed { (D.state disk.new).honest → (result ≡ Ok false)
         → IsGateOpen (D.state disk.old).size (D.state disk.old).contents → ⊥ }

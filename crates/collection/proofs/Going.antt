@@ -1,6 +1,6 @@
 -- What a service did for one thing after the other is what it did for all of them.
-use Rattle.std.proofs.Common.{◌≡◌, ℕ, List, [], ◌∷◌, ◌++◌, Option, Result, Ok, Err, inl, inr, sym, subst, refl}
-use Rattle.meaning.specs.Plans.{Act, Say}
+use Rattle.std.proofs.Common.{◌≡◌, ℕ, List, [], ◌∷◌, ◌++◌, Option, Result, Ok, Err, inl, inr, sym, subst}
+use Rattle.meaning.specs.Plans.{Say}
 use Rattle.meaning.specs.Texts.{silent}
 use Rattle.meaning.specs.declared.call.Reply.{Reply}
 use Rattle.meaning.specs.declared.entry.Entry.{Entry}

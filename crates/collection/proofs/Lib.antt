@@ -2,3 +2,4 @@ mod Going
 mod NamingLaws
 mod Moving
 mod EachLaws
+mod SavingLaws

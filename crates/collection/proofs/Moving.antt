@@ -1,5 +1,5 @@
 -- What is the same of a file by other names of its parts.
-use Rattle.std.proofs.Common.{◌≡◌, ℕ, Bool, false, List, Option, Some, None, Result, Ok, Err, codes, inl, inr, refl, subst, sym, ◌⊎◌}
+use Rattle.std.proofs.Common.{◌≡◌, ℕ, Bool, false, List, Option, Result, Ok, Err, codes, inl, inr, refl, subst, sym, ◌⊎◌}
 use Rattle.meaning.specs.Plans.{Plan}
 use Rattle.meaning.specs.declared.encoding.Encoding.{Encoding}
 use Rattle.meaning.specs.declared.entry.Entry.{Entry}
@@ -9,7 +9,7 @@ use Rattle.commands.specs.declared.answer.Tally.{Tally}
 use Rattle.commands.specs.declared.error.SessionError.{SessionError}
 use Rattle.commands.specs.declared.error.SessionError.TheVariants.{NoMemory}
 use Rattle.std.specs.declared.io.Error.{Error}
-use Rattle.collection.specs.Exporting.{AreEntriesDone, AreOwnersDone, IsTakenOut}
+use Rattle.collection.specs.Exporting.{AreEntriesDone, IsTakenOut}
 use Rattle.collection.specs.Importing.{AreDoneWith, GoesOn}
 use Rattle.collection.specs.Lines.{IsRefusedLine}
 use Rattle.collection.specs.declared.task.ImportTask.{ImportTask}

@@ -1,6 +1,6 @@
 -- Names by their parts.
 use Rattle.std.proofs.Common.{◌≡◌, ◌<◌, ◌≤◌, ◌-◌, ◌++◌, ap, drop, nat_eq, arith, ℕ, zero, suc, Bool, true, false, List, [], ◌∷◌, length, map, flat_map, refl, sym}
-use Rattle.std.proofs.Common.{Option, Some, None, Result, Ok, Err, IfOk, IfNone, inl, inr, ◌∙◌, subst, rules, if◌then◌else◌}
+use Rattle.std.proofs.Common.{Option, Some, None, Result, Ok, Err, IfOk, IfNone, inl, inr, ◌∙◌, subst}
 use Rattle.std.proofs.lemmas.List.{append-nil, append_assoc, drop_all}
 use Rattle.words36.specs.declared.names.FileName.{FileName}
 use Rattle.meaning.specs.Lines.{upper}

@@ -1,13 +1,11 @@
 -- Files of a volume that become files of the host, directory after directory.
-use Rattle.std.specs.Prelude.{◌≡◌, ◌⊎◌, ◌≤◌, ◌++◌, ◌∷◌, ℕ, true, false, List, [], Option, Some, None, Result, Ok, Err}
+use Rattle.std.specs.Prelude.{◌≡◌, ◌⊎◌, ◌≤◌, ◌++◌, ℕ, true, false, List, Option, Some, None, Result, Ok, Err}
 use Rattle.std.specs.Prelude.{codes}
 use Rattle.std.specs.declared.alloc.AllocError.{AllocError}
 use Rattle.std.specs.declared.io.Error.{Error}
 use Rattle.words36.specs.declared.moment.Moment.{Moment}
-use Rattle.words36.specs.declared.names.FileName.{FileName}
 use Rattle.meaning.specs.Texts.{is_broken, line, refusal}
 use Rattle.meaning.specs.declared.call.Reply.{Reply}
-use Rattle.meaning.specs.declared.command.Spec.{Spec}
 use Rattle.meaning.specs.declared.encoding.Encoding.{Encoding}
 use Rattle.meaning.specs.declared.encoding.Encoding.TheVariants.{Characters, Octets, Words}
 use Rattle.meaning.specs.declared.entry.Entry.{Entry}
@@ -46,19 +44,18 @@ IsStoredLine path encoding (Ok stored) sink full result =
 IsStoredLine path encoding (Err error) sink full result =
     IsRefusedLine path (codes "?Can't write") false sink full result
 
--- A file that was read: its bytes were stored where none was, or it was refused; its line was written. If there was no
--- memory for its bytes the run ends.
-abbrev pub IsStored : {E : Type 0} → FileFacts → List ℕ → Entry → Result Exported E → Option (List ℕ) → Option (List ℕ)
-    → Result Tally SessionError → Type 0
-IsStored facts path entry (Ok (File encoding bytes)) sink full result =
-    (changed : Option Moment) × IsChangeOf entry changed
-    × (stored : Result (Unit {0}) Error) × facts.stored path bytes.items changed stored
+-- A file that was read: its bytes were stored where none was, last changed at this moment, or it was refused; its line was
+-- written. If there was no memory for its bytes the run ends.
+abbrev pub IsStored : {E : Type 0} → FileFacts → List ℕ → Option Moment → Result Exported E → Option (List ℕ)
+    → Option (List ℕ) → Result Tally SessionError → Type 0
+IsStored facts path changed (Ok (File encoding bytes)) sink full result =
+    (stored : Result (Unit {0}) Error) × facts.stored path bytes.items changed stored
     × IsStoredLine path encoding stored sink full result
-IsStored facts path entry (Ok (Refused reply)) sink full result =
+IsStored facts path changed (Ok (Refused reply)) sink full result =
     IsRefusedLine path (refusal reply) (is_broken reply) sink full result
-IsStored facts path entry (Ok NotBytes) sink full result =
+IsStored facts path changed (Ok NotBytes) sink full result =
     IsRefusedLine path (codes "?Not bytes") false sink full result
-IsStored facts path entry (Err error) sink full result = (full ≡ sink) × (result ≡ Err NoMemory)
+IsStored facts path changed (Err error) sink full result = (full ≡ sink) × (result ≡ Err NoMemory)
 
 -- A file was read by who may look into all directories, and stored.
 pub record IsTakenOut {S : Type 0} (facts : FileFacts) (machine : S → Machine) (asked : Option Encoding)
@@ -69,7 +66,9 @@ pub record IsTakenOut {S : Type 0} (facts : FileFacts) (machine : S → Machine)
   pub exported : Result Exported AllocError
   pub read : HasExported machine old new asked entry.mode
       (takes_out at (record { name = entry.name; owner = Some owner })) exported
-  pub stored : IsStored facts path entry exported sink full result
+  pub changed : Option Moment
+  pub change : IsChangeOf entry changed
+  pub stored : IsStored facts path changed exported sink full result
 
 -- what is done is only told
 pub record IsListed {S : Type 0} (path : List ℕ) (sink full : Option (List ℕ)) (old new : S)

@@ -1,5 +1,5 @@
 -- Files of the host that are put, one after the other.
-use Rattle.std.specs.Prelude.{◌≡◌, ◌⊎◌, ◌++◌, ◌∷◌, ℕ, true, false, List, [], Option, Some, None, Result, Ok, Err, MatchResult, codes}
+use Rattle.std.specs.Prelude.{◌≡◌, ◌⊎◌, ℕ, true, false, List, Option, Some, None, Result, Ok, Err, codes}
 use Rattle.std.specs.declared.io.Error.{Error}
 use Rattle.words36.specs.declared.moment.Moment.{Moment}
 use Rattle.words36.specs.declared.names.FileName.{FileName}
@@ -18,7 +18,6 @@ use Rattle.commands.specs.Machines.{Machine}
 use Rattle.commands.specs.Reasons.{most_bytes}
 use Rattle.commands.specs.declared.answer.Tally.{Tally}
 use Rattle.commands.specs.declared.error.SessionError.{SessionError}
-use Rattle.commands.specs.declared.error.SessionError.TheVariants.{NoMemory}
 use Rattle.commands.specs.declared.existing.Existing.TheVariants.{Refuse}
 use Rattle.collection.specs.Clock.{at_first}
 use Rattle.collection.specs.Each.{EachDone, none_counted}

@@ -5,3 +5,4 @@ pub mod Each
 pub mod Lines
 pub mod Importing
 pub mod Exporting
+pub mod Saving

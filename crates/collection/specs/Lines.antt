@@ -1,5 +1,5 @@
 -- A line for each file: what it is of, and then what became of it.
-use Rattle.std.specs.Prelude.{◌≡◌, ◌≢◌, ◌⊎◌, ◌<◌, ◌++◌, ◌∷◌, ◌||◌, ℕ, Bool, true, List, [], Option, None, Result, Ok, Err, codes, length}
+use Rattle.std.specs.Prelude.{◌≡◌, ◌<◌, ◌++◌, ◌∷◌, ℕ, Bool, true, List, [], Option, None, Result, Ok, Err, codes, length}
 use Rattle.std.specs.Io.KnownBytes.{Appends}
 use Rattle.meaning.specs.Texts.{line}
 use Rattle.commands.specs.declared.answer.Tally.{Tally}

@@ -1,6 +1,6 @@
 -- How files of the host and files of a volume are named after each other.
-use Rattle.std.specs.Prelude.{◌≡◌, ◌⊎◌, ◌/◌, ◌%◌, ◌+◌, ◌^◌, ◌<◌, ◌==◌, ℕ, zero, suc, Bool, true, nat_lt, nat_le, if◌then◌else◌, List, []}
-use Rattle.std.specs.Prelude.{◌∷◌, ◌++◌, ◌||◌, map, flat_map, Option, Some, None, codes, false, option_map}
+use Rattle.std.specs.Prelude.{◌≡◌, ◌⊎◌, ◌/◌, ◌%◌, ◌+◌, ◌==◌, ℕ, zero, suc, Bool, true, nat_lt, if◌then◌else◌, List, []}
+use Rattle.std.specs.Prelude.{◌∷◌, ◌++◌, ◌||◌, map, flat_map, Option, Some, None, codes, option_map}
 use Rattle.std.specs.Path.{path_file_name, path_file_stem, path_extension}
 use Rattle.words36.specs.Sixbit.{characters}
 use Rattle.words36.specs.declared.names.FileName.{FileName}

@@ -41,17 +41,17 @@ fn change_of(entry: &Entry) -> Option<Moment>
     }
 }
 
-/// Makes a file of the host of what was read, and writes its line.
-fn store<H: HostFiles, W: Write, E: Write>(
+/// Makes a file of the host of what was read, last changed at a moment, and writes its line.
+pub(crate) fn store<H: HostFiles, W: Write, E: Write>(
     host: &H,
     alloc: Global,
     path: &str,
-    entry: &Entry,
+    changed: Option<Moment>,
     exported: Result<Exported, AllocError>,
     writer: &mut W,
     errors: &mut E,
 ) -> Result<Tally, SessionError>
-    ensures { IsStored (H.files host.now) path.now entry.now exported (W.contents writer.old) (W.contents writer.new)
+    ensures { IsStored (H.files host.now) path.now changed exported (W.contents writer.old) (W.contents writer.new)
         result }
 {
     let (encoding, bytes) = match exported {
@@ -62,7 +62,7 @@ fn store<H: HostFiles, W: Write, E: Write>(
         Ok(Exported::NotBytes) => return turn_down(alloc, writer, path, "?Not bytes", false),
         Err(_) => return Err(SessionError::NoMemory),
     };
-    match host.store(path, &bytes, change_of(entry)) {
+    match host.store(path, &bytes, changed) {
         Ok(()) => {
             let said = encoding_text(encoding).as_bytes();
             say(alloc, writer, path, said, "OK", Tally::none())
@@ -118,7 +118,8 @@ fn take_out<H: HostFiles, W: Write, E: Write, D: Disk>(
         encoding: directory.task.encoding,
     };
     let exported = export(alloc, monitor, &wanted);
-    store(host, alloc, file.path, entry, exported, writer, errors)
+    let changed = change_of(entry);
+    store(host, alloc, file.path, changed, exported, writer, errors)
 }
 
 /// Makes a file of the host of a file, or only tells its path.

@@ -15,7 +15,10 @@
 //!    to be listed, no call is made for a file. No clause says what else the host isn't asked. (`IsExportRun`)
 //! 5. Both go on by calls of job 1: what a crash leaves is said as of a session, and the failure count rises by one for
 //!    each call that is answered Device, and for nothing else. (`Goes`)
-//! 6. What the host does is said over any host that tells what it read and stored. (`HostFiles`) Lines for people, by
+//! 6. `save_survey` takes the files that a survey of a disk found, in their order, and then its faults. Each has one line:
+//!    what the host stored at the path of a file are bytes that say its words, with the moment when it was written; a
+//!    fault is told with the path of what it costs. (`IsSalvageRun`)
+//! 7. What the host does is said over any host that tells what it read and stored. (`HostFiles`) Lines for people, by
 //!    which nothing is decided, are said of nowhere.
 #![tactic(auto)]
 
@@ -27,6 +30,7 @@ mod lines;
 mod naming;
 mod paths;
 mod report;
+mod saving;
 mod source;
 mod task;
 #[cfg(test)]
@@ -37,5 +41,6 @@ pub use exporting::export_files;
 pub use host_files::HostFiles;
 pub use importing::import_files;
 pub use naming::{Named, name_for};
+pub use saving::save_survey;
 pub use source::Source;
 pub use task::{ExportTask, ImportTask};

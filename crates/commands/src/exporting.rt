@@ -198,8 +198,13 @@ fn export_as(alloc: Global, encoding: Encoding, words: &[Word]) -> Result<Export
     }
 }
 
-/// What is answered for the words of a file.
-fn export_words(
+/// What the words of a file that was written in a mode are taken out as: in an encoding; or, if nobody says which, in the
+/// first of the mode's encodings in which bytes come back exactly. `Refused` is never answered.
+///
+/// # Errors
+///
+/// `AllocError` if the bytes find no room.
+pub fn export_words(
     alloc: Global,
     encoding: Option<Encoding>,
     mode: u32,

@@ -89,7 +89,7 @@ pub use answer::{Tally, is_broken};
 pub use dates::date_named;
 pub use error::SessionError;
 pub use existing::Existing;
-pub use exporting::{Export, Exported};
+pub use exporting::{Export, Exported, export_words};
 pub use importing::Import;
 pub use input_words::{encoding_of, most_bytes};
 pub use laws::{

@@ -8,3 +8,4 @@ mod Unasked
 mod Naming
 mod ExitCodes
 mod CollectionLaws
+mod SalvageLaws

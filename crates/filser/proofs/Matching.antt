@@ -25,7 +25,7 @@ use Rattle.arguments.specs.CommandLine.{command_line, making, serving, filing, l
 use Rattle.arguments.specs.CommandLine.{put_app, get_app, delete_app, list_app, check_app, convert_app, converting}
 use Rattle.arguments.specs.CommandLine.{dated, filed, formed, laid_out, located, migrate_app, sized, wire_app}
 use Rattle.arguments.specs.CommandLine.{adapted, encoded, export_app, gathered, import_app, moving}
-use Rattle.arguments.specs.CommandLine.{scattered}
+use Rattle.arguments.specs.CommandLine.{salvage_app, scattered, unloaded}
 use Rattle.filser.specs.Requests.{Asks, IsAsked, IsTask, IsAt, IsNamedFile, IsListedPlace, HasForm, HasText, HasNumber}
 use Rattle.filser.specs.Requests.{AsksFor, HasLayout, HasOwner, IsEncoding, IsExportTask, IsImportTask}
 use Rattle.filser.specs.Requests.{IsOneEncoding, IsWrong, LacksOwned, NamesEncoding}
@@ -41,20 +41,20 @@ use Rattle.filser.specs.declared.error.WrongArgument.TheVariants.{Encodings}
 use Rattle.filser.specs.declared.error.RequestError.TheVariants.{Usage}
 use Rattle.filser.specs.declared.asked.Request.{Request}
 use Rattle.filser.specs.declared.asked.Request.TheVariants.{Fresh, Init, Work, Convert, Migrate}
-use Rattle.filser.specs.declared.asked.Request.TheVariants.{Import, Export}
+use Rattle.filser.specs.declared.asked.Request.TheVariants.{Import, Export, Salvage}
 
 -- The command line is one of those whose matches `clap` computes.
 
 pub line-simple : is_simple command_line ≡ true
 unfolding clap_on_literals command_line making serving filing moving looking init_app dated located filed run_app
-    calls_app wire_app put_app get_app delete_app import_app export_app list_app check_app convert_app migrate_app
-    converting formed sized laid_out encoded gathered adapted scattered
+    calls_app wire_app put_app get_app delete_app import_app export_app salvage_app list_app check_app convert_app
+    migrate_app converting formed sized laid_out encoded gathered adapted scattered unloaded
 line-simple = refl
 
 pub line-free : is_simple_and_free command_line ≡ true
 unfolding clap_on_literals command_line making serving filing moving looking init_app dated located filed run_app
-    calls_app wire_app put_app get_app delete_app import_app export_app list_app check_app convert_app migrate_app
-    converting formed sized laid_out encoded gathered adapted scattered
+    calls_app wire_app put_app get_app delete_app import_app export_app salvage_app list_app check_app convert_app
+    migrate_app converting formed sized laid_out encoded gathered adapted scattered unloaded
 line-free = refl
 
 -- Texts and numbers.
@@ -206,7 +206,7 @@ no_one_encoding rows none t is = none t.encoding is.encoding
 pub no_moment : (rows : List Row) → ((at : Moment) → IsAt rows at → ⊥) → (t : ImportTask) → IsImportTask rows t → ⊥
 no_moment rows none t is = none t.moment is.moment
 
--- the task of `export` wants a folder
+-- the tasks of `export` and `salvage` want a folder
 pub no_folder : (rows : List Row) → ((t : Text) → HasText rows (codes "FOLDER") t → ⊥) → (t : ExportTask)
     → IsExportTask rows t → ⊥
 no_folder rows none t is = none t.folder.now is.folder
@@ -302,6 +302,8 @@ no_init name rows is none (Import image form task) asked =
     differ name (codes "init") (codes "import") 325 323 refl refl (λ e. omega arith) is asked.0
 no_init name rows is none (Export image form task) asked =
     differ name (codes "init") (codes "export") 325 341 refl refl (λ e. omega arith) is asked.0
+no_init name rows is none (Salvage image form task) asked =
+    differ name (codes "init") (codes "salvage") 325 309 refl refl (λ e. omega arith) is asked.0
 
 pub no_layout : (name : Text) (rows : List Row) → name ≡ codes "init"
     → ((l : Layout) → HasLayout rows l → ⊥) → (r : Request) → IsAsked name rows r → ⊥
@@ -317,6 +319,8 @@ no_layout name rows is none (Import image form task) asked =
     differ name (codes "init") (codes "import") 325 323 refl refl (λ e. omega arith) is asked.0
 no_layout name rows is none (Export image form task) asked =
     differ name (codes "init") (codes "export") 325 341 refl refl (λ e. omega arith) is asked.0
+no_layout name rows is none (Salvage image form task) asked =
+    differ name (codes "init") (codes "salvage") 325 309 refl refl (λ e. omega arith) is asked.0
 
 pub no_convert : (name : Text) (rows : List Row) → name ≡ codes "convert"
     → ((t : Text) → HasText rows (codes "NEW") t → ⊥) → (r : Request) → IsAsked name rows r → ⊥
@@ -332,6 +336,8 @@ no_convert name rows is none (Import image form task) asked =
     differ name (codes "convert") (codes "import") 321 323 refl refl (λ e. omega arith) is asked.0
 no_convert name rows is none (Export image form task) asked =
     differ name (codes "convert") (codes "export") 321 341 refl refl (λ e. omega arith) is asked.0
+no_convert name rows is none (Salvage image form task) asked =
+    differ name (codes "convert") (codes "salvage") 321 309 refl refl (λ e. omega arith) is asked.0
 
 pub no_import : (name : Text) (rows : List Row) → name ≡ codes "import"
     → ((t : ImportTask) → IsImportTask rows t → ⊥) → (r : Request) → IsAsked name rows r → ⊥
@@ -347,6 +353,8 @@ no_import name rows is none (Migrate image form) asked =
 no_import name rows is none (Import image form task) asked = none task asked.3
 no_import name rows is none (Export image form task) asked =
     differ name (codes "import") (codes "export") 323 341 refl refl (λ e. omega arith) is asked.0
+no_import name rows is none (Salvage image form task) asked =
+    differ name (codes "import") (codes "salvage") 323 309 refl refl (λ e. omega arith) is asked.0
 
 pub no_export : (name : Text) (rows : List Row) → name ≡ codes "export"
     → ((t : ExportTask) → IsExportTask rows t → ⊥) → (r : Request) → IsAsked name rows r → ⊥
@@ -362,6 +370,25 @@ no_export name rows is none (Migrate image form) asked =
 no_export name rows is none (Import image form task) asked =
     differ name (codes "export") (codes "import") 341 323 refl refl (λ e. omega arith) is asked.0
 no_export name rows is none (Export image form task) asked = none task asked.3
+no_export name rows is none (Salvage image form task) asked =
+    differ name (codes "export") (codes "salvage") 341 309 refl refl (λ e. omega arith) is asked.0
+
+pub no_salvage : (name : Text) (rows : List Row) → name ≡ codes "salvage"
+    → ((t : ExportTask) → IsExportTask rows t → ⊥) → (r : Request) → IsAsked name rows r → ⊥
+no_salvage name rows is none Fresh asked = asked
+no_salvage name rows is none (Init image blocks form layout) asked =
+    differ name (codes "salvage") (codes "init") 309 325 refl refl (λ e. omega arith) is asked.0
+no_salvage name rows is none (Work image form task) asked = no_task name (codes "salvage") 309 task refl refl is
+    asked.2.0
+no_salvage name rows is none (Convert image new form) asked =
+    differ name (codes "salvage") (codes "convert") 309 321 refl refl (λ e. omega arith) is asked.0
+no_salvage name rows is none (Migrate image form) asked =
+    differ name (codes "salvage") (codes "migrate") 309 319 refl refl (λ e. omega arith) is asked.0
+no_salvage name rows is none (Import image form task) asked =
+    differ name (codes "salvage") (codes "import") 309 323 refl refl (λ e. omega arith) is asked.0
+no_salvage name rows is none (Export image form task) asked =
+    differ name (codes "salvage") (codes "export") 309 341 refl refl (λ e. omega arith) is asked.0
+no_salvage name rows is none (Salvage image form task) asked = none task asked.3
 
 pub no_form : (name : Text) (rows : List Row) → ((f : Form) → HasForm rows f → ⊥) → (r : Request)
     → IsAsked name rows r → ⊥
@@ -372,6 +399,7 @@ no_form name rows none (Convert image new form) asked = none form asked.3
 no_form name rows none (Migrate image form) asked = none form asked.2
 no_form name rows none (Import image form task) asked = none form asked.2
 no_form name rows none (Export image form task) asked = none form asked.2
+no_form name rows none (Salvage image form task) asked = none form asked.2
 
 pub no_image : (name : Text) (rows : List Row) → ((t : Text) → HasText rows (codes "IMAGE") t → ⊥) → (r : Request)
     → IsAsked name rows r → ⊥
@@ -382,6 +410,7 @@ no_image name rows none (Convert image new form) asked = none image.now asked.1
 no_image name rows none (Migrate image form) asked = none image.now asked.1
 no_image name rows none (Import image form task) asked = none image.now asked.1
 no_image name rows none (Export image form task) asked = none image.now asked.1
+no_image name rows none (Salvage image form task) asked = none image.now asked.1
 
 -- A word that is no other request's is asked for by a task alone.
 pub record IsNoRequestWord (name : Text) : Type 0 where
@@ -390,6 +419,7 @@ pub record IsNoRequestWord (name : Text) : Type 0 where
   pub migrate : name ≡ codes "migrate" → ⊥
   pub import : name ≡ codes "import" → ⊥
   pub export : name ≡ codes "export" → ⊥
+  pub salvage : name ≡ codes "salvage" → ⊥
 
 pub no_work : (name : Text) (rows : List Row) → IsNoRequestWord name → ((t : Task) → IsTask name rows t → ⊥)
     → (r : Request) → IsAsked name rows r → ⊥
@@ -400,6 +430,7 @@ no_work name rows other none (Convert image new form) asked = other.convert aske
 no_work name rows other none (Migrate image form) asked = other.migrate asked.0
 no_work name rows other none (Import image form task) asked = other.import asked.0
 no_work name rows other none (Export image form task) asked = other.export asked.0
+no_work name rows other none (Salvage image form task) asked = other.salvage asked.0
 
 -- A task of a word has what belongs to that word.
 

@@ -15,4 +15,5 @@ pub mod Images
 pub mod Migrations
 pub mod Importing
 pub mod Exporting
+pub mod Salvaging
 pub mod Runs

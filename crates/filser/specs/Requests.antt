@@ -21,7 +21,7 @@ use Rattle.commands.specs.declared.existing.Existing.{Existing}
 use Rattle.commands.specs.declared.existing.Existing.TheVariants.{Refuse}
 use Rattle.filser.specs.declared.asked.Request.{Request}
 use Rattle.filser.specs.declared.asked.Request.TheVariants.{Fresh, Init, Work, Convert, Migrate}
-use Rattle.filser.specs.declared.asked.Request.TheVariants.{Import, Export}
+use Rattle.filser.specs.declared.asked.Request.TheVariants.{Import, Export, Salvage}
 use Rattle.filser.specs.declared.error.WrongArgument.{WrongArgument}
 use Rattle.filser.specs.declared.error.WrongArgument.TheVariants.{Owner, Name, Encodings, Date}
 use Rattle.collection.specs.declared.task.ExportTask.{ExportTask}
@@ -181,6 +181,8 @@ IsAsked name rows (Import image form task) =
     (name ≡ codes "import") × HasText rows (codes "IMAGE") image.now × HasForm rows form × IsImportTask rows task
 IsAsked name rows (Export image form task) =
     (name ≡ codes "export") × HasText rows (codes "IMAGE") image.now × HasForm rows form × IsExportTask rows task
+IsAsked name rows (Salvage image form task) =
+    (name ≡ codes "salvage") × HasText rows (codes "IMAGE") image.now × HasForm rows form × IsExportTask rows task
 
 -- without a subcommand a fresh volume is asked for
 abbrev pub Asks : Option (Text × List Row) → Request → Type 0
@@ -191,6 +193,7 @@ Asks None (Convert image new form) = ⊥
 Asks None (Migrate image form) = ⊥
 Asks None (Import image form task) = ⊥
 Asks None (Export image form task) = ⊥
+Asks None (Salvage image form task) = ⊥
 Asks (Some found) request = IsAsked found.0 found.1 request
 
 -- Why nothing is asked for.
@@ -251,6 +254,7 @@ InRange (Convert image new form) = Unit
 InRange (Migrate image form) = Unit
 InRange (Import image form task) = Unit
 InRange (Export image form task) = Unit
+InRange (Salvage image form task) = Unit
 
 -- the path of the image that is named: of two, of the one that is there
 abbrev pub image_named : Request → Option Text
@@ -261,3 +265,4 @@ image_named (Convert image new form) = Some image.now
 image_named (Migrate image form) = Some image.now
 image_named (Import image form task) = Some image.now
 image_named (Export image form task) = Some image.now
+image_named (Salvage image form task) = Some image.now

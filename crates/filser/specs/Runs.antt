@@ -5,6 +5,7 @@ use Rattle.imagefile.specs.Unseen.{Unseen}
 use Rattle.filser.specs.Denials.{IsExplained, of_host}
 use Rattle.filser.specs.Endings.{AsksForHelp, EndsUnasked}
 use Rattle.filser.specs.Exporting.{IsOnExported}
+use Rattle.filser.specs.Salvaging.{IsOnSalvaged}
 use Rattle.filser.specs.Hosts.{HostFacts}
 use Rattle.filser.specs.Images.{IsOnBoth, IsOnFresh, IsOnImage, IsOnNew}
 use Rattle.filser.specs.Importing.{IsOnImported}
@@ -15,7 +16,7 @@ use Rattle.filser.specs.Streams.{AreNeeded, IsStreamAt}
 use Rattle.filser.specs.Views.{Views}
 use Rattle.filser.specs.declared.asked.Request.{Request}
 use Rattle.filser.specs.declared.asked.Request.TheVariants.{Fresh, Init, Work, Convert, Migrate}
-use Rattle.filser.specs.declared.asked.Request.TheVariants.{Import, Export}
+use Rattle.filser.specs.declared.asked.Request.TheVariants.{Import, Export, Salvage}
 use Rattle.filser.specs.declared.disks.Disks.{Disks}
 use Rattle.filser.specs.declared.disks.Disks.TheVariants.{Unasked}
 use Rattle.filser.specs.declared.error.RequestError.{RequestError}
@@ -67,6 +68,9 @@ IsRequestRun facts views things (Import path form task) source left sink full st
     × (things.new ≡ Unasked things.making) × (things.memory ≡ Nothing)
 IsRequestRun facts views things (Export path form task) source left sink full status =
     (left ≡ source) × IsOnExported facts views path.now form task things.u sink full things.image status
+    × (things.new ≡ Unasked things.making) × (things.memory ≡ Nothing)
+IsRequestRun facts views things (Salvage path form task) source left sink full status =
+    (left ≡ source) × IsOnSalvaged facts views path.now form task things.u sink full things.image status
     × (things.new ≡ Unasked things.making) × (things.memory ≡ Nothing)
 
 -- No standard stream leads to the image that is named.

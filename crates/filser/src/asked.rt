@@ -22,6 +22,8 @@ pub enum Request<'a> {
     Import(&'a str, Form, ImportTask<'a>),
     /// `export`: write files of this image, which has this form, to new files of the host.
     Export(&'a str, Form, ExportTask<'a>),
+    /// `salvage`: write the files that are whole on this image, which has this form, to new files of the host.
+    Salvage(&'a str, Form, ExportTask<'a>),
 }
 
 impl<'a> Request<'a> {
@@ -34,6 +36,7 @@ impl<'a> Request<'a> {
             Request::Init(path, _, _, _) | Request::Work(path, _, _) => Some(*path),
             Request::Convert(path, _, _) | Request::Migrate(path, _) => Some(*path),
             Request::Import(path, _, _) | Request::Export(path, _, _) => Some(*path),
+            Request::Salvage(path, _, _) => Some(*path),
         }
     }
 }

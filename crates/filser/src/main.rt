@@ -50,6 +50,7 @@ mod progress;
 mod reading;
 mod reasons;
 mod refusal;
+mod salvaging;
 mod seen;
 mod serving;
 mod sparing;

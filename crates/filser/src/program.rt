@@ -30,6 +30,7 @@ use crate::lines::LineReader;
 use crate::migrating::migrate_image;
 use crate::outcome::Outcome;
 use crate::output::OutputWriter;
+use crate::salvaging::salvage_image;
 use crate::serving::{say, serve_fresh, serve_image};
 use crate::sparing::FreeStreams;
 use crate::streams::{is_at_errors, stream_at};
@@ -320,6 +321,11 @@ fn perform<H: Host, R: Read, W: Write, E: Write>(
             let image = NamedImage { path, form };
             let exported = export_image(host, alloc, &image, leaves.image, task, writer, errors);
             on_image(exported, leaves.new)
+        }
+        Request::Salvage(path, form, ref task) => {
+            let image = NamedImage { path, form };
+            let saved = salvage_image(host, alloc, &image, leaves.image, task, writer, errors);
+            on_image(saved, leaves.new)
         }
     }
 }

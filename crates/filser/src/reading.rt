@@ -179,11 +179,17 @@ fn other_than_import<'a>(name: &'a str, matches: &ArgMatches<'a>) -> Option<Requ
             };
             Some(Request::Export(image, form, task))
         }
+        "salvage" => {
+            let Some(task) = export_task(matches) else {
+                return None;
+            };
+            Some(Request::Salvage(image, form, task))
+        }
         _ => Some(Request::Work(image, form, task(name, matches)?)),
     }
 }
 
-/// The task of `export`.
+/// The task of `export` and of `salvage`.
 fn export_task<'a>(matches: &ArgMatches<'a>) -> Option<ExportTask<'a>>
     ensures { MatchOption result ((t : ExportTasks) → IsExportTask (rows_of (found_of matches.entry.now)) t → ⊥)
         (IsExportTask (rows_of (found_of matches.entry.now))) }

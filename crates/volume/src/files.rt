@@ -36,8 +36,13 @@ pub struct StoredVersion {
     pub version: Version,
 }
 
-/// Reads the version of a file in a layout; its prime block has to name the file's place.
-fn read_named<D: Disk>(
+/// Reads the version of a file in a layout; its prime block has to name the file's place. The data blocks aren't read.
+///
+/// # Errors
+///
+/// `BadRetrieval` with a prime block or an extension that is damaged or not as it should be, and with the prime block if
+/// it names another place; `Device` if the device failed; `NoMemory` if the lists of blocks find no room.
+pub fn read_named<D: Disk>(
     alloc: Global,
     disk: &mut D,
     layout: Layout,
@@ -110,7 +115,11 @@ fn read_run<D: Disk>(disk: &mut D, run: Run) -> Result<(), VolumeError>
 }
 
 /// Looks at each of a version's data blocks once.
-fn read_data<D: Disk>(disk: &mut D, version: &Version) -> Result<(), VolumeError>
+///
+/// # Errors
+///
+/// `BadData` with a data block that is damaged; `Device` if the device failed.
+pub fn read_data<D: Disk>(disk: &mut D, version: &Version) -> Result<(), VolumeError>
     requires volume { IsVolumeSize (D.state disk.old).size }
     requires inside { AllByRecursion (InSpace (D.state disk.old).size) version.now.blocks }
     ensures ok { (D.state disk.new).honest

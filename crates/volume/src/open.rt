@@ -165,7 +165,12 @@ fn load_table<D: Disk>(alloc: Global, disk: &mut D, reached: &Reached) -> Result
     Ok(table)
 }
 
-/// Reads all that a disk reaches from its home blocks, each block once, and its allocation table.
+/// Reads all that a disk reaches from its home blocks, each block once, and its allocation table. Nothing is written.
+///
+/// # Errors
+///
+/// The refusal of a fault that stands in the contents as they are, whatever their gate; `Device` if the device failed;
+/// `NoMemory` if a growth was refused.
 pub fn read_map<D: Disk>(alloc: Global, disk: &mut D) -> Result<DiskMap, VolumeError>
     ensures held { (D.state disk.new).honest
         → IfOk result (λ read. (m : MapValue)

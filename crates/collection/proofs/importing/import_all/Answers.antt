@@ -1,4 +1,4 @@
-use Rattle.std.proofs.Common.{arith, map, rules, sym, subst, ◌+◌}
+use Rattle.std.proofs.Common.{map, rules, sym, subst, ◌+◌}
 use Rattle.std.proofs.lemmas.Result.{err_from_is_err_and}
 use Rattle.commands.specs.Monitors.{machine_of}
 use Rattle.collection.specs.Importing.{IsDoneWith}

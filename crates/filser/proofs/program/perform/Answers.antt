@@ -29,3 +29,7 @@ returns-in-Import-clause-ran g c =
 pub returns-in-Export-clause-ran : goal.returns-in-Export-clause-ran
 returns-in-Export-clause-ran g c =
     rw (c.in-Export.is, c.on_image-in-Export.ensures) (refl, c.export_image-exported.ensures.ran, refl, refl)
+
+pub returns-in-Salvage-clause-ran : goal.returns-in-Salvage-clause-ran
+returns-in-Salvage-clause-ran g c =
+    rw (c.in-Salvage.is, c.on_image-in-Salvage.ensures) (refl, c.salvage_image-saved.ensures.ran, refl, refl)

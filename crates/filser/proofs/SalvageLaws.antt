@@ -1,0 +1,74 @@
+-- Runs on an image that save what is whole on it.
+use Rattle.std.proofs.Common.{◌≡◌, ◌*◌, ◌∙◌, ap, ⊎_elim, inl, inr, ℕ, Bool, List, Option, sym, subst}
+use Rattle.blockdisk.specs.Disk.{Contents, DiskState, SameDisk}
+use Rattle.blockdisk.specs.Laws.{still_on}
+use Rattle.blockdisk.specs.Memory.{Memory}
+use Rattle.imagefile.specs.Began.{BeganAs, begun_image}
+use Rattle.imagefile.specs.Image.{block_length}
+use Rattle.imagefile.specs.Unseen.{Unseen}
+use Rattle.imagefile.specs.declared.form.Form.{Form}
+use Rattle.meaning.specs.Stands.{Stands}
+use Rattle.salvage.specs.Copies.{AreCopies, IsCopyOf, failed_by}
+use Rattle.collection.specs.HostFacts.{FileFacts}
+use Rattle.collection.specs.declared.task.ExportTask.{ExportTask}
+use Rattle.filser.specs.Hosts.{HostFacts, IsOpened}
+use Rattle.filser.specs.Images.{IsWhole}
+use Rattle.filser.specs.Salvaging.{IsCopied, IsSalvagedFrom}
+use Rattle.filser.specs.declared.status.Status.{Status}
+use Rattle.filser.proofs.Since.{same}
+
+module _ (form : Form) (u : Unseen) (d : DiskState) (began : BeganAs form u d) (sound : d.failures ≡ 0) where
+  abbrev begun : DiskState
+  begun = begun_image form d.size u
+
+  copy_since : (copy : Memory) (unread : ℕ) (lost : Bool) → d.honest → IsCopyOf d copy unread lost
+      → IsCopyOf begun copy unread lost
+  copy_since copy unread lost h p = record {
+    copied = p.copied;
+    copies = subst (λ (c : Contents). AreCopies d.size c p.copied unread) (same form u d began sound h) p.copies;
+    settled = p.settled;
+    stands = λ none files stands. p.stands none files
+        (subst (λ (c : Contents). Stands d.size c files) (sym (same form u d began sound h)) stands);
+  }
+
+  copied_since : (facts : FileFacts) (task : ExportTask) (sink full : Option (List ℕ)) (end : DiskState)
+      (status : Status) → (end.honest → d.honest) → IsCopied facts task sink full d end status
+      → IsCopied facts task sink full begun end status
+  copied_since facts task sink full end status was p = record {
+    copy = p.copy;
+    unread = p.unread;
+    lost = p.lost;
+    copied = λ h. copy_since p.copy p.unread p.lost (was h) (p.copied h);
+    failures = p.failures ∙ ap (failed_by p.unread) sound;
+    ran = ⊎_elim
+        (λ found. inl (
+          found.0,
+          found.1,
+          λ h none stored stands. found.2 h none stored
+              (subst (λ (c : Contents). Stands d.size c stored) (sym (same form u d began sound (was h))) stands),
+        ))
+        (λ unsurveyed. inr unsurveyed) p.ran;
+  }
+
+  pub salvaged_since : (facts : FileFacts) (task : ExportTask) (sink full : Option (List ℕ)) (end : DiskState)
+      (status : Status) → (end.honest → d.honest) → IsSalvagedFrom facts task sink full d end status
+      → IsSalvagedFrom facts task sink full begun end status
+  salvaged_since facts task sink full end status was p = record {
+    still = λ h. still_on begun d end (began.still (was h)) (p.still h);
+    done = ⊎_elim (λ copied. inl (copied_since facts task sink full end status was copied))
+        (λ uncopied. inr (record { error = uncopied.error; cause = uncopied.cause; said = uncopied.said })) p.done;
+  }
+
+-- The same with the number of blocks that the disk has at the end, and with its file.
+pub salvage_run : {H : Type 0} (facts : HostFacts H) (path : List ℕ) (form : Form) (u : Unseen) (task : ExportTask)
+    (sink full : Option (List ℕ)) (status : Status) (d e : DiskState)
+    → IsOpened facts path u → BeganAs form u d → d.failures ≡ 0 → SameDisk d e
+    → IsSalvagedFrom facts.files task sink full d e status
+    → IsOpened facts path u × IsWhole form u e
+    × IsSalvagedFrom facts.files task sink full (begun_image form e.size u) e status
+salvage_run facts path form u task sink full status d e opened began sound kept ran = (
+  opened,
+  record { size = λ h. began.size (kept.was_honest h) ∙ (λ i. block_length form * sym kept.size i) },
+  subst (λ n. IsSalvagedFrom facts.files task sink full (begun_image form n u) e status) (sym kept.size)
+      (salvaged_since form u d began sound facts.files task sink full e status kept.was_honest ran),
+)

@@ -1,0 +1,129 @@
+-- Blocks that are counted one after the other.
+use Rattle.std.proofs.Common.{◌≡◌, ℕ, zero, suc, ◌+◌, ◌<◌, ◌≤◌, min, List, [], ◌∷◌, ◌++◌, length, get_or, slice_index}
+use Rattle.std.proofs.Common.{slice_set, take, replicate, refl, sym, ap, subst, ◌∙◌, arith, ⊎_elim, Option, None, Some}
+use Rattle.std.proofs.Common.{IfSome, IfNone}
+use Rattle.std.specs.List.{AllByRecursion}
+use Rattle.std.proofs.lemmas.Bool.{cases_eq, cases_lt}
+use Rattle.std.proofs.lemmas.List.{take_more, take_all, get_or-set_same, get_or-set_other, get_or-replicate}
+use Rattle.std.proofs.lemmas.List.{get_or_past, length-replicate}
+use Rattle.meaning.specs.Maps.{times}
+use Rattle.meaning.proofs.MapSums.{times-append, total-append}
+use Rattle.changeset.specs.PutLaws.{times_head, times_tail}
+use Rattle.volume.proofs.Marking.{times_parts}
+use Rattle.salvage.specs.Counting.{CountTo}
+use Rattle.salvage.specs.Saved.{FitsDisk, blocks_of, claims}
+use Rattle.salvage.specs.declared.saved.SavedFile.{SavedFile}
+
+-- a block that is counted once more
+pub counted_once : (counts : List ℕ) (b v : ℕ) (f : ℕ → ℕ) → b < length counts
+    → v ≡ min (min (slice_index counts b + 1) 255) 2 → CountTo counts f
+    → CountTo (slice_set counts b v) (λ m. f m + times m (b ∷ []))
+counted_once counts b v f inside is so_far m = ⊎_elim
+    (λ same. let here : slice_index (slice_set counts b v) m ≡ v = ap (slice_index (slice_set counts b v)) same
+    ∙ get_or-set_same counts b v 0 inside in
+    let was = so_far b in let at = ap f same in let one = times_head m b [] same in omega arith)
+    (λ other. let there : slice_index (slice_set counts b v) m ≡ slice_index counts m
+    = get_or-set_other counts b m v 0 other in
+    let was = so_far m in let none = times_tail m b [] other in omega arith) (cases_eq m b)
+
+-- Counting adds these numbers to whatever was counted.
+abbrev pub Adds : List ℕ → List ℕ → (ℕ → ℕ) → Type 0
+Adds old new g = (f : ℕ → ℕ) → CountTo old f → CountTo new (λ m. f m + g m)
+
+pub adds_none : (counts : List ℕ) (g : ℕ → ℕ) → ((m : ℕ) → g m ≡ 0) → Adds counts counts g
+adds_none counts g none f so_far m = let was = so_far m in let zero = none m in omega arith
+
+pub adds_on : (old now new : List ℕ) (g h k : ℕ → ℕ) → Adds old now g → Adds now new h
+    → ((m : ℕ) → k m ≡ g m + h m) → Adds old new k
+adds_on old now new g h k first second sum f so_far m =
+    let both = second (λ m. f m + g m) (first f so_far) m in
+    let all = sum m in omega arith
+
+pub adds_same : (old new : List ℕ) (g h : ℕ → ℕ) → Adds old new g → ((m : ℕ) → h m ≡ g m) → Adds old new h
+adds_same old new g h first same f so_far m = let one = first f so_far m in let e = same m in omega arith
+
+-- The blocks of a list, one by one.
+
+pub times_more : (blocks : List ℕ) (i b : ℕ) → i < length blocks → b ≡ get_or blocks i 0 → (m : ℕ)
+    → times m (take (i + 1) blocks) ≡ times m (take i blocks) + times m (b ∷ [])
+times_more blocks i b below is m = ap (times m)
+    (take_more blocks i 0 below ∙ ap (λ (n : ℕ). take i blocks ++ n ∷ []) (sym is))
+    ∙ times-append m (take i blocks) (b ∷ [])
+
+pub times_all : (blocks : List ℕ) (i : ℕ) → length blocks ≤ i → (m : ℕ) → times m blocks ≡ times m (take i blocks)
+times_all blocks i past m = ap (times m) (sym (take_all i blocks past))
+
+-- Those before a place stand once, and the one at the place does.
+pub alone_more : (counts blocks : List ℕ) (i b : ℕ) → i < length blocks → b ≡ get_or blocks i 0
+    → slice_index counts b ≡ 1 → ((n : ℕ) → 0 < times n (take i blocks) → slice_index counts n ≡ 1) → (n : ℕ)
+    → 0 < times n (take (i + 1) blocks) → slice_index counts n ≡ 1
+alone_more counts blocks i b below is one so_far n among = ⊎_elim
+    (λ same. ap (slice_index counts) same ∙ one)
+    (λ other. let none = times_tail n b [] other in so_far n (omega (arith, times_more blocks i b below is n)))
+    (cases_eq n b)
+
+-- The files of a list, one by one.
+
+pub fits_at : (size : ℕ) (files : List SavedFile) (i : ℕ) (file : SavedFile) → i < length files
+    → file ≡ get_or files i file → AllByRecursion (FitsDisk size) files → FitsDisk size file
+fits_at size [] i file below is all = absurd (omega arith)
+fits_at size (x ∷ xs) zero file below is all = subst (FitsDisk size) (sym is) all.0
+fits_at size (x ∷ xs) (suc i) file below is all = fits_at size xs i file (omega arith) is all.1
+
+pub claims_more : (files : List SavedFile) (i : ℕ) (file : SavedFile) → i < length files → file ≡ get_or files i file
+    → (m : ℕ) → claims (take (i + 1) files) m ≡ claims (take i files) m + times m (blocks_of file)
+claims_more files i file below is m =
+    let one : claims (file ∷ []) m ≡ times m (blocks_of file) = omega arith in
+    ap (λ (l : List SavedFile). claims l m)
+    (take_more files i file below ∙ ap (λ (f : SavedFile). take i files ++ f ∷ []) (sym is))
+    ∙ total-append (λ f. times m (blocks_of f)) (take i files) (file ∷ [])
+    ∙ ap (λ (k : ℕ). claims (take i files) m + k) one
+
+pub claims_all : (files : List SavedFile) (i : ℕ) → length files ≤ i → (m : ℕ)
+    → claims files m ≡ claims (take i files) m
+claims_all files i past m = ap (λ (l : List SavedFile). claims l m) (sym (take_all i files past))
+
+-- All blocks of a file stand once if those of its parts do.
+pub alone_parts : (counts : List ℕ) (at : ℕ) (ribs blocks : List ℕ) → slice_index counts at ≡ 1
+    → ((n : ℕ) → 0 < times n ribs → slice_index counts n ≡ 1)
+    → ((n : ℕ) → 0 < times n blocks → slice_index counts n ≡ 1) → (n : ℕ)
+    → 0 < times n (at ∷ (ribs ++ blocks)) → slice_index counts n ≡ 1
+alone_parts counts at ribs blocks one of_ribs of_blocks n among = ⊎_elim
+    (λ same. ap (slice_index counts) same ∙ one)
+    (λ other. let none = times_tail n at [] other in let sum = times_parts n at ribs blocks in
+    by (times n ribs) refl (omega arith)) (cases_eq n at)
+  where
+    by : (k : ℕ) → times n ribs ≡ k → 0 < times n ribs + times n blocks → slice_index counts n ≡ 1
+    by zero none some = of_blocks n (omega arith)
+    by (suc k) here some = of_ribs n (omega arith)
+
+pub some_on : (found : Option ℕ) (P Q : ℕ → Type 0) → ((n : ℕ) → P n → Q n) → IfSome found P → IfSome found Q
+some_on None P Q then is = tt
+some_on (Some n) P Q then is = then n is
+
+pub none_on : (found : Option ℕ) (A B : Type 0) → (A → B) → IfNone found A → IfNone found B
+none_on None A B then is = then is
+none_on (Some n) A B then is = tt
+
+-- The counts of all files.
+
+zeros_count : (size : ℕ) (zeros : List ℕ) → zeros ≡ replicate size 0 → CountTo zeros (λ m. 0)
+zeros_count size zeros is m = ap (λ (l : List ℕ). slice_index l m) is
+    ∙ ⊎_elim (λ below. get_or-replicate size m 0 0 below)
+    (λ past. get_or_past (replicate size 0) m 0 (let long : length (replicate {A = ℕ} size 0) ≡ size
+    = length-replicate size 0 in omega arith)) (cases_lt m size)
+
+pub first_counts : (size : ℕ) (zeros counts : List ℕ) (files seen : List SavedFile) → zeros ≡ replicate size 0
+    → seen ≡ files → Adds zeros counts (λ m. claims seen m) → CountTo counts (claims files)
+first_counts size zeros counts files seen is same adds m =
+    let all = adds (λ n. 0) (zeros_count size zeros is) m in
+    let e : claims seen m ≡ claims files m = ap (λ (l : List SavedFile). claims l m) same in
+    omega arith
+
+pub all_counts : (counts counts' : List ℕ) (files more seen : List SavedFile) → CountTo counts (claims files)
+    → seen ≡ more → Adds counts counts' (λ m. claims seen m) → CountTo counts' (claims (files ++ more))
+all_counts counts counts' files more seen counted same adds m =
+    let all = adds (claims files) counted m in
+    let e : claims seen m ≡ claims more m = ap (λ (l : List SavedFile). claims l m) same in
+    let sum = total-append (λ f. times m (blocks_of f)) files more in
+    omega arith

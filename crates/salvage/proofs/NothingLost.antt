@@ -1,0 +1,404 @@
+-- If contents stand for files, no finding costs one of these, and what was saved is the file.
+use Rattle.std.proofs.Common.{◌≡◌, inl, inr, ⊎_elim, ℕ, zero, suc, ◌+◌, ◌<◌, ◌≤◌, List, [], ◌∷◌, ◌++◌, Some, refl, sym}
+use Rattle.std.proofs.Common.{ap, subst, ◌∙◌, arith, nat_cmp, option_map, Result, Ok, Err, IfOk}
+use Rattle.std.proofs.lemmas.Bool.{cases_eq}
+use Rattle.std.specs.Cmp.{nat_cmp_total}
+use Rattle.std.specs.FinMap.{nat_cmp-IsAntisymmetric}
+use Rattle.std.specs.List.{AllByRecursion}
+use Rattle.words36.specs.declared.names.FileName.{FileName}
+use Rattle.blockdisk.specs.Disk.{Contents}
+use Rattle.meaning.specs.Blocks.{head_or_zero}
+use Rattle.meaning.specs.Directories.{Node, numbers, first_of, items, IsSpelled, master_words, file_words}
+use Rattle.meaning.specs.Faults.{IsBadRetrieval}
+use Rattle.meaning.specs.Faults as faults
+use Rattle.meaning.specs.Files.{File, Files, Directory, Place, name_cmp}
+use Rattle.meaning.specs.Home.{Home, IsHome}
+use Rattle.meaning.specs.Layouts.{layout_number}
+use Rattle.meaning.specs.Maps.{FinMap, get, times}
+use Rattle.meaning.specs.Retrieval.{prime_of, IsRetrieved, HasBody}
+use Rattle.meaning.specs.Stands.{StoredFile, StoredDirectory, DiskMap, HasMap, SettledStands, directory_of, place_of}
+use Rattle.meaning.specs.Stands.{entry_of, home_of, reaches, reaches_in_directory, reaches_in_file}
+use Rattle.meaning.specs.Walks.{LeadsAlong, IsDirectoryNamed, IsFileNamed}
+use Rattle.meaning.proofs.Chains.{head-numbers}
+use Rattle.meaning.proofs.DiskMaps.{once, directory_part, file_part}
+use Rattle.meaning.proofs.Excluded.{image, zero_free, IsMappedFile, file_named}
+use Rattle.meaning.proofs.ExcludedFiles.{no_fault}
+use Rattle.meaning.proofs.Lists.{not_first, times_here, times-cons}
+use Rattle.meaning.proofs.MapLaws.{some_same}
+use Rattle.meaning.proofs.MapLists.{get-map_values, get-from_entries}
+use Rattle.meaning.proofs.MapSums.{two-le-sum_entries}
+use Rattle.meaning.proofs.Names.{name_total, name_exact}
+use Rattle.meaning.proofs.Versions.{retrieved_same}
+use Rattle.retrieval.specs.Primes.{with_length}
+use Rattle.volume.specs.FileReading.{IsOtherPlace}
+use Rattle.volume.specs.declared.error.VolumeError.{VolumeError}
+use Rattle.volume.specs.declared.error.VolumeError.TheVariants.{NotVolume, BadHome, BadLog, BadDirectory, BadRetrieval}
+use Rattle.volume.specs.declared.error.VolumeError.TheVariants.{BlockTwice, TableWrong, Device, NoMemory, Failed}
+use Rattle.volume.specs.declared.error.VolumeError.TheVariants.{BadData}
+use Rattle.salvage.specs.Findings.{Concerns, IsFaultAt, IsFaultOf, IsFaultOfChain, IsFaultOfDirectory, IsFaultOfMaster}
+use Rattle.salvage.specs.Findings.{IsFinding}
+use Rattle.salvage.specs.Saved.{AreApart, IsAmong, IsNamedRead, IsWholeFile, blocks_of, claims, place_in}
+use Rattle.salvage.specs.Surveys.{AreAllSaved, IsLostBy, IsNamedLoss, IsSavedAs, IsSurveyed}
+use Rattle.salvage.specs.declared.saved.SavedFile.{SavedFile}
+use Rattle.salvage.specs.declared.survey.Survey.{Survey}
+use Rattle.salvage.specs.declared.finding.Cost.{Cost}
+use Rattle.salvage.specs.declared.finding.Cost.TheVariants as cost
+use Rattle.salvage.specs.declared.finding.Finding.{Finding}
+use Rattle.salvage.proofs.Carrying.{element_has}
+use Rattle.salvage.proofs.SavedFiles.{blocks_at}
+
+-- What a walk names.
+
+leads_whole : {E : Type 0} (words : E → List ℕ) (contents : Contents) (nodes : List (Node E))
+    → IsSpelled words contents nodes → times 0 (numbers nodes) ≡ 0 → LeadsAlong words contents (first_of nodes) nodes 0
+leads_whole words contents [] s z = refl
+leads_whole words contents (node ∷ nodes) s z =
+    (refl, some node.0 z, first_of nodes, s.0, leads_whole words contents nodes s.1 (omega arith))
+  where
+    some : (n : ℕ) → times 0 (n ∷ numbers nodes) ≡ 0 → 0 < n
+    some zero none = absurd (not_first 0 (numbers nodes) refl none)
+    some (suc n) none = omega arith
+
+module _ (size : ℕ) (contents : Contents) (m : DiskMap) (s : HasMap size contents m) where
+  -- the directories of the map are named
+  directory_there : (ppn : ℕ) (d : StoredDirectory) → get m.directories ppn ≡ Some d
+      → IsDirectoryNamed size contents m.layout ppn (entry_of d).0 (head_or_zero d.chain)
+  directory_there ppn d at =
+      let master = s.mapped.master in
+      let zero_is : times 0 m.chain ≡ 0 = let free = zero_free size contents m s in omega arith in
+      let first_is : first_of master.nodes ≡ head_or_zero m.chain = sym (head-numbers master.nodes)
+      ∙ ap head_or_zero master.blocks_are in
+      record {
+        nodes = master.nodes;
+        last = 0;
+        walk = record {
+          volume = s.volume;
+          master = head_or_zero m.chain;
+          home = s.mapped.home;
+          walk = subst (λ (n : ℕ). LeadsAlong master_words contents n master.nodes 0) first_is
+              (leads_whole master_words contents master.nodes master.spelled
+              (ap (times 0) master.blocks_are ∙ zero_is));
+        };
+        entry = sym (get-from_entries nat_cmp_total (items master.nodes) ppn)
+            ∙ ap (λ (z : FinMap nat_cmp (ℕ × ℕ)). get z ppn) master.map_is
+            ∙ get-map_values nat_cmp_total entry_of m.directories ppn ∙ ap (option_map entry_of) at;
+      }
+
+  -- and so are the files
+  file_there : (ppn : ℕ) (d : StoredDirectory) (name : FileName) (f : StoredFile) → get m.directories ppn ≡ Some d
+      → get d.files name ≡ Some f → IsFileNamed size contents m.layout (place_of ppn name) f.prime
+  file_there ppn d name f at has =
+      let chain = (s.mapped.directories ppn d at).chain in
+      let zero_is : times 0 d.chain ≡ 0 = let free = zero_free size contents m s in
+      let part = directory_part m ppn d at 0 in omega arith in
+      let first_is : first_of chain.nodes ≡ head_or_zero d.chain = sym (head-numbers chain.nodes)
+      ∙ ap head_or_zero chain.blocks_are in
+      record {
+        nodes = chain.nodes;
+        last = 0;
+        walk = record {
+          word = (entry_of d).0;
+          first = head_or_zero d.chain;
+          named = directory_there ppn d at;
+          walk = subst (λ (n : ℕ). LeadsAlong file_words contents n chain.nodes 0) first_is
+              (leads_whole file_words contents chain.nodes chain.spelled (ap (times 0) chain.blocks_are ∙ zero_is));
+        };
+        entry = sym (get-from_entries name_total (items chain.nodes) name)
+            ∙ ap (λ (z : FinMap name_cmp ℕ). get z name) chain.map_is
+            ∙ get-map_values name_total (λ (x : StoredFile). x.prime) d.files name
+            ∙ ap (option_map (λ (x : StoredFile). x.prime)) has;
+      }
+
+  -- A file that was read is the map's.
+  record IsMapped (layout : ℕ) (saved : SavedFile) : Type 0 where
+    mapped : IsMappedFile size contents m layout (place_in saved) saved.at
+    facts : with_length saved.stored.prime saved.stored.version.words ≡ prime_of (place_in saved) mapped.file.file
+    ribs : saved.stored.version.ribs ≡ mapped.file.extensions
+    blocks : saved.stored.version.blocks ≡ mapped.file.blocks
+
+  read_is_mapped : (layout : ℕ) (saved : SavedFile) → IsNamedRead size layout contents saved → IsMapped layout saved
+  read_is_mapped layout saved read =
+      let place = place_in saved in
+      let there = file_named size contents m s layout place saved.at read.named in
+      let file = there.file in
+      let own : IsRetrieved layout contents (prime_of place file.file) saved.at file.extensions file.blocks =
+      subst (λ (l : ℕ). IsRetrieved l contents (prime_of place file.file) saved.at file.extensions file.blocks)
+      (sym there.layout_is)
+      (subst (λ (n : ℕ). IsRetrieved m.layout contents (prime_of place file.file) n file.extensions file.blocks)
+      there.prime_is there.version.retrieved) in
+      let same = retrieved_same layout contents (with_length saved.stored.prime saved.stored.version.words)
+      (prime_of place file.file) saved.at saved.stored.version.ribs file.extensions saved.stored.version.blocks
+      file.blocks read.read.retrieved own refl in
+      record { mapped = there; facts = same.0; ribs = same.1; blocks = same.2 }
+
+  -- Two files with different prime blocks share no block.
+  two_files : (p q : Place) (d e : StoredDirectory) (f g : StoredFile) → get m.directories p.ppn ≡ Some d
+      → get d.files p.name ≡ Some f → get m.directories q.ppn ≡ Some e → get e.files q.name ≡ Some g
+      → (f.prime ≡ g.prime → ⊥) → (n : ℕ) → reaches_in_file n f + reaches_in_file n g ≤ reaches n m
+  two_files p q d e f g at has at' has' differ n = ⊎_elim
+      (λ (same : q.ppn ≡ p.ppn).
+      let directory : d ≡ e = some_same (sym at ∙ ap (λ (k : ℕ). get m.directories k) (sym same) ∙ at') in
+      let there : get d.files q.name ≡ Some g = subst (λ (x : StoredDirectory). get x.files q.name ≡ Some g)
+      (sym directory) has' in
+      let two = two-le-sum_entries name_total name_exact (λ (k : FileName). reaches_in_file n) d.files p.name q.name f g
+      has there (λ same_name. differ (ap (λ (x : StoredFile). x.prime) (some_same (sym has
+      ∙ ap (λ (k : FileName). get d.files k) (sym same_name) ∙ there)))) in
+      let part = directory_part m p.ppn d at n in
+      omega arith)
+      (λ other.
+      let two = two-le-sum_entries nat_cmp_total nat_cmp-IsAntisymmetric (λ (k : ℕ). reaches_in_directory n)
+      m.directories p.ppn q.ppn d e at at' other in
+      let first = file_part d p.name f has n in
+      let second = file_part e q.name g has' n in
+      omega arith)
+      (cases_eq q.ppn p.ppn)
+
+  mapped_blocks : (layout : ℕ) (saved : SavedFile) (is : IsMapped layout saved) (n : ℕ)
+      → times n (blocks_of saved) ≡ reaches_in_file n is.mapped.file
+  mapped_blocks layout saved is n = λ i. times n (sym is.mapped.prime_is i ∷ (is.ribs i ++ is.blocks i))
+
+  -- one more file shares no block with those that claim it
+  unshared : (layout : ℕ) (f : SavedFile) (files : List SavedFile) (n : ℕ) → IsMapped layout f
+      → AllByRecursion (IsNamedRead size layout contents) files → times f.at (blocks_at files) ≡ 0
+      → 0 < claims files n → times n (blocks_of f) ≡ 0
+  unshared layout f [] n is all others some = absurd (omega arith)
+  unshared layout f (g ∷ files) n is all others some =
+      by (times n (blocks_of g)) refl (λ more. unshared layout f files n is all.1 (omega arith) more)
+    where
+      apart : f.at ≡ g.at → ⊥
+      apart same = let here = times_here f.at (blocks_at files) in
+          let there : 0 < times f.at (blocks_at (g ∷ files)) = subst
+          (λ (k : ℕ). 0 < times f.at (k ∷ blocks_at files)) same here in omega arith
+
+      by : (k : ℕ) → times n (blocks_of g) ≡ k → (0 < claims files n → times n (blocks_of f) ≡ 0)
+          → times n (blocks_of f) ≡ 0
+      by zero none rest = rest (omega arith)
+      by (suc k) here rest =
+          let other = read_is_mapped layout g all.0 in
+          let mine = is.mapped in
+          let yours = other.mapped in
+          let two = two_files (place_in f) (place_in g) mine.directory yours.directory mine.file yours.file
+          mine.directory_is mine.file_is yours.directory_is yours.file_is
+          (λ same. apart (sym mine.prime_is ∙ same ∙ yours.prime_is)) n in
+          let a = mapped_blocks layout f is n in
+          let b = mapped_blocks layout g other n in
+          let one = once size contents m s.marked n in
+          omega arith
+
+  -- So no block stands twice in files that were read.
+  claimed_once : (layout : ℕ) (files : List SavedFile) → AllByRecursion (IsNamedRead size layout contents) files
+      → AreApart files → (n : ℕ) → claims files n ≤ 1
+  claimed_once layout [] all apart n = omega arith
+  claimed_once layout (f ∷ files) all apart n = by (claims files n) refl
+      (claimed_once layout files all.1 (λ k. let few = apart k in omega arith) n)
+    where
+      is : IsMapped layout f
+      is = read_is_mapped layout f all.0
+
+      others : times f.at (blocks_at files) ≡ 0
+      others = let few = apart f.at in let head = times-cons f.at (blocks_at files) in omega arith
+
+      by : (k : ℕ) → claims files n ≡ k → claims files n ≤ 1 → claims (f ∷ files) n ≤ 1
+      by zero none rest =
+          let a = mapped_blocks layout f is n in
+          let part = file_part is.mapped.directory f.stored.prime.file is.mapped.file is.mapped.file_is n in
+          let whole = directory_part m f.stored.prime.ppn is.mapped.directory is.mapped.directory_is n in
+          let one = once size contents m s.marked n in
+          omega arith
+      by (suc k) some rest = let none = unshared layout f files n is all.1 others (omega arith) in omega arith
+
+  -- No finding stands that costs a named file.
+
+  no_file_fault : (layout : ℕ) (place : Place) (fault : VolumeError) → IsFaultOf size layout contents place fault → ⊥
+  no_file_fault layout place fault met = by fault met.concerns
+    where
+      by : (e : VolumeError) → Concerns size layout contents place met.prime e → ⊥
+      by NotVolume is = is
+      by BadHome is = is
+      by BadLog is = is
+      by (BadDirectory n) is = is
+      by (BadRetrieval n) is = no_fault size contents m s (faults.StartFault.BadRetrieval n) (
+        is.0,
+        ⊎_elim (λ bad. IsBadRetrieval.of_version layout place met.prime met.named bad)
+            (λ other. IsBadRetrieval.of_another_place layout place
+            (subst (λ (p : ℕ). IsFileNamed size contents layout place p) (sym other.0) met.named)
+            (subst (λ (p : ℕ). IsOtherPlace layout contents place p) (sym other.0) other.1)) is.1,
+      )
+      by (BlockTwice n) is = let two = is.1.twice in
+          let few = claimed_once layout is.1.files is.1.named is.1.apart n in omega arith
+      by (TableWrong n) is = is
+      by Device is = is
+      by NoMemory is = is
+      by Failed is = is
+      by (BadData n) is = no_fault size contents m s (faults.StartFault.BadData n) (
+        is.0,
+        record {
+          layout = layout;
+          place = place;
+          p = is.1.p;
+          prime = met.prime;
+          extensions = is.1.extensions;
+          blocks = is.1.blocks;
+          named = met.named;
+          place_is = is.1.place_is;
+          retrieved = is.1.retrieved;
+          inside = is.1.inside;
+          damaged = is.1.damaged;
+        },
+      )
+
+  no_directory_fault : (layout ppn : ℕ) (fault : VolumeError) → IsFaultOfDirectory size layout contents ppn fault → ⊥
+  no_directory_fault layout ppn fault met = by fault met.concerns
+    where
+      by : (e : VolumeError) → IsFaultOfChain size contents met.first e → ⊥
+      by NotVolume is = is
+      by BadHome is = is
+      by BadLog is = is
+      by (BadDirectory n) is = no_fault size contents m s (faults.StartFault.BadDirectory n) (
+        is.inside,
+        inr (record {
+          layout = layout;
+          ppn = ppn;
+          before = is.before;
+          walk = record { word = met.word; first = met.first; named = met.named; walk = is.walk };
+          inside = is.inside;
+          bad = is.bad;
+        }),
+      )
+      by (BadRetrieval n) is = is
+      by (BlockTwice n) is = no_fault size contents m s (faults.StartFault.BlockTwice n) (
+        is.0,
+        record {
+          m = record {
+            nodes = met.named.nodes;
+            last = met.named.last;
+            directories = (ppn, record { nodes = is.1.before; last = n; files = [] }) ∷ [];
+          };
+          read = record {
+            layout = layout;
+            walk = met.named.walk;
+            once = (refl, tt);
+            directories = (
+              record {
+                word = met.word;
+                first = met.first;
+                entry = met.named.entry;
+                walk = is.1.walk;
+                once = tt;
+                files = tt;
+              },
+              tt,
+            );
+          };
+          twice = let t = is.1.twice in omega arith;
+        },
+      )
+      by (TableWrong n) is = is
+      by Device is = is
+      by NoMemory is = is
+      by Failed is = is
+      by (BadData n) is = is
+
+  no_master_fault : (layout : ℕ) (fault : VolumeError) → IsFaultOfMaster size layout contents fault → ⊥
+  no_master_fault layout NotVolume is = no_fault size contents m s faults.StartFault.NotVolume is
+  no_master_fault layout BadHome is = no_fault size contents m s faults.StartFault.BadHome is
+  no_master_fault layout BadLog is = is
+  no_master_fault layout (BadDirectory n) is = no_fault size contents m s (faults.StartFault.BadDirectory n)
+      (is.0, inl is.1)
+  no_master_fault layout (BadRetrieval n) is = is
+  no_master_fault layout (BlockTwice n) is = no_fault size contents m s (faults.StartFault.BlockTwice n) (
+    is.inside,
+    record {
+      m = record { nodes = is.twice.before; last = n; directories = [] };
+      read = record {
+        layout = layout;
+        walk = record { volume = s.volume; master = is.first; home = is.home; walk = is.twice.walk };
+        once = tt;
+        directories = tt;
+      };
+      twice = let t = is.twice.twice in omega arith;
+    },
+  )
+  no_master_fault layout (TableWrong n) is = is
+  no_master_fault layout Device is = is
+  no_master_fault layout NoMemory is = is
+  no_master_fault layout Failed is = is
+  no_master_fault layout (BadData n) is = is
+
+  no_loss : (layout : ℕ) (findings : List Finding) (ppn : ℕ) (name : FileName)
+      → AllByRecursion (IsFinding size layout contents) findings → IsNamedLoss findings ppn name → ⊥
+  no_loss layout findings ppn name stand loss = ⊎_elim
+      (λ lost. no_file_fault layout (place_of ppn name) lost.fault (at (cost.File ppn name) lost))
+      (λ rest. ⊎_elim (λ lost. no_directory_fault layout ppn lost.fault (at (cost.Directory ppn) lost))
+      (λ lost. no_master_fault layout lost.fault (at cost.Directories lost)) rest) loss
+    where
+      at : (costs : Cost) (lost : IsLostBy findings costs) → IsFaultAt size layout contents lost.fault costs
+      at costs lost = element_has (IsFinding size layout contents) findings
+          (record { fault = lost.fault; costs = costs }) stand lost.among
+
+  -- The files of the map are saved.
+  file_saved : (layout : ℕ) (saved : List SavedFile) (findings : List Finding)
+      → IsSurveyed size layout contents saved findings → m.layout ≡ layout
+      → (ppn : ℕ) (d : StoredDirectory) (name : FileName) (f : StoredFile) → get m.directories ppn ≡ Some d
+      → get d.files name ≡ Some f → IsSavedAs contents saved (place_of ppn name) f.file
+  file_saved layout saved findings survey same ppn d name f at has =
+      ⊎_elim found (λ loss. absurd (no_loss layout findings ppn name survey.stand loss))
+      (survey.named ppn name f.prime named)
+    where
+      place : Place
+      place = place_of ppn name
+
+      named : IsFileNamed size contents layout place f.prime
+      named = subst (λ (l : ℕ). IsFileNamed size contents l place f.prime) same (file_there ppn d name f at has)
+
+      version : IsRetrieved layout contents (prime_of place f.file) f.prime f.extensions f.blocks
+      version = subst (λ (l : ℕ). IsRetrieved l contents (prime_of place f.file) f.prime f.extensions f.blocks) same
+          ((s.mapped.directories ppn d at).files name f has).retrieved
+
+      found : IsAmong saved place f.prime → IsSavedAs contents saved place f.file
+      found is =
+          let whole = element_has (IsWholeFile size layout contents) saved is.file survey.whole is.among in
+          let stored = is.file.stored in
+          let own : IsRetrieved layout contents (with_length stored.prime stored.version.words) f.prime
+          stored.version.ribs stored.version.blocks = subst (λ (n : ℕ). IsRetrieved layout contents
+          (with_length stored.prime stored.version.words) n stored.version.ribs stored.version.blocks) is.at_is
+          whole.read.retrieved in
+          let equal = retrieved_same layout contents (prime_of place f.file)
+          (with_length stored.prime stored.version.words) f.prime f.extensions stored.version.ribs f.blocks
+          stored.version.blocks version own (ap (λ (p : Place). p.name.ext) (sym is.place_is)) in
+          record {
+            saved = is.file;
+            among = is.among;
+            facts = equal.0;
+            body = subst (λ (ns : List ℕ). HasBody contents ns f.file.body) equal.2
+                ((s.mapped.directories ppn d at).files name f has).body;
+          }
+
+-- Each file of contents that stand is saved.
+pub all_saved : (size layout : ℕ) (contents : Contents) (files : Files File) (saved : List SavedFile)
+    (findings : List Finding) → IsSurveyed size layout contents saved findings
+    → ((home : Home) → IsHome size contents home → layout ≡ home.layout)
+    → SettledStands size contents files → AreAllSaved contents saved files
+all_saved size layout contents files saved findings survey layout_is stands ppn directory name file at has =
+    let m = stands.0 in
+    let s = stands.1 in
+    let d = image directory_of (get m.directories ppn) directory
+    (sym (get-map_values nat_cmp_total directory_of m.directories ppn)
+    ∙ ap (λ (z : Files File). get z ppn) stands.2 ∙ at) in
+    let f = image (λ (x : StoredFile). x.file) (get d.0.files name) file
+    (sym (get-map_values name_total (λ (x : StoredFile). x.file) d.0.files name)
+    ∙ ap (λ (z : Directory File). get z.files name) d.2 ∙ has) in
+    subst (λ (x : File). IsSavedAs contents saved (place_of ppn name) x) f.2
+    (file_saved size contents m s layout saved findings survey (sym (layout_is (home_of m) s.mapped.home)) ppn d.0 name
+    f.0 d.1 f.1)
+
+pub all_saved_on : {E : Type 0} (size : ℕ) (contents : Contents) (files : Files File) (result : Result Survey E)
+    → IfOk result (λ (survey : Survey). IsSurveyed size (layout_number survey.layout) contents survey.files.items
+    survey.findings.items)
+    → ((home : Home) → IsHome size contents home
+    → IfOk result (λ (survey : Survey). layout_number survey.layout ≡ home.layout))
+    → SettledStands size contents files
+    → IfOk result (λ (survey : Survey). AreAllSaved contents survey.files.items files)
+all_saved_on size contents files (Ok survey) surveyed layout stands = all_saved size (layout_number survey.layout)
+    contents files survey.files.items survey.findings.items surveyed layout stands
+all_saved_on size contents files (Err e) surveyed layout stands = tt

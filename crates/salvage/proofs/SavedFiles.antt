@@ -1,0 +1,130 @@
+-- Lists of files that were saved, and of findings.
+use Rattle.std.proofs.Common.{◌≡◌, ◌⊎◌, inl, inr, ⊎_elim, ℕ, ◌+◌, ◌≤◌, ◌==◌, Bool, true, false, cond, List, [], ◌∷◌}
+use Rattle.std.proofs.Common.{◌++◌, map, refl, sym, ap, subst, ◌∙◌, arith}
+use Rattle.std.proofs.lemmas.Bool.{cases_eq}
+use Rattle.std.proofs.lemmas.List.{map-append}
+use Rattle.std.proofs.lemmas.List.Elements.{Contains-append_left, Contains-push}
+use Rattle.std.specs.List.{AllByRecursion}
+use Rattle.blockdisk.specs.Disk.{Contents}
+use Rattle.meaning.specs.Files.{Place}
+use Rattle.meaning.specs.Maps.{times}
+use Rattle.meaning.specs.Retrieval.{Prime, prime_block, first_extension}
+use Rattle.meaning.proofs.MapLaws.{some_same}
+use Rattle.meaning.proofs.MapSums.{times-append, times_other}
+use Rattle.meaning.proofs.Versions.{prime_ext_same, prime_same}
+use Rattle.retrieval.specs.Primes.{with_length}
+use Rattle.retrieval.specs.Reading.{IsVersionAt}
+use Rattle.volume.specs.declared.error.VolumeError.{VolumeError}
+use Rattle.salvage.specs.Saved.{AreApart, IsAmong, IsRead, place_in}
+use Rattle.salvage.specs.Surveys.{IsLostBy}
+use Rattle.salvage.specs.declared.saved.SavedFile.{SavedFile}
+use Rattle.salvage.specs.declared.finding.Cost.{Cost}
+use Rattle.salvage.specs.declared.finding.Finding.{Finding}
+
+-- What stands at a prime block says of which place it is.
+pub same_place : (size layout : ℕ) (contents : Contents) (f g : SavedFile) → IsRead size layout contents f
+    → IsRead size layout contents g → f.at ≡ g.at → place_in f ≡ place_in g
+same_place size layout contents f g read other at =
+    let p : Prime = with_length f.stored.prime f.stored.version.words in
+    let q : Prime = with_length g.stored.prime g.stored.version.words in
+    let a = read.retrieved in
+    let moved : IsVersionAt size contents layout f.at g.stored.prime g.stored.version = subst
+    (λ (n : ℕ). IsVersionAt size contents layout n g.stored.prime g.stored.version) (sym at) other in
+    let b = moved.retrieved in
+    let words : prime_block p a.runs (first_extension a.further) ≡ prime_block q b.runs (first_extension b.further) =
+    some_same (sym a.prime_is ∙ b.prime_is) in
+    let small = read.ext_fits in
+    let small' = other.ext_fits in
+    let exts = prime_ext_same layout p q a.runs b.runs (first_extension a.further) (first_extension b.further)
+    a.fits b.fits (omega arith) (omega arith) words in
+    ap (λ (x : Prime). x.place) (prime_same layout p q a.runs b.runs (first_extension a.further)
+    (first_extension b.further) a.fits b.fits exts words)
+
+-- Files at different blocks.
+
+abbrev pub blocks_at : List SavedFile → List ℕ
+blocks_at files = map (λ (file : SavedFile). file.at) files
+
+none_at : (n : ℕ) (files : List SavedFile) → AllByRecursion (λ (g : SavedFile). g.at ≡ n → ⊥) files
+    → times n (blocks_at files) ≡ 0
+none_at n [] all = refl
+none_at n (g ∷ files) all = times_other n g.at (blocks_at files) (λ same. all.0 (sym same)) ∙ none_at n files all.1
+
+one_at : (n k : ℕ) → times n (k ∷ []) ≤ 1
+one_at n k = by (n == k)
+  where
+    by : (b : Bool) → cond b 1 0 + 0 ≤ 1
+    by true = omega arith
+    by false = omega arith
+
+pub apart_push : (files : List SavedFile) (f : SavedFile) → AreApart files
+    → AllByRecursion (λ (g : SavedFile). g.at ≡ f.at → ⊥) files → AreApart (files ++ f ∷ [])
+apart_push files f apart others n =
+    let split : times n (blocks_at (files ++ f ∷ [])) ≡ times n (blocks_at files) + times n (f.at ∷ []) =
+    ap (times n) (map-append (λ (g : SavedFile). g.at) files (f ∷ [])) ∙ times-append n (blocks_at files) (f.at ∷ []) in
+    let one = one_at n f.at in
+    let few = apart n in
+    ⊎_elim
+    (λ (here : n ≡ f.at). let none : times n (blocks_at files) ≡ 0 = subst (λ (k : ℕ). times k (blocks_at files) ≡ 0)
+    (sym here) (none_at f.at files others) in omega arith)
+    (λ away. let none = times_other n f.at [] away in omega arith)
+    (cases_eq n f.at)
+
+elsewhere : (xs ys : List SavedFile) (n : ℕ)
+    → AllByRecursion (λ (y : SavedFile). times y.at (blocks_at xs) ≡ 0) ys
+    → (times n (blocks_at ys) ≡ 0) ⊎ (times n (blocks_at xs) ≡ 0)
+elsewhere xs [] n all = inl refl
+elsewhere xs (y ∷ ys) n all = ⊎_elim
+    (λ (here : n ≡ y.at). inr (subst (λ (k : ℕ). times k (blocks_at xs) ≡ 0) (sym here) all.0))
+    (λ away. ⊎_elim (λ none. inl (times_other n y.at (blocks_at ys) away ∙ none)) (λ none. inr none)
+    (elsewhere xs ys n all.1)) (cases_eq n y.at)
+
+pub apart_both : (xs ys : List SavedFile) → AreApart xs → AreApart ys
+    → AllByRecursion (λ (y : SavedFile). times y.at (blocks_at xs) ≡ 0) ys → AreApart (xs ++ ys)
+apart_both xs ys a b others n =
+    let split : times n (blocks_at (xs ++ ys)) ≡ times n (blocks_at xs) + times n (blocks_at ys) =
+    ap (times n) (map-append (λ (g : SavedFile). g.at) xs ys) ∙ times-append n (blocks_at xs) (blocks_at ys) in
+    let few = a n in
+    let few' = b n in
+    ⊎_elim (λ none. omega arith) (λ none. omega arith) (elsewhere xs ys n others)
+
+-- What was saved and what was told, with more behind it.
+
+-- each file among the old ones is among the new ones, and what the old findings cost the new ones do
+pub record Grows (files : List SavedFile) (findings : List Finding) (files' : List SavedFile)
+    (findings' : List Finding) : Type 0 where
+  pub among : (place : Place) (prime : ℕ) → IsAmong files place prime → IsAmong files' place prime
+  pub lost : (costs : Cost) → IsLostBy findings costs → IsLostBy findings' costs
+
+pub one_file_more : (files : List SavedFile) (findings : List Finding) (f : SavedFile)
+    → Grows files findings (files ++ f ∷ []) findings
+one_file_more files findings f = record {
+  among = λ place prime is. record {
+    file = is.file;
+    among = Contains-append_left files (f ∷ []) is.file is.among;
+    at_is = is.at_is;
+    place_is = is.place_is;
+  };
+  lost = λ costs is. is;
+}
+
+pub lost_more : (findings more : List Finding) (costs : Cost) → IsLostBy findings costs
+    → IsLostBy (findings ++ more) costs
+lost_more findings more costs is = record {
+  fault = is.fault;
+  among = Contains-append_left findings more (record { fault = is.fault; costs = costs }) is.among;
+}
+
+pub one_finding_more : (files : List SavedFile) (findings : List Finding) (finding : Finding)
+    → Grows files findings files (findings ++ finding ∷ [])
+one_finding_more files findings finding = record {
+  among = λ place prime is. is;
+  lost = λ costs is. lost_more findings (finding ∷ []) costs is;
+}
+
+pub lost_here : (findings : List Finding) (fault : VolumeError) (costs : Cost)
+    → IsLostBy (findings ++ record { fault = fault; costs = costs } ∷ []) costs
+lost_here findings fault costs = record {
+  fault = fault;
+  among = Contains-push findings (record { fault = fault; costs = costs });
+}

@@ -1,0 +1,61 @@
+-- What a copy is once its log was looked at.
+use Rattle.std.proofs.Common.{◌≡◌, refl, sym, subst, inr, Bool, false, true, List, ℕ}
+use Rattle.blockdisk.specs.Disk.{Contents, DiskState}
+use Rattle.blockdisk.specs.Memory.{Memory, held}
+use Rattle.changeset.specs.Crashes.{ArePending, IsLost, IsRecovered}
+use Rattle.meaning.specs.declared.put.Put.{Put}
+use Rattle.meaning.specs.Files.{File, Files}
+use Rattle.meaning.specs.Layouts.{SettledStandsOn, pack_in}
+use Rattle.meaning.specs.Log.{with_puts}
+use Rattle.meaning.specs.Stands.{SettledStands, Stands}
+use Rattle.meaning.proofs.Settled.{settled_same}
+use Rattle.volume.proofs.Starting.{stands_ignores_gate}
+use Rattle.salvage.specs.Copies.{AreCopies, IsCopyOf}
+use Rattle.salvage.specs.Copies.IsSettledCopy.{settled, lost}
+use Rattle.salvage.proofs.Agreement.{stands_agree}
+
+-- what is recovered stands for what stood
+recovered_stands : (size : ℕ) (before now : Contents) (files : Files File) → IsRecovered size before now
+    → Stands size before files → SettledStands size now files
+recovered_stands size before now files r stands =
+    let layout = stands.2.0.layout in
+    let pack = pack_in layout size in
+    let there : SettledStandsOn pack r.settled
+    files = subst (λ c. SettledStandsOn pack c files) (settled_same size before stands.0 r.settled stands.1 r.is_settled)
+    (stands.2.0, stands.2.1, stands.2.2, refl) in
+    let after = stands_ignores_gate pack files r.settled now r.others there in
+    (after.0, after.1, after.2)
+
+-- nothing is pending where nothing settles
+pub none_pending : (size : ℕ) (c : Contents) (puts : List Put) → IsLost size c → ArePending size c puts → ⊥
+none_pending size c puts bad p = bad (with_puts puts c) (inr (p.gate, puts, p.log, λ n. refl))
+
+pub copy_recovered : (from : DiskState) (copied : Contents) (copy : Memory) (unread size : ℕ) (has_bad_log : Bool)
+    → AreCopies from.size from.contents copied unread → size ≡ from.size → has_bad_log ≡ false
+    → IsRecovered size copied (held copy.blocks) → IsCopyOf from copy unread has_bad_log
+copy_recovered from copied copy unread size has_bad_log copies same good recovered =
+    let r = subst (λ n. IsRecovered n copied (held copy.blocks)) same recovered in
+    subst (IsCopyOf from copy unread) (sym good) (record {
+      copied = copied;
+      copies = copies;
+      settled = settled r;
+      stands = λ none files stands. (
+        refl,
+        recovered_stands from.size copied (held copy.blocks) files r
+            (stands_agree from.size from.contents copied (copies.all none) files stands),
+      );
+    })
+
+pub copy_lost : (from : DiskState) (copied : Contents) (copy : Memory) (unread size : ℕ) (has_bad_log : Bool)
+    → AreCopies from.size from.contents copied unread → size ≡ from.size → has_bad_log ≡ true → IsLost size copied
+    → ((n : ℕ) → held copy.blocks n ≡ copied n) → IsCopyOf from copy unread has_bad_log
+copy_lost from copied copy unread size has_bad_log copies same is lost_log kept =
+    let bad = subst (λ n. IsLost n copied) same lost_log in
+    subst (IsCopyOf from copy unread) (sym is) (record {
+      copied = copied;
+      copies = copies;
+      settled = lost bad kept;
+      stands = λ none files stands.
+          let there = stands_agree from.size from.contents copied (copies.all none) files stands in
+          absurd (bad there.0 there.1);
+    })

@@ -1,0 +1,77 @@
+use Rattle.std.proofs.Common.{◌++◌, ◌∷◌, [], ℕ, List, length, refl, sym, subst, ◌∙◌, arith}
+use Rattle.std.proofs.lemmas.Iterator.Adapters.{YieldsList-from_vec}
+use Rattle.std.proofs.lemmas.Iterator.Consumers.{YieldsList-turn, YieldsList-end}
+use Rattle.std.proofs.lemmas.List.{length_push, take_all}
+use Rattle.std.specs.List.{AllByRecursion}
+use Rattle.blockdisk.specs.Disk.{Contents}
+use Rattle.blockdisk.specs.Laws.{same_contents, same_disk_on, same_disk_start, still_start}
+use Rattle.changeset.proofs.Reading.{only_reads_on}
+use Rattle.salvage.specs.Saved.{FitsDisk}
+use Rattle.salvage.specs.Taking.{Judges}
+use Rattle.salvage.specs.declared.saved.SavedFile.{SavedFile}
+use Rattle.salvage.proofs.CountLaws.{fits_at}
+use Rattle.salvage.proofs.Judging.{judges_start, judges_next}
+use Rattle.salvage.proofs.Members.{nothing_behind}
+use Rattle.salvage.proofs.take.take_each.Goals as goal
+
+pub take_file-requires-clause-fits : goal.take_file-requires-clause-fits
+take_file-requires-clause-fits g c =
+    let items = c.args.candidates.items in
+    let turn = YieldsList-turn (YieldsList-from_vec items (cc) (cc)) c.loop-file.yielded _ c.loop-file.yielded_by _
+    c.next.new.self c.in-Some.file c.in-Some.is c.next.ensures.steps in
+    subst (λ (z : ℕ). FitsDisk z c.in-Some.file) (sym c.loop-file.invariant.same.size)
+    (fits_at (g.D.Disk.state c.args.disk.now).size items (length c.loop-file.yielded) c.in-Some.file turn.0 turn.1
+    c.requires.fit)
+
+pub loop-file-init : goal.loop-file-init
+loop-file-init g c =
+    let s = g.D.Disk.state c.args.disk.now in
+    let files = c.args.files.now.items in
+    let findings = c.args.findings.now.items in
+    record {
+      same = same_disk_start s;
+      served = refl;
+      reads = λ h. record { still = still_start s; is_open = λ n. refl };
+      fits = λ fit. fit;
+      judged = λ h. judges_start s.contents c.args.counts.now c.args.are_named files findings (nothing_behind files)
+          (nothing_behind findings);
+    }
+
+pub loop-file-preserved : goal.loop-file-preserved
+loop-file-preserved g c =
+    let s = g.D.Disk.state c.args.disk.now in
+    let now = g.D.Disk.state c.loop-file.disk in
+    let new = g.D.Disk.state c.take_file.new.disk in
+    let items = c.args.candidates.items in
+    let inv = c.loop-file.invariant in
+    let e = c.in_ok-take_file.ensures in
+    let before = c.take_file.ensures.same.was_honest in
+    let turn = YieldsList-turn (YieldsList-from_vec items (cc) (cc)) c.loop-file.yielded _ c.loop-file.yielded_by _
+    c.next.new.self c.in-Some.file c.in-Some.is c.next.ensures.steps in
+    record {
+      same = same_disk_on s now new inv.same c.take_file.ensures.same;
+      served = e.served (λ is. cc) ∙ inv.served;
+      reads = λ h. only_reads_on s now new (inv.reads (before h)) (c.take_file.ensures.reads h);
+      fits = λ fit. subst (λ (z : ℕ). AllByRecursion (FitsDisk z) c.take_file.new.files.items) inv.same.size
+          (e.fits (subst (λ (z : ℕ). AllByRecursion (FitsDisk z) c.loop-file.files.items) (sym inv.same.size)
+          (inv.fits fit)));
+      judged = λ h. judges_next s.contents c.args.counts.now c.args.are_named items (length c.loop-file.yielded)
+          (length (c.loop-file.yielded ++ c.in-Some.file ∷ [])) c.in-Some.file c.args.files.now.items
+          c.loop-file.files.items c.take_file.new.files.items c.args.findings.now.items c.loop-file.findings.items
+          c.take_file.new.findings.items (length_push c.loop-file.yielded c.in-Some.file) turn.0 turn.1
+          (inv.judged (before h))
+          (subst (λ (d : Contents). Judges d c.args.counts.now c.args.are_named (c.in-Some.file ∷ [])
+          c.loop-file.files.items c.take_file.new.files.items c.loop-file.findings.items
+          c.take_file.new.findings.items)
+          (same_contents s.contents now.contents (inv.reads (before h)).still.contents) (e.judged h));
+    }
+
+pub returns-clause-judged : goal.returns-clause-judged
+returns-clause-judged g c h =
+    let s = g.D.Disk.state c.args.disk.now in
+    let items = c.args.candidates.items in
+    let end = YieldsList-end (YieldsList-from_vec items (cc) (cc)) c.loop-file.yielded _ c.loop-file.yielded_by _
+    c.next.new.self c.in-None.is c.next.ensures.steps in
+    subst (λ (xs : List SavedFile). Judges s.contents c.args.counts.now c.args.are_named xs c.args.files.now.items
+    c.loop-file.files.items c.args.findings.now.items c.loop-file.findings.items)
+    (take_all (length c.loop-file.yielded) items (omega (arith, end.1))) (c.loop-file.invariant.judged h)

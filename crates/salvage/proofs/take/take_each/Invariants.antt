@@ -1,0 +1,20 @@
+use Rattle.std.proofs.Common.{◌≡◌, length, take}
+use Rattle.std.specs.List.{AllByRecursion}
+use Rattle.blockdisk.specs.Disk.{SameDisk}
+use Rattle.changeset.specs.Reads.{OnlyReads}
+use Rattle.salvage.specs.Saved.{FitsDisk}
+use Rattle.salvage.specs.Taking.{Judges}
+use Rattle.salvage.proofs.take.take_each.Given as goal
+
+abbrev pub invariant-loop-file : goal.invariant-loop-file
+invariant-loop-file g l = record {
+  same : SameDisk (g.D.Disk.state l.fn.disk) (g.D.Disk.state l.disk);
+  served : (g.D.Disk.state l.disk).failures ≡ (g.D.Disk.state l.fn.disk).failures;
+  reads : (g.D.Disk.state l.disk).honest → OnlyReads (g.D.Disk.state l.fn.disk) (g.D.Disk.state l.disk);
+  fits : AllByRecursion (FitsDisk (g.D.Disk.state l.fn.disk).size) l.fn.files.items
+      → AllByRecursion (FitsDisk (g.D.Disk.state l.fn.disk).size) l.files.items;
+  judged : (g.D.Disk.state l.disk).honest
+      → Judges (g.D.Disk.state l.fn.disk).contents l.counts l.are_named
+      (take (length l.yielded) l.fn.candidates.items) l.fn.files.items l.files.items l.fn.findings.items
+      l.findings.items;
+}

@@ -1,0 +1,51 @@
+use Rattle.std.proofs.Common.{ℕ, sym, subst, ◌∙◌}
+use Rattle.std.specs.List.{AllByRecursion}
+use Rattle.blockdisk.specs.Laws.{same_contents, same_disk_on}
+use Rattle.changeset.proofs.Reading.{only_reads_on}
+use Rattle.meaning.specs.Directories.{MasterEntry}
+use Rattle.meaning.specs.Faults.{InSpace}
+use Rattle.meaning.specs.Layouts.{layout_number}
+use Rattle.volume.specs.Cores.{master_view}
+use Rattle.volume.proofs.Lookups.{viewed_at}
+use Rattle.salvage.specs.Saved.{FitsDisk}
+use Rattle.salvage.proofs.ReadingLoops.{directories_go_on}
+use Rattle.salvage.proofs.tree.add_directories.Goals as goal
+
+pub add_directory-requires-clause-inside : goal.add_directory-requires-clause-inside
+add_directory-requires-clause-inside g c =
+    let s = g.D.Disk.state c.args.disk.now in
+    subst (λ (n : ℕ). InSpace n c.entry-item.result.first) (sym c.loop-entry.invariant.same.size)
+    (viewed_at master_view c.args.entries.now c.loop-entry.entry-index c.entry-item.result c.loop-entry-test.true
+    c.entry-item.is (λ (e : MasterEntry). InSpace s.size e.1.1) c.requires.inside)
+
+pub returns-in_err-add_directory-clause-reads : goal.returns-in_err-add_directory-clause-reads
+returns-in_err-add_directory-clause-reads g c h =
+    only_reads_on (g.D.Disk.state c.args.disk.now) (g.D.Disk.state c.loop-entry.disk)
+    (g.D.Disk.state c.add_directory.new.disk) (c.loop-entry.invariant.reads (c.add_directory.ensures.same.was_honest h))
+    (c.add_directory.ensures.reads h)
+
+pub loop-entry-preserved : goal.loop-entry-preserved
+loop-entry-preserved g c =
+    let s = g.D.Disk.state c.args.disk.now in
+    let now = g.D.Disk.state c.loop-entry.disk in
+    let new = g.D.Disk.state c.add_directory.new.disk in
+    let before = c.loop-entry.invariant in
+    let ensures = c.in_ok-add_directory.ensures in
+    record {
+      same = same_disk_on s now new before.same ensures.same;
+      served = ensures.served (λ is. cc) ∙ before.served;
+      reads = λ h. only_reads_on s now new (before.reads (ensures.same.was_honest h)) (ensures.reads h);
+      fits = λ all. subst (λ (n : ℕ). AllByRecursion (FitsDisk n) c.add_directory.new.files.items) before.same.size
+          (ensures.fits (subst (λ (n : ℕ). AllByRecursion (FitsDisk n) c.loop-entry.files.items) (sym before.same.size)
+          (before.fits all)));
+      read = λ h named once r.
+          let was = ensures.same.was_honest h in
+          directories_go_on master_view s.size now.size (layout_number c.args.layout) s.contents now.contents
+          c.args.entries.now c.loop-entry.entry-index c.entry-item.result c.loop-entry.files.items
+          c.add_directory.new.files.items c.loop-entry.findings.items c.add_directory.new.findings.items
+          c.loop-entry-test.true c.entry-item.is before.same.size
+          (same_contents s.contents now.contents (before.reads was).still.contents)
+          named once (before.read was named once r)
+          (λ directories word here new_directory so_far.
+          ensures.read h directories word here new_directory so_far);
+    }

@@ -1,0 +1,29 @@
+use Rattle.std.proofs.Common.{◌≡◌, [], map, take, nat_cmp}
+use Rattle.std.specs.List.{AllByRecursion}
+use Rattle.blockdisk.specs.Disk.{SameDisk}
+use Rattle.changeset.specs.Reads.{OnlyReads}
+use Rattle.meaning.specs.Directories.{MasterEntry}
+use Rattle.meaning.specs.Layouts.{layout_number}
+use Rattle.meaning.specs.Maps.{EachOnce}
+use Rattle.meaning.specs.Walks.{IsDirectoryNamed}
+use Rattle.volume.specs.Cores.{master_view}
+use Rattle.salvage.specs.Reading.{IsReadTo}
+use Rattle.salvage.specs.Saved.{FitsDisk}
+use Rattle.salvage.proofs.tree.add_directories.Given as goal
+
+abbrev pub invariant-loop-entry : goal.invariant-loop-entry
+invariant-loop-entry g l = record {
+  same : SameDisk (g.D.Disk.state l.fn.disk) (g.D.Disk.state l.disk);
+  served : (g.D.Disk.state l.disk).failures ≡ (g.D.Disk.state l.fn.disk).failures;
+  reads : (g.D.Disk.state l.disk).honest → OnlyReads (g.D.Disk.state l.fn.disk) (g.D.Disk.state l.disk);
+  fits : AllByRecursion (FitsDisk (g.D.Disk.state l.fn.disk).size) l.fn.files.items
+      → AllByRecursion (FitsDisk (g.D.Disk.state l.fn.disk).size) l.files.items;
+  read : (g.D.Disk.state l.disk).honest
+      → AllByRecursion (λ (e : MasterEntry). IsDirectoryNamed (g.D.Disk.state l.fn.disk).size
+      (g.D.Disk.state l.fn.disk).contents (layout_number l.layout) e.0 e.1.0 e.1.1) (map master_view l.entries)
+      → EachOnce nat_cmp (map master_view l.entries)
+      → IsReadTo (g.D.Disk.state l.fn.disk).size (layout_number l.layout) (g.D.Disk.state l.fn.disk).contents
+      [] 0 [] l.fn.files.items l.fn.findings.items
+      → IsReadTo (g.D.Disk.state l.fn.disk).size (layout_number l.layout) (g.D.Disk.state l.fn.disk).contents
+      (map master_view (take l.entry-index l.entries)) 0 [] l.files.items l.findings.items;
+}

@@ -1,0 +1,49 @@
+use Rattle.std.proofs.Common.{◌≡◌, [], List, None, OnOk, map, ap, subst, nat_cmp}
+use Rattle.std.specs.FinMap.Entries.{find}
+use Rattle.std.specs.List.{AllByRecursion}
+use Rattle.blockdisk.specs.Laws.{same_contents}
+use Rattle.directory.specs.Chains.{viewed}
+use Rattle.meaning.specs.Directories.{MasterEntry, FileEntry}
+use Rattle.meaning.specs.Files.{name_cmp}
+use Rattle.meaning.specs.Layouts.{layout_number}
+use Rattle.meaning.specs.Maps.{EachOnce}
+use Rattle.volume.specs.Cores.{file_view, master_view}
+use Rattle.salvage.specs.Reading.{IsNamedIn, IsReadTo}
+use Rattle.salvage.proofs.ReadingChains.{directory_on}
+use Rattle.salvage.proofs.ReadingOn.{directory_told_on}
+use Rattle.salvage.proofs.Refusals.{directory_refused}
+use Rattle.salvage.proofs.tree.add_directory.Goals as goal
+
+pub returns-in-Ok-clause-read : goal.returns-in-Ok-clause-read
+returns-in-Ok-clause-read g c h directories word named new r =
+    let s = g.D.Disk.state c.args.disk.now in
+    let now = g.D.Disk.state c.load_chain.new.disk in
+    let was = c.add_files.ensures.same.was_honest h in
+    let e = master_view c.args.entry.now in
+    let layout = layout_number c.args.layout in
+    let files = c.args.files.now.items in
+    let findings = c.args.findings.now.items in
+    directory_on s.size now.size layout s.contents now.contents directories e word (viewed file_view c.in-Ok.chain)
+    files c.add_files.new.files.items findings c.add_files.new.findings.items c.add_files.result
+    c.load_chain.ensures.same.size
+    (same_contents s.contents now.contents (c.load_chain.ensures.reads was).still.contents) named new
+    c.in-Ok.ensures.chain (c.in-Ok.ensures.on was) (c.in-Ok.ensures.walk was) c.in-Ok.ensures.begins
+    c.in-Ok.ensures.inside r
+    (subst (λ (es : List FileEntry). (ds : List MasterEntry)
+    → AllByRecursion (IsNamedIn now.size layout now.contents e.0) es → EachOnce name_cmp es
+    → find nat_cmp e.0 ds ≡ None → IsReadTo now.size layout now.contents ds e.0 [] files findings
+    → OnOk c.add_files.result (IsReadTo now.size layout now.contents ds e.0 es c.add_files.new.files.items
+    c.add_files.new.findings.items)) (ap (map file_view) c.entries.ensures.value)
+    (λ ds named_here once new_here so_far. c.add_files.ensures.read h ds named_here once new_here so_far))
+
+pub returns-in-Err-clause-read : goal.returns-in-Err-clause-read
+returns-in-Err-clause-read g c h directories word named new r =
+    let s = g.D.Disk.state c.args.disk.now in
+    let e = c.args.entry.now in
+    let layout = layout_number c.args.layout in
+    let ensures = c.load_chain.ensures in
+    directory_told_on s.size layout s.contents directories c.args.files.now.items c.args.findings.now.items
+    c.tell_refusal.new.findings.items (master_view e) c.in-Err.refusal c.tell_refusal.result r
+    (directory_refused s.size layout s.contents e.ppn word e.first c.load_chain.result c.in-Err.refusal c.in-Err.is
+    named ensures.only (ensures.bad h) (ensures.twice h) ensures.named)
+    c.tell_refusal.ensures.told c.tell_refusal.ensures.fault

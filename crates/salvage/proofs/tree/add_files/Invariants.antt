@@ -1,0 +1,30 @@
+use Rattle.std.proofs.Common.{◌≡◌, List, [], None, map, take, nat_cmp}
+use Rattle.std.specs.FinMap.Entries.{find}
+use Rattle.std.specs.List.{AllByRecursion}
+use Rattle.blockdisk.specs.Disk.{SameDisk}
+use Rattle.changeset.specs.Reads.{OnlyReads}
+use Rattle.meaning.specs.Directories.{MasterEntry}
+use Rattle.meaning.specs.Files.{name_cmp}
+use Rattle.meaning.specs.Layouts.{layout_number}
+use Rattle.meaning.specs.Maps.{EachOnce}
+use Rattle.volume.specs.Cores.{file_view}
+use Rattle.salvage.specs.Reading.{IsNamedIn, IsReadTo}
+use Rattle.salvage.specs.Saved.{FitsDisk}
+use Rattle.salvage.proofs.tree.add_files.Given as goal
+
+abbrev pub invariant-loop-entry : goal.invariant-loop-entry
+invariant-loop-entry g l = record {
+  same : SameDisk (g.D.Disk.state l.fn.disk) (g.D.Disk.state l.disk);
+  served : (g.D.Disk.state l.disk).failures ≡ (g.D.Disk.state l.fn.disk).failures;
+  reads : (g.D.Disk.state l.disk).honest → OnlyReads (g.D.Disk.state l.fn.disk) (g.D.Disk.state l.disk);
+  fits : AllByRecursion (FitsDisk (g.D.Disk.state l.fn.disk).size) l.fn.files.items
+      → AllByRecursion (FitsDisk (g.D.Disk.state l.fn.disk).size) l.files.items;
+  read : (g.D.Disk.state l.disk).honest → (directories : List MasterEntry)
+      → AllByRecursion (IsNamedIn (g.D.Disk.state l.fn.disk).size (layout_number l.layout)
+      (g.D.Disk.state l.fn.disk).contents l.ppn) (map file_view l.entries)
+      → EachOnce name_cmp (map file_view l.entries) → find nat_cmp l.ppn directories ≡ None
+      → IsReadTo (g.D.Disk.state l.fn.disk).size (layout_number l.layout) (g.D.Disk.state l.fn.disk).contents
+      directories l.ppn [] l.fn.files.items l.fn.findings.items
+      → IsReadTo (g.D.Disk.state l.fn.disk).size (layout_number l.layout) (g.D.Disk.state l.fn.disk).contents
+      directories l.ppn (map file_view (take l.entry-index l.entries)) l.files.items l.findings.items;
+}

@@ -1,0 +1,47 @@
+use Rattle.std.proofs.Common.{◌≡◌, ℕ, IfOk, sym, ap, ◌∙◌}
+use Rattle.blockdisk.specs.Disk.{Contents}
+use Rattle.blockdisk.specs.Laws.{same_contents}
+use Rattle.changeset.proofs.Reading.{only_reads_on}
+use Rattle.meaning.specs.Home.{Home, IsHome}
+use Rattle.meaning.specs.Layouts.{layout_number}
+use Rattle.meaning.proofs.DiskMaps.{home_same}
+use Rattle.volume.specs.Homes.{home_in}
+use Rattle.salvage.specs.Trees.{IsTree}
+use Rattle.salvage.specs.declared.tree.Tree.{Tree}
+use Rattle.salvage.proofs.Carrying.{moved, if_ok}
+use Rattle.salvage.proofs.tree.read_tree.Goals as goal
+
+pub returns-in-Ok-clause-tree : goal.returns-in-Ok-clause-tree
+returns-in-Ok-clause-tree g c h =
+    let s = g.D.Disk.state c.args.disk.now in
+    let now = g.D.Disk.state c.read_home.new.disk in
+    let was = c.read_from.ensures.same.was_honest h in
+    let sizes = c.read_home.ensures.same.size in
+    let same = same_contents s.contents now.contents (c.read_home.ensures.reads was).still.contents in
+    let home = home_in (layout_number c.in-Ok.home.layout) c.in-Ok.home.master in
+    moved (λ (n : ℕ) (contents : Contents). IfOk c.read_from.result (λ (tree : Tree).
+    IsTree n (layout_number tree.layout) contents tree.files.items tree.findings.items)) s.size now.size s.contents
+    now.contents sizes same
+    (c.read_from.ensures.tree h (moved (λ (n : ℕ) (contents : Contents). IsHome n contents home) now.size s.size
+    now.contents s.contents (sym sizes) (sym same) (c.in-Ok.ensures.ok was)))
+
+pub returns-in-Ok-clause-layout : goal.returns-in-Ok-clause-layout
+returns-in-Ok-clause-layout g c h home is =
+    let s = g.D.Disk.state c.args.disk.now in
+    let own = home_in (layout_number c.in-Ok.home.layout) c.in-Ok.home.master in
+    if_ok (λ (tree : Tree). tree.layout ≡ c.in-Ok.home.layout)
+    (λ (tree : Tree). layout_number tree.layout ≡ home.layout) c.read_from.result
+    (λ tree layout. ap layout_number layout ∙ ap (λ (x : Home). x.layout)
+    (home_same s.size s.contents own home (c.in-Ok.ensures.ok (c.read_from.ensures.same.was_honest h)) is))
+    c.read_from.ensures.layout
+
+pub returns-in-Ok-clause-no_layout : goal.returns-in-Ok-clause-no_layout
+returns-in-Ok-clause-no_layout g c h none =
+    absurd (none (home_in (layout_number c.in-Ok.home.layout) c.in-Ok.home.master)
+    (c.in-Ok.ensures.ok (c.read_from.ensures.same.was_honest h)))
+
+pub returns-in-Ok-clause-reads : goal.returns-in-Ok-clause-reads
+returns-in-Ok-clause-reads g c h =
+    only_reads_on (g.D.Disk.state c.args.disk.now) (g.D.Disk.state c.read_home.new.disk)
+    (g.D.Disk.state c.read_from.new.disk) (c.read_home.ensures.reads (c.read_from.ensures.same.was_honest h))
+    (c.read_from.ensures.reads h)

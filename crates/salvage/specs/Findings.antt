@@ -1,0 +1,131 @@
+-- What is found wrong with a disk, and which file it costs.
+use Rattle.std.specs.Prelude.{◌≡◌, ℕ, ◌<◌, ◌≤◌, ◌⊎◌, ◌∷◌, ◌++◌, [], List, None}
+use Rattle.std.specs.List.{AllByRecursion}
+use Rattle.blockdisk.specs.Disk.{Contents}
+use Rattle.meaning.specs.Directories.{file_words, master_words}
+use Rattle.meaning.specs.Faults.{InSpace, IsBadHome, IsBadMasterBlock, IsBadVersion, IsNotVolume}
+use Rattle.meaning.specs.Files.{Place}
+use Rattle.meaning.specs.Home.{IsHome}
+use Rattle.meaning.specs.Maps.{times}
+use Rattle.meaning.specs.Retrieval.{Prime, IsRetrieved}
+use Rattle.meaning.specs.Stands.{place_of}
+use Rattle.meaning.specs.Walks.{IsDirectoryNamed, IsFileNamed}
+use Rattle.alloctab.specs.Reading.{IsBadTableBlock}
+use Rattle.directory.specs.Loading.{IsTwiceInChain}
+use Rattle.volume.specs.FaultsFound.{IsBadFileChain}
+use Rattle.volume.specs.FileReading.{IsDamagedData, IsOtherPlace}
+use Rattle.volume.specs.Homes.{home_in}
+use Rattle.volume.specs.declared.error.VolumeError.{VolumeError}
+use Rattle.volume.specs.declared.error.VolumeError.TheVariants.{NotVolume, BadHome, BadDirectory, BadRetrieval}
+use Rattle.volume.specs.declared.error.VolumeError.TheVariants.{BlockTwice, TableWrong, BadData}
+use Rattle.salvage.specs.Saved.{AreApart, IsNamedRead, IsRead, blocks_of, claims, place_in}
+use Rattle.salvage.specs.declared.saved.SavedFile.{SavedFile}
+use Rattle.salvage.specs.declared.finding.Cost.{Cost}
+use Rattle.salvage.specs.declared.finding.Cost.TheVariants as cost
+use Rattle.salvage.specs.declared.finding.Finding.{Finding}
+
+-- Files that directories name.
+
+-- A file of this place stands at a prime block, and block n is one of its blocks.
+pub record HasBlock (layout : ℕ) (contents : Contents) (place : Place) (prime n : ℕ) : Type 0 where
+  pub p : Prime
+  pub extensions : List ℕ
+  pub blocks : List ℕ
+  pub place_is : p.place ≡ place
+  pub retrieved : IsRetrieved layout contents p prime extensions blocks
+  pub among : 0 < times n (prime ∷ (extensions ++ blocks))
+
+-- Block n stands twice in files that directories name.
+pub record IsNamedTwice (size layout : ℕ) (contents : Contents) (n : ℕ) : Type 0 where
+  pub files : List SavedFile
+  pub named : AllByRecursion (IsNamedRead size layout contents) files
+  pub apart : AreApart files
+  pub twice : 2 ≤ claims files n
+
+-- The fault stands, and it concerns the file of a place whose directory names this prime block.
+abbrev pub Concerns : ℕ → ℕ → Contents → Place → ℕ → VolumeError → Type 0
+Concerns size layout contents place prime (BadRetrieval n) = InSpace size n
+    × (IsBadVersion size contents layout prime n ⊎ ((n ≡ prime) × IsOtherPlace layout contents place prime))
+Concerns size layout contents place prime (BadData n) = InSpace size n
+    × IsDamagedData layout contents place prime n
+Concerns size layout contents place prime (BlockTwice n) = HasBlock layout contents place prime n
+    × IsNamedTwice size layout contents n
+Concerns size layout contents place prime fault = ⊥
+
+-- A directory names this file, and it has the fault.
+pub record IsFaultOf (size layout : ℕ) (contents : Contents) (place : Place) (fault : VolumeError) : Type 0 where
+  pub prime : ℕ
+  pub named : IsFileNamed size contents layout place prime
+  pub concerns : Concerns size layout contents place prime fault
+
+-- Files that no directory names.
+
+-- Block n stands twice in files whose retrieval blocks are whole.
+pub record IsReadTwice (size layout : ℕ) (contents : Contents) (n : ℕ) : Type 0 where
+  pub files : List SavedFile
+  pub read : AllByRecursion (IsRead size layout contents) files
+  pub apart : AreApart files
+  pub twice : 2 ≤ claims files n
+
+abbrev pub ConcernsUnnamed : ℕ → ℕ → Contents → SavedFile → VolumeError → Type 0
+ConcernsUnnamed size layout contents file (BadData n) = (0 < times n file.stored.version.blocks) × (contents n ≡ None)
+ConcernsUnnamed size layout contents file (BlockTwice n) = (0 < times n (blocks_of file))
+    × IsReadTwice size layout contents n
+ConcernsUnnamed size layout contents file fault = ⊥
+
+-- A file whose retrieval blocks are whole says that it is of this place, and it has the fault.
+pub record IsFaultOfUnnamed (size layout : ℕ) (contents : Contents) (place : Place) (fault : VolumeError) : Type 0 where
+  pub file : SavedFile
+  pub inside : InSpace size file.at
+  pub read : IsRead size layout contents file
+  pub place_is : place_in file ≡ place
+  pub concerns : ConcernsUnnamed size layout contents file fault
+
+-- Directories.
+
+-- The chain of a directory that begins in this block can't be read.
+abbrev pub IsFaultOfChain : ℕ → Contents → ℕ → VolumeError → Type 0
+IsFaultOfChain size contents first (BadDirectory n) = IsBadFileChain size contents first n
+IsFaultOfChain size contents first (BlockTwice n) = InSpace size n × IsTwiceInChain file_words contents [] first n
+IsFaultOfChain size contents first fault = ⊥
+
+-- The master directory names this directory, and its chain can't be read.
+pub record IsFaultOfDirectory (size layout : ℕ) (contents : Contents) (ppn : ℕ) (fault : VolumeError) : Type 0 where
+  pub word : ℕ
+  pub first : ℕ
+  pub named : IsDirectoryNamed size contents layout ppn word first
+  pub concerns : IsFaultOfChain size contents first fault
+
+-- The master directory comes to a block that it had before.
+pub record IsMasterTwice (size layout : ℕ) (contents : Contents) (n : ℕ) : Type 0 where
+  pub first : ℕ
+  pub home : IsHome size contents (home_in layout first)
+  pub inside : InSpace size n
+  pub twice : IsTwiceInChain master_words contents [] first n
+
+-- Neither home copy is valid, or the master directory can't be read.
+abbrev pub IsFaultOfMaster : ℕ → ℕ → Contents → VolumeError → Type 0
+IsFaultOfMaster size layout contents NotVolume = IsNotVolume size contents
+IsFaultOfMaster size layout contents BadHome = IsBadHome size contents
+IsFaultOfMaster size layout contents (BadDirectory n) = InSpace size n × IsBadMasterBlock size contents n
+IsFaultOfMaster size layout contents (BlockTwice n) = IsMasterTwice size layout contents n
+IsFaultOfMaster size layout contents fault = ⊥
+
+-- All of them.
+
+-- The fault stands, and costs no file.
+abbrev pub IsFaultOfTable : ℕ → Contents → VolumeError → Type 0
+IsFaultOfTable size contents (TableWrong n) = IsBadTableBlock size contents n
+IsFaultOfTable size contents fault = ⊥
+
+-- The fault stands in these contents, and costs this.
+abbrev pub IsFaultAt : ℕ → ℕ → Contents → VolumeError → Cost → Type 0
+IsFaultAt size layout contents fault (cost.File ppn name) = IsFaultOf size layout contents (place_of ppn name) fault
+IsFaultAt size layout contents fault (cost.Unnamed ppn name) = IsFaultOfUnnamed size layout contents (place_of ppn name)
+    fault
+IsFaultAt size layout contents fault (cost.Directory ppn) = IsFaultOfDirectory size layout contents ppn fault
+IsFaultAt size layout contents fault cost.Directories = IsFaultOfMaster size layout contents fault
+IsFaultAt size layout contents fault cost.Nothing = IsFaultOfTable size contents fault
+
+abbrev pub IsFinding : ℕ → ℕ → Contents → Finding → Type 0
+IsFinding size layout contents finding = IsFaultAt size layout contents finding.fault finding.costs

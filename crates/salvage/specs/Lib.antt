@@ -1,0 +1,9 @@
+pub mod Copies
+pub mod Saved
+pub mod Counting
+pub mod Findings
+pub mod Surveys
+pub mod Trees
+pub mod Reading
+pub mod Taking
+pub mod Looking

@@ -1,0 +1,101 @@
+ghost use Rattle.std.specs.Prelude.{◌≡◌, ◌↔◌, IfOk, IsErrOf};
+ghost use Rattle.std.specs.List.{AllByRecursion};
+ghost use Rattle.blockdisk.specs.Disk.{SameDisk, one_more};
+ghost use Rattle.changeset.specs.Reads.{OnlyReads};
+ghost use Rattle.meaning.specs.Files.{File, Files};
+ghost use Rattle.meaning.specs.Home.{Home, IsHome};
+ghost use Rattle.meaning.specs.Layouts.{layout_number};
+ghost use Rattle.meaning.specs.Regions.{IsVolumeSize};
+ghost use Rattle.meaning.specs.Stands.{SettledStands};
+ghost use Rattle.salvage.specs.Saved.{FitsDisk};
+ghost use Rattle.salvage.specs.Surveys.{AreAllSaved, IsSurveyed};
+ghost use Rattle.salvage.specs.declared.error.SalvageError.TheVariants.{Device, NotVolume};
+
+use crate::scan::scan;
+use crate::take::take;
+use crate::tree::{Tree, read_tree};
+use crate::{Finding, SalvageError, SavedFile};
+use blockdisk::Disk;
+use meaning::layout::{Layout, is_volume_size};
+use std::alloc::Global;
+
+/// What a survey of a disk finds.
+#[derive(Drop)]
+pub struct Survey {
+    /// The layout in which the disk was read: that of its home copy, or layout 2 if neither copy is valid.
+    pub layout: Layout,
+    /// The files that are whole, each block in one of them: first those that directories name.
+    pub files: Vec<SavedFile>,
+    /// What is wrong, and what it costs.
+    pub findings: Vec<Finding>,
+}
+
+/// Finds the files of a volume that are whole.
+fn survey_volume<D: Disk>(alloc: Global, disk: &mut D) -> Result<Survey, SalvageError>
+    requires { IsVolumeSize (D.state disk.old).size }
+    ensures surveyed { (D.state disk.new).honest
+        → IfOk result (λ survey. IsSurveyed (D.state disk.old).size (layout_number survey.layout)
+        (D.state disk.old).contents survey.files.items survey.findings.items) }
+    ensures layout { (D.state disk.new).honest → (home : Home)
+        → IsHome (D.state disk.old).size (D.state disk.old).contents home
+        → IfOk result (λ survey. layout_number survey.layout ≡ home.layout) }
+    ensures no_layout { (D.state disk.new).honest
+        → ((home : Home) → IsHome (D.state disk.old).size (D.state disk.old).contents home → ⊥)
+        → IfOk result (λ survey. layout_number survey.layout ≡ 2) }
+    ensures fits { IfOk result (λ survey. AllByRecursion (FitsDisk (D.state disk.old).size) survey.files.items) }
+    ensures range { IsErrOf result NotVolume → ⊥ }
+    ensures reads { (D.state disk.new).honest → OnlyReads (D.state disk.old) (D.state disk.new) }
+    ensures same { SameDisk (D.state disk.old) (D.state disk.new) }
+    ensures failed { IsErrOf result Device → (D.state disk.new).failures ≡ one_more (D.state disk.old).failures }
+    ensures served { (IsErrOf result Device → ⊥) → (D.state disk.new).failures ≡ (D.state disk.old).failures }
+{
+    let tree = read_tree(alloc, disk)?;
+    let Tree {
+        layout,
+        files: named,
+        mut findings,
+    } = tree;
+    let unnamed = scan(alloc, disk, layout, named.as_slice(), &mut findings)?;
+    let files = take(alloc, disk, named, unnamed, &mut findings)?;
+    Ok(Survey {
+        layout,
+        files,
+        findings,
+    })
+}
+
+/// Finds the files of a disk that are whole, whatever else is wrong with it. Nothing is written. The contents are taken
+/// as they are: of a disk whose gate may be open `Copied` has them as a start would find them.
+///
+/// # Errors
+///
+/// `NotVolume` if the disk has a number of blocks that no volume has, with nothing read; `Device` if the device failed;
+/// `NoMemory` if a growth was refused.
+pub fn survey_disk<D: Disk>(alloc: Global, disk: &mut D) -> Result<Survey, SalvageError>
+    ensures surveyed { (D.state disk.new).honest
+        → IfOk result (λ survey. IsSurveyed (D.state disk.old).size (layout_number survey.layout)
+        (D.state disk.old).contents survey.files.items survey.findings.items) }
+    ensures found { (D.state disk.new).honest → (files : Files File)
+        → SettledStands (D.state disk.old).size (D.state disk.old).contents files
+        → IfOk result (λ survey. AreAllSaved (D.state disk.old).contents survey.files.items files) }
+    // The layout of the home copy, or layout 2 if neither copy is valid.
+    ensures layout { (D.state disk.new).honest → (home : Home)
+        → IsHome (D.state disk.old).size (D.state disk.old).contents home
+        → IfOk result (λ survey. layout_number survey.layout ≡ home.layout) }
+    ensures no_layout { (D.state disk.new).honest
+        → ((home : Home) → IsHome (D.state disk.old).size (D.state disk.old).contents home → ⊥)
+        → IfOk result (λ survey. layout_number survey.layout ≡ 2) }
+    // On every disk what is found fits it.
+    ensures fits { IfOk result (λ survey. AllByRecursion (FitsDisk (D.state disk.old).size) survey.files.items) }
+    ensures range { IsErrOf result NotVolume ↔ (IsVolumeSize (D.state disk.old).size → ⊥) }
+    ensures untouched { IsErrOf result NotVolume → disk.new ≡ disk.old }
+    ensures reads { (D.state disk.new).honest → OnlyReads (D.state disk.old) (D.state disk.new) }
+    ensures same { SameDisk (D.state disk.old) (D.state disk.new) }
+    ensures failed { IsErrOf result Device → (D.state disk.new).failures ≡ one_more (D.state disk.old).failures }
+    ensures served { (IsErrOf result Device → ⊥) → (D.state disk.new).failures ≡ (D.state disk.old).failures }
+{
+    if !is_volume_size(disk.blocks()) {
+        return Err(SalvageError::NotVolume);
+    }
+    survey_volume(alloc, disk)
+}

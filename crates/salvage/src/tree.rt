@@ -1,0 +1,386 @@
+ghost use Rattle.std.specs.Prelude.{◌≡◌, ◌++◌, ◌∷◌, ◌⊎◌, ◌↔◌, [], ℕ, List, None, map, IfOk, IfErr, OnOk, IsErrOf};
+ghost use Rattle.std.specs.List.{AllByRecursion};
+ghost use Rattle.std.specs.Ordering.{nat_cmp};
+ghost use Rattle.std.specs.FinMap.Entries.{find};
+ghost use Rattle.blockdisk.specs.Disk.{SameDisk, one_more};
+ghost use Rattle.changeset.specs.Reads.{OnlyReads};
+ghost use Rattle.meaning.specs.Blocks.{head_or_zero};
+ghost use Rattle.meaning.specs.Directories.{MasterEntry as MasterWords, FileEntry as FileWords};
+ghost use Rattle.meaning.specs.Faults.{InSpace};
+ghost use Rattle.meaning.specs.Files.{name_cmp};
+ghost use Rattle.meaning.specs.Home.{Home as HomeWords, IsHome};
+ghost use Rattle.meaning.specs.Layouts.{layout_number};
+ghost use Rattle.meaning.specs.Maps.{EachOnce};
+ghost use Rattle.meaning.specs.Regions.{IsVolumeSize};
+ghost use Rattle.meaning.specs.Walks.{IsDirectoryNamed, LeadsAlong};
+ghost use Rattle.directory.specs.Chains.{IsChain, IsOn, nodes_of, viewed};
+ghost use Rattle.directory.specs.Loading.{IsBadChain, IsTwiceInChain};
+ghost use Rattle.volume.specs.Cores.{file_view, master_view};
+ghost use Rattle.volume.specs.Homes.{home_in};
+ghost use Rattle.volume.specs.declared.error.VolumeError.TheVariants.{BadDirectory, BlockTwice};
+ghost use Rattle.volume.specs.declared.error.VolumeError.TheVariants.{Device as DeviceFault};
+ghost use Rattle.salvage.specs.Reading.{IsChainRefusal, IsNamedIn, IsNoFault, IsReadTo};
+ghost use Rattle.salvage.specs.Saved.{FitsDisk};
+ghost use Rattle.salvage.specs.Trees.{IsTree};
+ghost use Rattle.salvage.specs.declared.error.SalvageError.TheVariants.{Device, NoMemory, NotVolume};
+ghost use Rattle.salvage.specs.declared.finding.Cost.TheVariants.{Directories};
+
+use crate::lists::{push_file, tell};
+use crate::{Cost, Finding, SalvageError, SavedFile};
+use alloctab::Reached;
+use blockdisk::Disk;
+use directory::{Chain, Entry, FileEntry, MasterEntry};
+use meaning::layout::Layout;
+use std::alloc::Global;
+use volume::{Home, VolumeError, read_home, read_named};
+use words36::Ppn;
+
+/// What directories name: the files whose retrieval blocks are whole, and what is wrong with the others.
+#[derive(Drop)]
+pub struct Tree {
+    /// The layout in which the disk was read.
+    pub layout: Layout,
+    /// The files, in the order of the directories.
+    pub files: Vec<SavedFile>,
+    /// What is wrong.
+    pub findings: Vec<Finding>,
+}
+
+/// Tells why a reader was refused, if that is a fault of the contents.
+///
+/// # Errors
+///
+/// `Device` and `NoMemory` if the reader was refused for that; `NoMemory` if the findings find no room.
+fn tell_refusal(
+    findings: &mut Vec<Finding>,
+    refusal: VolumeError,
+    costs: Cost,
+) -> Result<(), SalvageError>
+    ensures told { OnOk result (findings.new.items
+        ≡ findings.old.items ++ record { fault = refusal; costs = costs } ∷ []) }
+    ensures fault { OnOk result (IsNoFault refusal → ⊥) }
+    ensures device { IsErrOf result Device ↔ (refusal ≡ DeviceFault) }
+    ensures range { IsErrOf result NotVolume → ⊥ }
+{
+    match refusal {
+        VolumeError::Device => Err(SalvageError::Device),
+        VolumeError::NoMemory => Err(SalvageError::NoMemory),
+        fault => tell(findings, fault, costs),
+    }
+}
+
+/// Reads the chain of a directory that begins in block `first`.
+///
+/// # Errors
+///
+/// `BadDirectory` with a block that is damaged or not as it should be; `BlockTwice` with one that the chain came to
+/// before; `Device` if the device failed; `NoMemory` if a growth was refused.
+fn load_chain<E: Entry, D: Disk>(
+    alloc: Global,
+    disk: &mut D,
+    first: u32,
+) -> Result<Chain<E>, VolumeError>
+    // What the caller sees to.
+    requires volume { IsVolumeSize (D.state disk.old).size }
+    requires inside { InSpace (D.state disk.old).size first }
+    // The chain that was read, as the disk spells it.
+    ensures on { (D.state disk.new).honest
+        → IfOk result (λ chain. IsOn E.words_of (D.state disk.old).contents (viewed E.view chain)) }
+    ensures walk { (D.state disk.new).honest
+        → IfOk result (λ chain. LeadsAlong E.words_of (D.state disk.old).contents first
+        (nodes_of chain.blocks (map E.view chain.entries)) 0) }
+    ensures begins { IfOk result (λ chain. head_or_zero chain.blocks ≡ first) }
+    ensures chain { IfOk result (λ chain. IsChain E.order E.IsEntry (viewed E.view chain)) }
+    ensures inside { IfOk result (λ chain. AllByRecursion (InSpace (D.state disk.old).size) chain.blocks) }
+    ensures targets { IfOk result (λ chain. AllByRecursion (λ e. InSpace (D.state disk.old).size (E.target e))
+        (map E.view chain.entries)) }
+    // Which refusal comes when.
+    ensures bad { (D.state disk.new).honest → (n : ℕ) → IsErrOf result (BadDirectory n)
+        → IsBadChain E.order E.words_of E.IsEntry E.target (D.state disk.old).size
+        (D.state disk.old).contents first n }
+    ensures twice { (D.state disk.new).honest → (n : ℕ) → IsErrOf result (BlockTwice n)
+        → IsTwiceInChain E.words_of (D.state disk.old).contents [] first n }
+    ensures named { (n : ℕ) → IsErrOf result (BadDirectory n) ⊎ IsErrOf result (BlockTwice n)
+        → InSpace (D.state disk.old).size n }
+    ensures only { IfErr result IsChainRefusal }
+    // The device: what failed, and how often.
+    ensures reads { (D.state disk.new).honest → OnlyReads (D.state disk.old) (D.state disk.new) }
+    ensures same { SameDisk (D.state disk.old) (D.state disk.new) }
+    ensures failed { IsErrOf result DeviceFault → (D.state disk.new).failures ≡ one_more (D.state disk.old).failures }
+    ensures served { (IsErrOf result DeviceFault → ⊥) → (D.state disk.new).failures ≡ (D.state disk.old).failures }
+{
+    let mut reached = Reached::new(alloc, disk.blocks())?;
+    match Chain::load(alloc, disk, first, &mut reached) {
+        Ok(chain) => Ok(chain),
+        Err(error) => Err(VolumeError::from(error)),
+    }
+}
+
+/// Reads the file of an entry, and puts it behind the others, or what is wrong with it behind the findings.
+fn add_file<D: Disk>(
+    alloc: Global,
+    disk: &mut D,
+    layout: Layout,
+    ppn: Ppn,
+    entry: &FileEntry,
+    files: &mut Vec<SavedFile>,
+    findings: &mut Vec<Finding>,
+) -> Result<(), SalvageError>
+    // What the caller sees to.
+    requires volume { IsVolumeSize (D.state disk.old).size }
+    requires inside { InSpace (D.state disk.old).size entry.now.prime }
+    // What was read.
+    ensures read { (D.state disk.new).honest → (directories : List MasterWords) (names : List FileWords)
+        → IsNamedIn (D.state disk.old).size (layout_number layout) (D.state disk.old).contents ppn (file_view entry.now)
+        → find nat_cmp ppn directories ≡ None → find name_cmp entry.now.name names ≡ None
+        → IsReadTo (D.state disk.old).size (layout_number layout) (D.state disk.old).contents directories ppn names
+        files.old.items findings.old.items
+        → OnOk result (IsReadTo (D.state disk.old).size (layout_number layout) (D.state disk.old).contents directories
+        ppn (names ++ file_view entry.now ∷ []) files.new.items findings.new.items) }
+    ensures fits { AllByRecursion (FitsDisk (D.state disk.old).size) files.old.items
+        → OnOk result (AllByRecursion (FitsDisk (D.state disk.old).size) files.new.items) }
+    ensures range { IsErrOf result NotVolume → ⊥ }
+    // The device: what failed, and how often.
+    ensures reads { (D.state disk.new).honest → OnlyReads (D.state disk.old) (D.state disk.new) }
+    ensures same { SameDisk (D.state disk.old) (D.state disk.new) }
+    ensures failed { IsErrOf result Device → (D.state disk.new).failures ≡ one_more (D.state disk.old).failures }
+    ensures served { (IsErrOf result Device → ⊥) → (D.state disk.new).failures ≡ (D.state disk.old).failures }
+{
+    match read_named(alloc, disk, layout, ppn, entry.name, entry.prime) {
+        Ok(stored) => push_file(
+            files,
+            SavedFile {
+                at: entry.prime,
+                stored,
+            },
+        ),
+        Err(refusal) => tell_refusal(findings, refusal, Cost::File(ppn, entry.name)),
+    }
+}
+
+/// Reads the files of these entries of a directory, in their order.
+fn add_files<D: Disk>(
+    alloc: Global,
+    disk: &mut D,
+    layout: Layout,
+    ppn: Ppn,
+    entries: &[FileEntry],
+    files: &mut Vec<SavedFile>,
+    findings: &mut Vec<Finding>,
+) -> Result<(), SalvageError>
+    // What the caller sees to.
+    requires volume { IsVolumeSize (D.state disk.old).size }
+    requires inside { AllByRecursion (λ e. InSpace (D.state disk.old).size e.1) (map file_view entries.now) }
+    // What was read.
+    ensures read { (D.state disk.new).honest → (directories : List MasterWords)
+        → AllByRecursion (IsNamedIn (D.state disk.old).size (layout_number layout) (D.state disk.old).contents ppn)
+        (map file_view entries.now)
+        → EachOnce name_cmp (map file_view entries.now) → find nat_cmp ppn directories ≡ None
+        → IsReadTo (D.state disk.old).size (layout_number layout) (D.state disk.old).contents directories ppn []
+        files.old.items findings.old.items
+        → OnOk result (IsReadTo (D.state disk.old).size (layout_number layout) (D.state disk.old).contents directories
+        ppn (map file_view entries.now) files.new.items findings.new.items) }
+    ensures fits { AllByRecursion (FitsDisk (D.state disk.old).size) files.old.items
+        → OnOk result (AllByRecursion (FitsDisk (D.state disk.old).size) files.new.items) }
+    ensures range { IsErrOf result NotVolume → ⊥ }
+    // The device: what failed, and how often.
+    ensures reads { (D.state disk.new).honest → OnlyReads (D.state disk.old) (D.state disk.new) }
+    ensures same { SameDisk (D.state disk.old) (D.state disk.new) }
+    ensures failed { IsErrOf result Device → (D.state disk.new).failures ≡ one_more (D.state disk.old).failures }
+    ensures served { (IsErrOf result Device → ⊥) → (D.state disk.new).failures ≡ (D.state disk.old).failures }
+{
+    for entry in entries {
+        add_file(alloc, disk, layout, ppn, entry, files, findings)?;
+    }
+    Ok(())
+}
+
+/// Reads the directory of an entry with its files, or tells what is wrong with its chain.
+fn add_directory<D: Disk>(
+    alloc: Global,
+    disk: &mut D,
+    layout: Layout,
+    entry: &MasterEntry,
+    files: &mut Vec<SavedFile>,
+    findings: &mut Vec<Finding>,
+) -> Result<(), SalvageError>
+    // What the caller sees to.
+    requires volume { IsVolumeSize (D.state disk.old).size }
+    requires inside { InSpace (D.state disk.old).size entry.now.first }
+    // What was read.
+    ensures read { (D.state disk.new).honest → (directories : List MasterWords) (word : ℕ)
+        → IsDirectoryNamed (D.state disk.old).size (D.state disk.old).contents (layout_number layout) entry.now.ppn word
+        entry.now.first
+        → find nat_cmp entry.now.ppn directories ≡ None
+        → IsReadTo (D.state disk.old).size (layout_number layout) (D.state disk.old).contents directories 0 []
+        files.old.items findings.old.items
+        → OnOk result (IsReadTo (D.state disk.old).size (layout_number layout) (D.state disk.old).contents
+        (directories ++ master_view entry.now ∷ []) 0 [] files.new.items findings.new.items) }
+    ensures fits { AllByRecursion (FitsDisk (D.state disk.old).size) files.old.items
+        → OnOk result (AllByRecursion (FitsDisk (D.state disk.old).size) files.new.items) }
+    ensures range { IsErrOf result NotVolume → ⊥ }
+    // The device: what failed, and how often.
+    ensures reads { (D.state disk.new).honest → OnlyReads (D.state disk.old) (D.state disk.new) }
+    ensures same { SameDisk (D.state disk.old) (D.state disk.new) }
+    ensures failed { IsErrOf result Device → (D.state disk.new).failures ≡ one_more (D.state disk.old).failures }
+    ensures served { (IsErrOf result Device → ⊥) → (D.state disk.new).failures ≡ (D.state disk.old).failures }
+{
+    match load_chain::<FileEntry, D>(alloc, disk, entry.first) {
+        Ok(chain) => add_files(
+            alloc,
+            disk,
+            layout,
+            entry.ppn,
+            chain.entries(),
+            files,
+            findings,
+        ),
+        Err(refusal) => tell_refusal(findings, refusal, Cost::Directory(entry.ppn)),
+    }
+}
+
+/// Reads the directories of these entries of the master directory, in their order.
+fn add_directories<D: Disk>(
+    alloc: Global,
+    disk: &mut D,
+    layout: Layout,
+    entries: &[MasterEntry],
+    files: &mut Vec<SavedFile>,
+    findings: &mut Vec<Finding>,
+) -> Result<(), SalvageError>
+    // What the caller sees to.
+    requires volume { IsVolumeSize (D.state disk.old).size }
+    requires inside { AllByRecursion (λ e. InSpace (D.state disk.old).size e.1.1) (map master_view entries.now) }
+    // What was read.
+    ensures read { (D.state disk.new).honest
+        → AllByRecursion (λ e. IsDirectoryNamed (D.state disk.old).size (D.state disk.old).contents
+        (layout_number layout) e.0 e.1.0 e.1.1) (map master_view entries.now)
+        → EachOnce nat_cmp (map master_view entries.now)
+        → IsReadTo (D.state disk.old).size (layout_number layout) (D.state disk.old).contents [] 0 []
+        files.old.items findings.old.items
+        → OnOk result (IsReadTo (D.state disk.old).size (layout_number layout) (D.state disk.old).contents
+        (map master_view entries.now) 0 [] files.new.items findings.new.items) }
+    ensures fits { AllByRecursion (FitsDisk (D.state disk.old).size) files.old.items
+        → OnOk result (AllByRecursion (FitsDisk (D.state disk.old).size) files.new.items) }
+    ensures range { IsErrOf result NotVolume → ⊥ }
+    // The device: what failed, and how often.
+    ensures reads { (D.state disk.new).honest → OnlyReads (D.state disk.old) (D.state disk.new) }
+    ensures same { SameDisk (D.state disk.old) (D.state disk.new) }
+    ensures failed { IsErrOf result Device → (D.state disk.new).failures ≡ one_more (D.state disk.old).failures }
+    ensures served { (IsErrOf result Device → ⊥) → (D.state disk.new).failures ≡ (D.state disk.old).failures }
+{
+    for entry in entries {
+        add_directory(alloc, disk, layout, entry, files, findings)?;
+    }
+    Ok(())
+}
+
+/// Reads the directories that the master directory of this home copy names, or tells what is wrong with its chain.
+fn add_master<D: Disk>(
+    alloc: Global,
+    disk: &mut D,
+    home: Home,
+    files: &mut Vec<SavedFile>,
+    findings: &mut Vec<Finding>,
+) -> Result<(), SalvageError>
+    // What the caller sees to.
+    requires volume { IsVolumeSize (D.state disk.old).size }
+    requires inside { InSpace (D.state disk.old).size home.master }
+    requires no_files { files.old.items ≡ [] }
+    requires no_findings { findings.old.items ≡ [] }
+    // What was read.
+    ensures tree { (D.state disk.new).honest
+        → IsHome (D.state disk.old).size (D.state disk.old).contents (home_in (layout_number home.layout) home.master)
+        → OnOk result (IsTree (D.state disk.old).size (layout_number home.layout) (D.state disk.old).contents
+        files.new.items findings.new.items) }
+    ensures fits { OnOk result (AllByRecursion (FitsDisk (D.state disk.old).size) files.new.items) }
+    ensures range { IsErrOf result NotVolume → ⊥ }
+    // The device: what failed, and how often.
+    ensures reads { (D.state disk.new).honest → OnlyReads (D.state disk.old) (D.state disk.new) }
+    ensures same { SameDisk (D.state disk.old) (D.state disk.new) }
+    ensures failed { IsErrOf result Device → (D.state disk.new).failures ≡ one_more (D.state disk.old).failures }
+    ensures served { (IsErrOf result Device → ⊥) → (D.state disk.new).failures ≡ (D.state disk.old).failures }
+{
+    match load_chain::<MasterEntry, D>(alloc, disk, home.master) {
+        Ok(chain) => add_directories(alloc, disk, home.layout, chain.entries(), files, findings),
+        Err(refusal) => tell_refusal(findings, refusal, Cost::Directories),
+    }
+}
+
+/// Reads what this home copy leads to.
+fn read_from<D: Disk>(alloc: Global, disk: &mut D, home: Home) -> Result<Tree, SalvageError>
+    // What the caller sees to.
+    requires volume { IsVolumeSize (D.state disk.old).size }
+    requires inside { InSpace (D.state disk.old).size home.master }
+    // What was read.
+    ensures tree { (D.state disk.new).honest
+        → IsHome (D.state disk.old).size (D.state disk.old).contents (home_in (layout_number home.layout) home.master)
+        → IfOk result (λ tree. IsTree (D.state disk.old).size (layout_number tree.layout)
+        (D.state disk.old).contents tree.files.items tree.findings.items) }
+    ensures layout { IfOk result (λ tree. tree.layout ≡ home.layout) }
+    ensures fits { IfOk result (λ tree. AllByRecursion (FitsDisk (D.state disk.old).size) tree.files.items) }
+    ensures range { IsErrOf result NotVolume → ⊥ }
+    // The device: what failed, and how often.
+    ensures reads { (D.state disk.new).honest → OnlyReads (D.state disk.old) (D.state disk.new) }
+    ensures same { SameDisk (D.state disk.old) (D.state disk.new) }
+    ensures failed { IsErrOf result Device → (D.state disk.new).failures ≡ one_more (D.state disk.old).failures }
+    ensures served { (IsErrOf result Device → ⊥) → (D.state disk.new).failures ≡ (D.state disk.old).failures }
+{
+    let (mut files, mut findings) = (Vec::new(alloc), Vec::new(alloc));
+    add_master(alloc, disk, home, &mut files, &mut findings)?;
+    Ok(Tree {
+        layout: home.layout,
+        files,
+        findings,
+    })
+}
+
+/// What is told of a disk whose home blocks can't be read.
+fn without_home(alloc: Global, refusal: VolumeError) -> Result<Tree, SalvageError>
+    ensures files { IfOk result (λ tree. tree.files.items ≡ []) }
+    ensures findings { IfOk result (λ tree. tree.findings.items
+        ≡ record { fault = refusal; costs = Directories } ∷ []) }
+    ensures layout { IfOk result (λ tree. layout_number tree.layout ≡ 2) }
+    ensures fault { IfOk result (λ tree. IsNoFault refusal → ⊥) }
+    ensures device { IsErrOf result Device ↔ (refusal ≡ DeviceFault) }
+    ensures range { IsErrOf result NotVolume → ⊥ }
+{
+    let mut findings = Vec::new(alloc);
+    tell_refusal(&mut findings, refusal, Cost::Directories)?;
+    Ok(Tree {
+        layout: Layout::Two,
+        files: Vec::new(alloc),
+        findings,
+    })
+}
+
+/// Reads the directories that the first valid home copy leads to, and the retrieval blocks of all files that they name.
+/// A chain or a file that can't be read is left out, and told.
+///
+/// # Errors
+///
+/// `Device` if the device failed; `NoMemory` if a growth was refused.
+pub fn read_tree<D: Disk>(alloc: Global, disk: &mut D) -> Result<Tree, SalvageError>
+    requires { IsVolumeSize (D.state disk.old).size }
+    ensures tree { (D.state disk.new).honest
+        → IfOk result (λ tree. IsTree (D.state disk.old).size (layout_number tree.layout)
+        (D.state disk.old).contents tree.files.items tree.findings.items) }
+    // The layout of the home copy, or layout 2 if neither copy is valid.
+    ensures layout { (D.state disk.new).honest → (home : HomeWords)
+        → IsHome (D.state disk.old).size (D.state disk.old).contents home
+        → IfOk result (λ tree. layout_number tree.layout ≡ home.layout) }
+    ensures no_layout { (D.state disk.new).honest
+        → ((home : HomeWords) → IsHome (D.state disk.old).size (D.state disk.old).contents home → ⊥)
+        → IfOk result (λ tree. layout_number tree.layout ≡ 2) }
+    ensures fits { IfOk result (λ tree. AllByRecursion (FitsDisk (D.state disk.old).size) tree.files.items) }
+    ensures range { IsErrOf result NotVolume → ⊥ }
+    ensures reads { (D.state disk.new).honest → OnlyReads (D.state disk.old) (D.state disk.new) }
+    ensures same { SameDisk (D.state disk.old) (D.state disk.new) }
+    ensures failed { IsErrOf result Device → (D.state disk.new).failures ≡ one_more (D.state disk.old).failures }
+    ensures served { (IsErrOf result Device → ⊥) → (D.state disk.new).failures ≡ (D.state disk.old).failures }
+{
+    match read_home(disk) {
+        Ok(home) => read_from(alloc, disk, home),
+        Err(refusal) => without_home(alloc, refusal),
+    }
+}

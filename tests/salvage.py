@@ -1,0 +1,354 @@
+#!/usr/bin/env python3
+"""Tests what is saved from a damaged image.
+
+usage: tests/salvage.py PROGRAM [COUNT]
+
+An image is damaged block by block, by a reader of the layout of its own: what is whole comes out byte for byte, each
+fault is told at the file that it costs, and no byte of the image changes. COUNT images (200) are spoiled at random: the
+program ends with a status of its own, and what it says is OK are the bytes of a file that was put. Prints a line for
+each thing that is not as it should be, and one line at the end.
+"""
+
+import os
+import random
+import subprocess
+import sys
+import tempfile
+
+BLOCK = 1024
+LIMIT = 60
+DAMAGED = b"\xff" * BLOCK
+OPEN_GATE = 0o252525252525
+LOG = 0o545747000000
+
+
+class Image:
+    """The blocks of an image of form 1, as lists of words."""
+
+    def __init__(self, path):
+        self.path = path
+        with open(path, "rb") as file:
+            self.data = bytearray(file.read())
+        self.size = len(self.data) // BLOCK
+        tables = (self.size + 4607) // 4608
+        self.table = tables + 8 + 5
+        self.space = self.table + tables
+
+    def words(self, block):
+        at = block * BLOCK
+        return [int.from_bytes(self.data[at + 8 * i:at + 8 * i + 8], "big") for i in range(128)]
+
+    def set_words(self, block, words):
+        self.data[block * BLOCK:(block + 1) * BLOCK] = b"".join(word.to_bytes(8, "big") for word in words)
+
+    def damage(self, block):
+        self.data[block * BLOCK:(block + 1) * BLOCK] = DAMAGED
+
+    def save(self, path=None):
+        with open(path or self.path, "wb") as file:
+            file.write(self.data)
+
+    def chain(self, first):
+        """The entries of a chain of directory blocks, three words each, and the numbers of its blocks."""
+        entries, blocks = [], []
+        while first:
+            words = self.words(first)
+            blocks.append(first)
+            entries += [words[2 + 3 * i:5 + 3 * i] for i in range(words[1])]
+            first = words[0]
+        return entries, blocks
+
+    def directories(self):
+        """The first block of each directory, by its PPN."""
+        return {entry[0]: entry[2] for entry in self.chain(self.words(1)[5])[0]}
+
+    def files(self, ppn):
+        """The prime block of each file of a directory, by its name and extension."""
+        return {(entry[0], entry[1] >> 18): entry[2] for entry in self.chain(self.directories()[ppn])[0]}
+
+    def data_blocks(self, prime):
+        """The data blocks of a file without extensions."""
+        words = self.words(prime)
+        pointers = words[16:16 + words[6]]
+        return [(word & 0o777777) + i for word in pointers for i in range(word >> 18)]
+
+
+def sixbit(text):
+    """Six characters as a word."""
+    word = 0
+    for character in text.ljust(6):
+        word = word * 64 + ord(character) - 32
+    return word
+
+
+def name_of(name, extension):
+    return sixbit(name), sixbit(extension) >> 18
+
+
+PPN = 0o10 << 18 | 0o20
+OTHER = 0o10 << 18 | 0o21
+TEXT = b"HELLO, WORLD\r\n" * 100
+BYTES = bytes(range(256)) * 7
+SMALL = b"SMALL"
+GIVEN = {"FOO.TXT": TEXT, "DATA.BIN": BYTES, "S": SMALL}
+ENCODED = {"FOO.TXT": "text", "DATA.BIN": "bytes", "S": "text"}
+
+
+class Tries:
+    """Runs of the program in a folder of their own."""
+
+    def __init__(self, program, folder):
+        self.program = program
+        self.folder = folder
+        self.count = 0
+        self.failed = 0
+
+    def path(self, *names):
+        return os.path.join(self.folder, *names)
+
+    def so(self, what, is_so):
+        """Counts a thing that is to be so."""
+        self.count += 1
+        if not is_so:
+            self.failed += 1
+            print(f"salvage: {what}")
+
+    def run(self, words, given=b""):
+        return subprocess.run([self.program, *words], input=given, capture_output=True, cwd=self.folder, check=False,
+                              timeout=LIMIT)
+
+    def make(self, name, blocks=128, *options):
+        """Makes an image with two directories and a few files."""
+        for given in (["init", name, str(blocks), *options], ["import", name, "10,20", *self.hosts()],
+                      ["import", name, "10,21", self.hosts()[0]]):
+            done = self.run(given)
+            self.so(f"{given[0]}: {done.stdout!r}", done.returncode == 0)
+        return Image(self.path(name))
+
+    def hosts(self):
+        """The files of the host that are put."""
+        for name, data in GIVEN.items():
+            with open(self.path(name), "wb") as file:
+                file.write(data)
+        return list(GIVEN)
+
+    def salvage(self, what, image, wanted, status, *options, saved=None):
+        """Saves what is on an image: these lines are printed, in any order if they are a set, these files come out and
+        no others, and the image stays."""
+        image.save()
+        before = bytes(image.data)
+        out = f"out{self.count}"
+        done = self.run(["salvage", os.path.basename(image.path), out, *options])
+        lines = done.stdout.decode().replace(f"{out}/", "out/").replace(f"{out}:", "out:").splitlines()
+        told = set(lines) if isinstance(wanted, set) else lines
+        self.so(f"{what}: {lines}, status {done.returncode}", told == wanted and done.returncode == status)
+        with open(image.path, "rb") as file:
+            self.so(f"{what}: the image changed", file.read() == before)
+        found = {}
+        for folder, _, names in os.walk(self.path(out)):
+            for name in names:
+                with open(os.path.join(folder, name), "rb") as file:
+                    found[f"{os.path.basename(folder)}/{name}"] = file.read()
+        if saved is not None:
+            self.so(f"{what}: {sorted(found)} came out", found == saved)
+
+
+def line(name, owner="10,20", text=None):
+    return f"out/{owner}/{name}: {text or ENCODED[name] + ' OK'}"
+
+
+ALL = {f"10,20/{name}": data for name, data in GIVEN.items()} | {"10,21/FOO.TXT": TEXT}
+WHOLE = [line("DATA.BIN"), line("FOO.TXT"), line("S"), line("FOO.TXT", "10,21")]
+
+
+def without(*names):
+    return {name: data for name, data in ALL.items() if name not in names}
+
+
+def whole_image(tries):
+    """An image that stands gives all its files, in both layouts; --list and a PPN choose."""
+    image = tries.make("A.IMG")
+    listed = tries.run(["list", "A.IMG", "10,20"]).stdout
+    tries.so(f"the order of the names: {listed!r}", listed.index(b"DATA") < listed.index(b"FOO") < listed.index(b"S  "))
+    order = [*sorted(WHOLE[:3], key=lambda text: list(GIVEN).index(text.split("/")[2].split(":")[0])), WHOLE[3]]
+    tries.salvage("an image that stands", image, set(order), 0, saved=ALL)
+    tries.salvage("one directory", image, {WHOLE[3]}, 0, "10,21", saved={"10,21/FOO.TXT": TEXT})
+    paths = {text.split(":")[0] for text in WHOLE}
+    tries.salvage("a list", image, paths, 0, "--list", saved={})
+    second = tries.make("L.IMG", 128, "--layout", "2")
+    tries.salvage("an image of layout 2", second, set(WHOLE), 0, saved=ALL)
+    for given in (["init", "P.IMG", "64", "--form", "2"],
+                  ["import", "P.IMG", "10,20", tries.hosts()[0], "--form", "2", "--date", "1969-07-20"]):
+        tries.so(f"{given[0]} in form 2", tries.run(given).returncode == 0)
+    done = tries.run(["salvage", "P.IMG", "packed", "--form", "2"])
+    tries.so(f"form 2: {done.stdout!r}", done.stdout == b"packed/10,20/FOO.TXT: text OK\n" and done.returncode == 0)
+    tries.run(["init", "Q.IMG", "64", "--layout", "2"])
+    tries.run(["import", "Q.IMG", "10,20", tries.hosts()[0], "--date", "1999-12-31", "--minute", "61"])
+    tries.run(["salvage", "Q.IMG", "dated"])
+    changed = os.stat(tries.path("dated", "10,20", "FOO.TXT")).st_mtime
+    tries.so(f"the date of a file: {changed}", changed == 946602060)
+    # Nothing that is there is written over.
+    done = tries.run(["salvage", "Q.IMG", "dated"])
+    tries.so(f"again: {done.stdout!r}", done.stdout == b"dated/10,20/FOO.TXT: ?Can't write\n" and done.returncode == 1)
+
+
+def damaged_blocks(tries):
+    """Each damaged block costs the file that it is of, and no other."""
+    fresh = tries.make("B.IMG")
+    primes = fresh.files(PPN)
+    foo = primes[name_of("FOO", "TXT")]
+    data = fresh.data_blocks(foo)
+
+    def spoiled(*blocks):
+        image = Image(tries.path("B.IMG"))
+        image.data = bytearray(fresh.data)
+        for block in blocks:
+            image.damage(block)
+        return image
+
+    others = {text for text in WHOLE if text != line("FOO.TXT")}
+    for block in (data[0], data[-1]):
+        wanted = others | {line("FOO.TXT", text=f"?Bad data block {block}")}
+        tries.salvage("a data block", spoiled(block), wanted, 1, saved=without("10,20/FOO.TXT"))
+    wanted = others | {line("FOO.TXT", text=f"?Bad retrieval block {foo}")}
+    tries.salvage("a prime block", spoiled(foo), wanted, 1, saved=without("10,20/FOO.TXT"))
+    directory = fresh.directories()[PPN]
+    tries.salvage("a directory", spoiled(directory), set(WHOLE) | {f"out/10,20: ?Bad directory block {directory}"}, 1,
+                  saved=ALL)
+    tries.salvage("another directory is asked for", spoiled(directory), {WHOLE[3]}, 0, "10,21",
+                  saved={"10,21/FOO.TXT": TEXT})
+    master = fresh.words(1)[5]
+    tries.salvage("the master directory", spoiled(master), set(WHOLE) | {f"out: ?Bad directory block {master}"}, 1,
+                  saved=ALL)
+    tries.salvage("the first home copy", spoiled(1), set(WHOLE), 0, saved=ALL)
+    tries.salvage("both home copies", spoiled(1, 2), set(WHOLE) | {"out: ?Not a volume"}, 1, saved=ALL)
+    tries.salvage("the table", spoiled(fresh.table), set(WHOLE) | {f"out: ?Bad table block {fresh.table}"}, 1, saved=ALL)
+    tries.salvage("nearly all of it", spoiled(1, 2, master, directory, data[0]),
+                  others | {"out: ?Not a volume", line("FOO.TXT", text=f"?Bad data block {data[0]}")}, 1,
+                  saved=without("10,20/FOO.TXT"))
+    for command in ("check", "list"):
+        done = tries.run([command, "B.IMG"])
+        tries.so(f"{command} refuses it: {done.stdout!r}", done.stdout == b"?Not a volume\n" and done.returncode == 3)
+
+
+def shared_blocks(tries):
+    """A block that is in two files costs both; one that no directory names costs none of those that one names."""
+    fresh = tries.make("C.IMG")
+    primes = fresh.files(PPN)
+    foo, small = primes[name_of("FOO", "TXT")], primes[name_of("S", "")]
+    block = fresh.data_blocks(foo)[0]
+    words = fresh.words(small)
+    words[16] = 1 << 18 | block
+    fresh.set_words(small, words)
+    twice = f"?Block {block} reached twice"
+    wanted = {line("DATA.BIN"), line("FOO.TXT", text=twice), line("S", text=twice), WHOLE[3]}
+    tries.salvage("a block of two files", fresh, wanted, 1, saved=without("10,20/FOO.TXT", "10,20/S"))
+    # What a file holds is taken for no file: here its words are a prime block that claims another file's block.
+    image = tries.make("D.IMG")
+    other = image.files(OTHER)[name_of("FOO", "TXT")]
+    data = image.files(PPN)[name_of("DATA", "BIN")]
+    inner = image.data_blocks(data)[0]
+    claims = image.words(other)
+    claims[1] = sixbit("EVIL")
+    image.set_words(inner, claims)
+    image.save()
+    inside = tries.run(["get", "--words", "D.IMG", "10,20", "DATA.BIN"]).stdout
+    tries.so("the image stands", len(inside) == 8 * image.words(data)[5])
+    tries.salvage("a file that holds a prime block", image, set(WHOLE[1:]) | {line("DATA.BIN", text="words OK")}, 0,
+                  saved=ALL | {"10,20/DATA.BIN": inside})
+
+
+def deleted_files(tries):
+    """A file that was deleted isn't found, nor the version that another replaced."""
+    image = tries.make("E.IMG")
+    tries.run(["delete", "E.IMG", "10,20", "FOO.TXT"])
+    tries.run(["put", "E.IMG", "10,20", "S"], b"NEWER")
+    image = Image(tries.path("E.IMG"))
+    image.damage(image.directories()[PPN])
+    fault = {text for text in (f"out/10,20: ?Bad directory block {Image(tries.path('E.IMG')).directories()[PPN]}",)}
+    wanted = {line("DATA.BIN"), line("S"), WHOLE[3]} | fault
+    tries.salvage("deleted files", image, wanted, 1, saved=without("10,20/FOO.TXT") | {"10,20/S": b"NEWER"})
+
+
+def logs(tries):
+    """What the log still owes counts; a log that isn't good is told."""
+    before = tries.make("F.IMG")
+    tries.run(["delete", "F.IMG", "10,20", "FOO.TXT"])
+    after = Image(tries.path("F.IMG"))
+    changed = [n for n in range(before.table, before.size) if before.words(n) != after.words(n)]
+    image = Image(tries.path("F.IMG"))
+    image.data = bytearray(before.data)
+    for i, block in enumerate(changed):
+        image.set_words(5 + i, after.words(block))
+    image.set_words(4, [LOG, len(changed), *changed, *[0] * (126 - len(changed))])
+    image.set_words(3, [OPEN_GATE] * 128)
+    tries.salvage("a log that is owed", image, {line("DATA.BIN"), line("S"), WHOLE[3]}, 0,
+                  saved=without("10,20/FOO.TXT"))
+    image.set_words(4, [LOG, 0, *[0] * 126])
+    tries.salvage("a bad log", image, set(WHOLE) | {"out: ?Bad log"}, 1, saved=ALL)
+    tries.so("check refuses it", tries.run(["check", "F.IMG"]).stdout == b"?Bad log\n")
+
+
+def odd_images(tries):
+    """Images that are cut off, empty, or not there."""
+    image = tries.make("G.IMG")
+    last = max(n for prime in image.files(PPN).values() for n in (prime, *image.data_blocks(prime)))
+    last = max(last, *(n for prime in image.files(OTHER).values() for n in (prime, *image.data_blocks(prime))))
+    image.data = image.data[:max(64, last + 1) * BLOCK]
+    tries.salvage("an image that is cut off", image, set(WHOLE) | {"out: ?Bad home blocks"}, 1, saved=ALL)
+    image.data = bytearray(10 * BLOCK)
+    tries.salvage("ten blocks", image, ["?Not a volume"], 3, saved={})
+    image.data = bytearray(64 * BLOCK)
+    tries.salvage("zeros", image, ["out: ?Not a volume"], 1, saved={})
+    done = tries.run(["salvage", "NONE.IMG", "none"])
+    tries.so(f"no image: {done.stdout!r}", done.stdout == b"?Device fault\n" and done.returncode == 4)
+    tries.so("no folder is made for it", not os.path.exists(tries.path("none")))
+
+
+def spoiled_images(tries, count):
+    """Images that are spoiled at random."""
+    fresh = tries.make("H.IMG", 64)
+    given = set(GIVEN.values())
+    chance = random.Random(1964)
+    for number in range(count):
+        image = Image(tries.path("H.IMG"))
+        image.data = bytearray(fresh.data)
+        for _ in range(chance.randrange(1, 12)):
+            block = chance.choice([1, 2, 3, 4, 14, 15, *range(15, 40)])
+            if chance.random() < 0.3:
+                image.damage(block)
+            elif chance.random() < 0.5:
+                image.set_words(block, image.words(chance.randrange(64)))
+            else:
+                words = image.words(block)
+                words[chance.randrange(24)] = chance.choice([0, 1, chance.randrange(64), 1 << 18 | chance.randrange(64)])
+                image.set_words(block, words)
+        image.save()
+        before, out = bytes(image.data), f"spoiled{number}"
+        done = tries.run(["salvage", "H.IMG", out])
+        tries.so(f"image {number}: status {done.returncode}", done.returncode in (0, 1))
+        with open(image.path, "rb") as file:
+            tries.so(f"image {number} changed", file.read() == before)
+        lines = done.stdout.decode().splitlines()
+        tries.so(f"image {number}: each line has its answer",
+                 all(text.endswith(" OK") or ": ?" in text for text in lines))
+        checked = tries.run(["check", "H.IMG"])
+        if checked.returncode == 0:
+            tries.so(f"image {number} stands: {lines}", done.returncode == 0 and len(lines) == 4)
+    tries.so("files are given", len(given) == 3)
+
+
+def main():
+    program = os.path.abspath(sys.argv[1])
+    count = int(sys.argv[2]) if len(sys.argv) > 2 else 200
+    with tempfile.TemporaryDirectory() as folder:
+        tries = Tries(program, folder)
+        for part in (whole_image, damaged_blocks, shared_blocks, deleted_files, logs, odd_images):
+            part(tries)
+        spoiled_images(tries, count)
+    print(f"salvage: {tries.count - tries.failed} passed, {tries.failed} failed")
+    return 1 if tries.failed else 0
+
+
+if __name__ == "__main__":
+    sys.exit(main())
