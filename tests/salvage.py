@@ -231,6 +231,49 @@ def damaged_blocks(tries):
         tries.so(f"{command} refuses it: {done.stdout!r}", done.stdout == b"?Not a volume\n" and done.returncode == 3)
 
 
+def losses_told(tries):
+    """A check that is refused tells on the standard error which files are lost; no other command does."""
+    fresh = tries.make("N.IMG")
+    primes = fresh.files(PPN)
+    foo, small = primes[name_of("FOO", "TXT")], primes[name_of("S", "")]
+    data = fresh.data_blocks(foo)
+    directory, master = fresh.directories()[PPN], fresh.words(1)[5]
+
+    def tells(refusal, losses, *blocks, command="check"):
+        image = Image(tries.path("N.IMG"))
+        image.data = bytearray(fresh.data)
+        for block in blocks:
+            image.damage(block)
+        image.save()
+        before = bytes(image.data)
+        done = tries.run([command, "N.IMG"])
+        told = [f"filser: {loss}" for loss in losses]
+        tries.so(f"{command}, blocks {blocks} damaged: {done.stdout!r}, {done.stderr!r}, status {done.returncode}",
+                 done.stdout.decode() == f"{refusal}\n" and done.stderr.decode().splitlines() == told
+                 and done.returncode == 3)
+        with open(image.path, "rb") as file:
+            tries.so(f"{command} changed the image", file.read() == before)
+
+    tells(f"?Bad data block {data[1]}", [f"FOO.TXT[10,20]: bad data block {data[1]}"], data[1])
+    tells(f"?Bad data block {data[1]}", [], data[1], command="list")
+    tells(f"?Bad retrieval block {small}", [f"S[10,20]: bad retrieval block {small}"], small)
+    tells(f"?Bad directory block {directory}", [f"[10,20]: bad directory block {directory}"], directory)
+    tells(f"?Bad directory block {master}", [f"all directories: bad directory block {master}"], master)
+    tells(f"?Bad table block {fresh.table}", [], fresh.table)
+    tells("?Not a volume", [], 1, 2, data[0])
+    unnamed = f"FOO.TXT[10,20], in no directory: bad data block {data[0]}"
+    tells(f"?Bad directory block {directory}", [f"[10,20]: bad directory block {directory}", unnamed], directory,
+          data[0])
+    both = [f"FOO.TXT[10,20]: bad data block {data[0]}", f"S[10,20]: bad retrieval block {small}"]
+    image = Image(tries.path("N.IMG"))
+    image.data = bytearray(fresh.data)
+    image.damage(data[0])
+    image.damage(small)
+    image.save()
+    done = tries.run(["check", "N.IMG"])
+    tries.so(f"two files: {done.stderr!r}", sorted(done.stderr.decode().splitlines()) == [f"filser: {loss}" for loss in both])
+
+
 def shared_blocks(tries):
     """A block that is in two files costs both; one that no directory names costs none of those that one names."""
     fresh = tries.make("C.IMG")
@@ -343,7 +386,7 @@ def main():
     count = int(sys.argv[2]) if len(sys.argv) > 2 else 200
     with tempfile.TemporaryDirectory() as folder:
         tries = Tries(program, folder)
-        for part in (whole_image, damaged_blocks, shared_blocks, deleted_files, logs, odd_images):
+        for part in (whole_image, damaged_blocks, losses_told, shared_blocks, deleted_files, logs, odd_images):
             part(tries)
         spoiled_images(tries, count)
     print(f"salvage: {tries.count - tries.failed} passed, {tries.failed} failed")

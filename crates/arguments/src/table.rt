@@ -33,7 +33,8 @@ Option of every command:
 
 Exit status, the highest that applies:
   0  everything was done
-  1  a line, a call or the command was refused; of wire, a record was no order
+  1  a line, a call, a file or the command was refused; of wire, a record was
+     no order
   2  the arguments are wrong
   3  the image was refused, or there was no memory to start
   4  a device, the input or the output failed, another process has the

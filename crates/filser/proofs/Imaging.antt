@@ -36,7 +36,7 @@ use Rattle.filser.specs.Images.{IsLeftAlone, IsNewDisk, IsNoNewDisk, IsNotMade, 
 use Rattle.filser.specs.Images.{IsOnSource, IsTaskRun, IsWhole}
 use Rattle.filser.specs.Lines.{IsLine}
 use Rattle.filser.specs.Refusals.{refusal_code, refusal_text}
-use Rattle.filser.specs.ServedDisks.{IsRefusedBy}
+use Rattle.filser.specs.ServedDisks.{IsGivenBack, IsRefusedBy}
 use Rattle.filser.specs.Tasks.{Attends}
 use Rattle.filser.specs.Views.{Views}
 use Rattle.filser.specs.declared.disks.Disks.{Disks}
@@ -207,6 +207,17 @@ alone_on a b c size was p q = record {
 
 -- A task on an image.
 
+-- a disk that is handed back after a refusal is of the same size, and as honest
+pub given_size : {D : Type 0} (state : D → DiskState) (task : Task) (refused end : D)
+    → IsGivenBack state task refused end → (state end).size ≡ (state refused).size
+given_size state task refused end given = ⊎_elim (λ same. ap (λ d. (state d).size) same)
+    (λ searched. searched.1.same.size) given
+
+pub given_honest : {D : Type 0} (state : D → DiskState) (task : Task) (refused end : D)
+    → IsGivenBack state task refused end → (state end).honest → (state refused).honest
+given_honest state task refused end given h = ⊎_elim (λ same. subst (λ d. (state d).honest) same h)
+    (λ searched. searched.1.same.was_honest h) given
+
 pub served_image : {H I : Type 0} (facts : HostFacts H) (state : I → DiskState) (path : List ℕ) (form : Form)
     (u : Unseen) (task : Task) (source left sink full : Option (List ℕ)) (status : Status) (image end : I)
     → IsOpened facts path u → BeganAs form u (state image) → (state image).failures ≡ 0
@@ -220,7 +231,8 @@ served_image facts state path form u task source left sink full status image end
   subst (λ n. IsTaskRun state (begun_image form n u) task source left sink full end status) (sym size)
       (⊎_elim (λ p. inl (served_since form u (state image) began sound state end status
       (Attends state task source left sink full) p))
-      (λ p. inr (unserved_since form u (state image) began sound (state end) source left sink full status p)) ran),
+      (λ p. inr (p.0, unserved_since form u (state image) began sound (state p.0) source left sink full status p.1, p.2))
+      ran),
 )
 
 -- why a copy failed

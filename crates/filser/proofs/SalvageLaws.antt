@@ -13,7 +13,7 @@ use Rattle.collection.specs.HostFacts.{FileFacts}
 use Rattle.collection.specs.declared.task.ExportTask.{ExportTask}
 use Rattle.filser.specs.Hosts.{HostFacts, IsOpened}
 use Rattle.filser.specs.Images.{IsWhole}
-use Rattle.filser.specs.Salvaging.{IsCopied, IsSalvagedFrom}
+use Rattle.filser.specs.Salvaging.{IsCopied, IsSalvagedFrom, IsUncopied}
 use Rattle.filser.specs.declared.status.Status.{Status}
 use Rattle.filser.proofs.Since.{same}
 
@@ -39,6 +39,7 @@ module _ (form : Form) (u : Unseen) (d : DiskState) (began : BeganAs form u d) (
     unread = p.unread;
     lost = p.lost;
     copied = λ h. copy_since p.copy p.unread p.lost (was h) (p.copied h);
+    few = p.few;
     failures = p.failures ∙ ap (failed_by p.unread) sound;
     ran = ⊎_elim
         (λ found. inl (
@@ -50,13 +51,24 @@ module _ (form : Form) (u : Unseen) (d : DiskState) (began : BeganAs form u d) (
         (λ unsurveyed. inr unsurveyed) p.ran;
   }
 
+  uncopied_since : (sink full : Option (List ℕ)) (end : DiskState) (status : Status)
+      → IsUncopied d end sink full status → IsUncopied begun end sink full status
+  uncopied_since sink full end status p = record {
+    error = p.error;
+    cause = ⊎_elim (λ range. inl (range.0, range.1, range.2 ∙ sound)) (λ memory. inr memory) p.cause;
+    unread = p.unread;
+    few = p.few;
+    failures = p.failures ∙ ap (failed_by p.unread) sound;
+    said = p.said;
+  }
+
   pub salvaged_since : (facts : FileFacts) (task : ExportTask) (sink full : Option (List ℕ)) (end : DiskState)
       (status : Status) → (end.honest → d.honest) → IsSalvagedFrom facts task sink full d end status
       → IsSalvagedFrom facts task sink full begun end status
   salvaged_since facts task sink full end status was p = record {
     still = λ h. still_on begun d end (began.still (was h)) (p.still h);
     done = ⊎_elim (λ copied. inl (copied_since facts task sink full end status was copied))
-        (λ uncopied. inr (record { error = uncopied.error; cause = uncopied.cause; said = uncopied.said })) p.done;
+        (λ uncopied. inr (uncopied_since sink full end status uncopied)) p.done;
   }
 
 -- The same with the number of blocks that the disk has at the end, and with its file.

@@ -23,7 +23,7 @@ use Rattle.filser.specs.Denials.{IsDeviceFault, IsExplained, IsNoImage, IsUnfill
 use Rattle.filser.specs.Hosts.{HostFacts, IsMade, IsOpened}
 use Rattle.filser.specs.Lines.{IsLine}
 use Rattle.filser.specs.Refusals.{converted_text}
-use Rattle.filser.specs.ServedDisks.{IsRefusedBy, IsServed, IsUnserved}
+use Rattle.filser.specs.ServedDisks.{IsGivenBack, IsRefusedBy, IsServed, IsUnserved}
 use Rattle.filser.specs.Streams.{IsStreamAt}
 use Rattle.filser.specs.Tasks.{Attends, IsFirstMoment}
 use Rattle.filser.specs.Views.{Views}
@@ -44,9 +44,10 @@ use Rattle.words36.specs.declared.moment.Moment.{Moment}
 -- A task was done by a service on a disk, or the disk was refused.
 abbrev pub IsTaskRun : {D : Type 0} → (D → DiskState) → DiskState → Task → Option (List ℕ) → Option (List ℕ)
     → Option (List ℕ) → Option (List ℕ) → D → Status → Type 0
-IsTaskRun state begun task source left sink full end status =
+IsTaskRun {D} state begun task source left sink full end status =
     IsServed state begun end status (Attends state task source left sink full)
-    ⊎ IsUnserved begun (state end) source left sink full status
+    ⊎ ((refused : D) × IsUnserved begun (state refused) source left sink full status
+    × IsGivenBack state task refused end)
 
 -- Of an image that began so the service has been none yet, and its disk has a block for each that the file has.
 pub record IsWhole (form : Form) (u : Unseen) (d : DiskState) : Type 0 where

@@ -1,5 +1,5 @@
 -- What became of an image whose whole files were to become files of the host.
-use Rattle.std.specs.Prelude.{◌≡◌, ◌⊎◌, ℕ, Bool, List, Option, Result}
+use Rattle.std.specs.Prelude.{◌≡◌, ◌⊎◌, ◌≤◌, ℕ, Bool, List, Option, Result}
 use Rattle.blockdisk.specs.Disk.{DiskState, Still, one_more}
 use Rattle.blockdisk.specs.Memory.{Memory, held, memory_state}
 use Rattle.imagefile.specs.Began.{begun_image}
@@ -68,6 +68,7 @@ pub record IsCopied (facts : FileFacts) (task : ExportTask) (sink full : Option 
   pub unread : ℕ
   pub lost : Bool
   pub copied : end.honest → IsCopyOf begun copy unread lost
+  pub few : unread ≤ begun.size
   pub failures : end.failures ≡ failed_by unread begun.failures
   pub ran : ((files : List SavedFile) × AreFound facts task sink full copy unread lost files status
       -- if all was read, and the disk stood for files, all of these were found
@@ -75,17 +76,21 @@ pub record IsCopied (facts : FileFacts) (task : ExportTask) (sink full : Option 
       → AreAllSaved (held copy.blocks) files stored))
       ⊎ IsUnsurveyed copy sink full status
 
--- It wasn't, as is printed: it has no volume's size, or memory ran out.
-pub record IsUncopied (begun : DiskState) (sink full : Option (List ℕ)) (status : Status) : Type 0 where
+-- It wasn't, as is printed: it has no volume's size, and nothing was read; or memory ran out.
+pub record IsUncopied (begun end : DiskState) (sink full : Option (List ℕ)) (status : Status) : Type 0 where
   pub error : SalvageError
-  pub cause : ((error ≡ NotVolume) × (IsVolumeSize begun.size → ⊥)) ⊎ (error ≡ NoMemory)
+  pub cause : ((error ≡ NotVolume) × (IsVolumeSize begun.size → ⊥) × (end.failures ≡ begun.failures))
+      ⊎ (error ≡ NoMemory)
+  pub unread : ℕ
+  pub few : unread ≤ begun.size
+  pub failures : end.failures ≡ failed_by unread begun.failures
   pub said : IsLine sink full status (start_code (start_error error)) (start_text (start_error error))
 
 -- Either of them. Nothing was written.
 pub record IsSalvagedFrom (facts : FileFacts) (task : ExportTask) (sink full : Option (List ℕ)) (begun end : DiskState)
     (status : Status) : Type 0 where
   pub still : end.honest → Still begun end
-  pub done : IsCopied facts task sink full begun end status ⊎ IsUncopied begun sink full status
+  pub done : IsCopied facts task sink full begun end status ⊎ IsUncopied begun end sink full status
 
 -- What became of the image: its file was opened, and its disk salvaged by asking it alone since; or not, for a reason
 -- that stands.

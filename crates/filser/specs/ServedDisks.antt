@@ -1,6 +1,6 @@
 -- What a run makes of the disk of an image. `begun` is the disk before anything was asked of it.
-use Rattle.std.specs.Prelude.{◌≡◌, ◌⊎◌, ℕ, List, Option, Result, Ok, Err, false, max, if◌then◌else◌}
-use Rattle.blockdisk.specs.Disk.{DiskState, LeavesOnly, NoneOpen, Still, one_more}
+use Rattle.std.specs.Prelude.{◌≡◌, ◌⊎◌, ◌≤◌, ℕ, List, Option, Result, Ok, Err, false, max, if◌then◌else◌}
+use Rattle.blockdisk.specs.Disk.{DiskState, LeavesOnly, NoneOpen, SameDisk, Still, one_more}
 use Rattle.changeset.specs.Crashes.{IsRecovered}
 use Rattle.meaning.specs.Files.{File, Files}
 use Rattle.meaning.specs.Layouts.{pack_of, StandsOn}
@@ -16,11 +16,14 @@ use Rattle.commands.specs.Machines.{Machine}
 use Rattle.commands.specs.Monitors.{machine_of}
 use Rattle.commands.specs.declared.answer.Tally.{Tally}
 use Rattle.commands.specs.declared.error.SessionError.{SessionError}
+use Rattle.salvage.specs.Copies.{failed_by}
 use Rattle.filser.specs.Lines.{IsLine}
 use Rattle.filser.specs.Refusals.{start_text, start_code}
 use Rattle.filser.specs.Statuses.{status_code}
 use Rattle.filser.specs.declared.status.Status.{Status}
 use Rattle.filser.specs.declared.status.Status.TheVariants.{Fault}
+use Rattle.filser.specs.declared.task.Task.{Task}
+use Rattle.filser.specs.declared.task.Task.TheVariants.{Check}
 
 -- a monitor as a service of files, over disks of any kind
 abbrev pub machine_over : {D : Type 0} → (D → DiskState) → MonitorState D → Machine
@@ -84,3 +87,16 @@ pub record IsUnserved (begun end : DiskState) (source left sink full : Option (L
   pub refused : IsRefusedBy begun end error
   pub said : IsLine sink full status (start_code error) (start_text error)
   pub unread : left ≡ source
+
+-- A disk was read to find what its faults cost, and nothing was written: each block that couldn't be read is a failure.
+pub record IsSearched (old new : DiskState) : Type 0 where
+  pub same : SameDisk old new
+  pub still : new.honest → Still old new
+  pub unread : ℕ
+  pub few : unread ≤ old.size
+  pub failures : new.failures ≡ failed_by unread old.failures
+
+-- What a task did with a disk that was refused: nothing, or a check searched it.
+abbrev pub IsGivenBack : {D : Type 0} → (D → DiskState) → Task → D → D → Type 0
+IsGivenBack state task refused end =
+    (end ≡ refused) ⊎ ((task ≡ Check) × IsSearched (state refused) (state end))

@@ -18,7 +18,8 @@
 //! 7. The file of an image was opened at its path, has the number of no standard stream, and is locked.
 //!    (`IsOpened`) The disk that is served is that file's from before its first call. (`IsOnImage`)
 //! 8. Every task on an image is done by one function, `serve`: it starts a service on the disk, or says why there is
-//!    none, and hands the disk back. (`IsTaskRun`) A new image has the layout that was asked for. (`IsEmptyVolume`)
+//!    none, and hands the disk back. (`IsTaskRun`) Only a check reads a disk that was refused, and writes nothing to it.
+//!    (`IsGivenBack`) A new image has the layout that was asked for. (`IsEmptyVolume`)
 //!    A migration writes the home copies alone, and its line is printed only if the volume has layout 2.
 //!    (`IsMigrationRun`)
 //! 9. A refusal has its cause (`IsDenied`, `IsNotMade`), and its line is printed whole, or a beginning of it if the
@@ -41,6 +42,7 @@ mod identity;
 mod image;
 mod importing;
 mod lines;
+mod losses;
 mod message;
 mod migrating;
 mod outcome;

@@ -10,6 +10,7 @@ ghost use Rattle.filser.specs.declared.status.Status.TheVariants.{BadArguments};
 
 use crate::fault::tell_no_memory;
 use crate::image::{open_image, tell_failure};
+use crate::losses::give_back;
 use crate::message::print_line;
 use crate::program::refuse_image;
 use crate::reasons::{tell_ending, tell_late_date};
@@ -136,7 +137,10 @@ fn serve<D: Disk + Drop, R: Read, W: Write, E: Write>(
             tell_ending(errors, status, &attended);
             (status, monitor.finish())
         }
-        Err((error, disk)) => (say(writer, Refusal::Start(error)), disk),
+        Err((error, disk)) => {
+            let status = say(writer, Refusal::Start(error));
+            (status, give_back(alloc, disk, task, error, errors))
+        }
     }
 }
 

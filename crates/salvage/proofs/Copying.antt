@@ -1,6 +1,6 @@
 -- Copying a disk block by block.
 use Rattle.std.proofs.Common.{◌≡◌, ◌∙◌, ap, arith, inl, inr, refl, sym, subst, ⊎_elim, ◌⊎◌}
-use Rattle.std.proofs.Common.{◌+◌, ◌<◌, ◌≤◌, ℕ, suc, List, Option, None, Some, length, replicate}
+use Rattle.std.proofs.Common.{◌+◌, ◌<◌, ◌≤◌, ℕ, suc, List, [], ◌∷◌, Option, None, Some, Contains, length, replicate}
 use Rattle.std.proofs.lemmas.List.{get_or-set_same, get_or-set_other, length-replicate}
 use Rattle.std.proofs.lemmas.Bool.{cases_lt}
 use Rattle.std.specs.Prelude.{slice_set}
@@ -10,6 +10,7 @@ use Rattle.blockdisk.specs.Memory.{Memory, held, loaded, zeroed}
 use Rattle.changeset.specs.Reads.{OnlyReads}
 use Rattle.changeset.proofs.Reading.{only_reads_on}
 use Rattle.salvage.specs.Copies.{AreCopies, failed_by}
+use Rattle.salvage.proofs.Members.{contains_here, contains_later}
 
 -- The blocks below n were copied, and so many of them couldn't be read.
 pub record IsCopying (first now : DiskState) (n : ℕ) (copy : Memory) (unread : ℕ) : Type 0 where
@@ -23,7 +24,7 @@ pub record IsCopying (first now : DiskState) (n : ℕ) (copy : Memory) (unread :
 pub copying_starts : (d : DiskState) (copy : Memory) (size calls : ℕ) → size ≡ d.size → copy ≡ zeroed size calls
     → IsCopying d d 0 copy 0
 copying_starts d copy size calls same made = record {
-  copies = λ h. record { each = λ n below. absurd (omega arith); all = λ none n below. absurd (omega arith) };
+  copies = λ h. record { missed = []; count = refl; each = λ n below. absurd (omega arith) };
   size = ap (λ (m : Memory). length m.blocks) made ∙ length-replicate size (Some (replicate 128 0)) ∙ same;
   reads = λ h. record { still = still_start d; is_open = λ n. refl };
   same = record { size = refl; was_honest = λ h. h };
@@ -48,27 +49,42 @@ copies_more : (n : ℕ) (from : Contents) (blocks : List (Option (List ℕ))) (u
     → n < length blocks → AreCopies n from (held blocks) unread → x ≡ from n
     → AreCopies (n + 1) from (held (slice_set blocks n x)) unread
 copies_more n from blocks unread x inside so is = record {
+  missed = so.missed;
+  count = so.count;
   each = λ m below. ⊎_elim
-      (λ low. subst (λ c. (c ≡ from m) ⊎ (c ≡ None)) (sym (held_other blocks n m x (λ e. omega arith))) (so.each m low))
+      (λ low. subst (λ c. (c ≡ from m) ⊎ (Contains so.missed m × (c ≡ None)))
+      (sym (held_other blocks n m x (λ e. omega arith))) (so.each m low))
       (λ e. inl (subst (λ k. held (slice_set blocks n x) k ≡ from k) (sym e) (held_same blocks n x inside ∙ is)))
       (below_next m n below);
-  all = λ none m below. ⊎_elim
-      (λ low. held_other blocks n m x (λ e. omega arith) ∙ so.all none m low)
-      (λ e. subst (λ k. held (slice_set blocks n x) k ≡ from k) (sym e) (held_same blocks n x inside ∙ is))
-      (below_next m n below);
 }
+
+one_missed_more : (c d : Option (List ℕ)) (n : ℕ) (missed : List ℕ) (m : ℕ) → (c ≡ d) ⊎ (Contains missed m × (c ≡ None))
+    → (c ≡ d) ⊎ (Contains (n ∷ missed) m × (c ≡ None))
+one_missed_more c d n missed m so = ⊎_elim (λ same. inl same)
+    (λ damaged. inr (contains_later n m missed damaged.0, damaged.1)) so
 
 -- it couldn't
 copies_unread : (n : ℕ) (from : Contents) (blocks : List (Option (List ℕ))) (unread : ℕ) → n < length blocks
     → AreCopies n from (held blocks) unread → AreCopies (n + 1) from (held (slice_set blocks n None)) (unread + 1)
 copies_unread n from blocks unread inside so = record {
+  missed = n ∷ so.missed;
+  count = let c = so.count in omega arith;
   each = λ m below. ⊎_elim
-      (λ low. subst (λ c. (c ≡ from m) ⊎ (c ≡ None)) (sym (held_other blocks n m None (λ e. omega arith)))
-      (so.each m low))
-      (λ e. inr (subst (λ k. held (slice_set blocks n None) k ≡ None) (sym e) (held_same blocks n None inside)))
+      (λ low. subst (λ c. (c ≡ from m) ⊎ (Contains (n ∷ so.missed) m × (c ≡ None)))
+      (sym (held_other blocks n m None (λ e. omega arith)))
+      (one_missed_more (held blocks m) (from m) n so.missed m (so.each m low)))
+      (λ e. inr (
+        subst (Contains (n ∷ so.missed)) (sym e) (contains_here n so.missed),
+        subst (λ k. held (slice_set blocks n None) k ≡ None) (sym e) (held_same blocks n None inside),
+      ))
       (below_next m n below);
-  all = λ none m below. absurd (omega arith);
 }
+
+-- if all could be read, all blocks are those of the disk
+pub copies_of_all : (end : ℕ) (from to : Contents) (unread : ℕ) → AreCopies end from to unread → unread ≡ 0 → (n : ℕ)
+    → n < end → to n ≡ from n
+copies_of_all end from to unread copies none n below = ⊎_elim (λ same. same)
+    (λ damaged. let c = copies.count in let there = damaged.0.1 in absurd (omega arith)) (copies.each n below)
 
 pub copying_read : (first mid now : DiskState) (n : ℕ) (copy after : Memory) (unread : ℕ) → n < first.size
     → IsCopying first mid n copy unread → (now.honest → after ≡ loaded copy n (mid.contents n))

@@ -13,6 +13,7 @@ use Rattle.volume.proofs.Starting.{stands_ignores_gate}
 use Rattle.salvage.specs.Copies.{AreCopies, IsCopyOf}
 use Rattle.salvage.specs.Copies.IsSettledCopy.{settled, lost}
 use Rattle.salvage.proofs.Agreement.{stands_agree}
+use Rattle.salvage.proofs.Copying.{copies_of_all}
 
 -- what is recovered stands for what stood
 recovered_stands : (size : ℕ) (before now : Contents) (files : Files File) → IsRecovered size before now
@@ -42,7 +43,7 @@ copy_recovered from copied copy unread size has_bad_log copies same good recover
       stands = λ none files stands. (
         refl,
         recovered_stands from.size copied (held copy.blocks) files r
-            (stands_agree from.size from.contents copied (copies.all none) files stands),
+            (stands_agree from.size from.contents copied (copies_of_all from.size from.contents copied unread copies none) files stands),
       );
     })
 
@@ -56,6 +57,6 @@ copy_lost from copied copy unread size has_bad_log copies same is lost_log kept 
       copies = copies;
       settled = lost bad kept;
       stands = λ none files stands.
-          let there = stands_agree from.size from.contents copied (copies.all none) files stands in
+          let there = stands_agree from.size from.contents copied (copies_of_all from.size from.contents copied unread copies none) files stands in
           absurd (bad there.0 there.1);
     })

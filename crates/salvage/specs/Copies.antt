@@ -1,5 +1,5 @@
 -- A disk that was copied into memory, and what a start would find there.
-use Rattle.std.specs.Prelude.{◌≡◌, ◌⊎◌, ◌<◌, ℕ, zero, suc, Bool, true, false, None}
+use Rattle.std.specs.Prelude.{◌≡◌, ◌⊎◌, ◌<◌, ℕ, zero, suc, Bool, true, false, List, Contains, length, None}
 use Rattle.blockdisk.specs.Disk.{Contents, DiskState, one_more}
 use Rattle.blockdisk.specs.Memory.{Memory, held}
 use Rattle.changeset.specs.Crashes.{IsLost, IsRecovered}
@@ -11,10 +11,11 @@ abbrev pub failed_by : ℕ → ℕ → ℕ
 failed_by zero failures = failures
 failed_by (suc k) failures = one_more (failed_by k failures)
 
--- Each block below `end` is that of the disk, or damaged if it couldn't be read, as so many couldn't.
+-- Each block below `end` is that of the disk, or one of those that couldn't be read, which are damaged.
 pub record AreCopies (end : ℕ) (from to : Contents) (unread : ℕ) : Type 0 where
-  pub each : (n : ℕ) → n < end → (to n ≡ from n) ⊎ (to n ≡ None)
-  pub all : unread ≡ 0 → (n : ℕ) → n < end → to n ≡ from n
+  pub missed : List ℕ
+  pub count : length missed ≡ unread
+  pub each : (n : ℕ) → n < end → (to n ≡ from n) ⊎ (Contains missed n × (to n ≡ None))
 
 -- The log's puts were made in the copy; or the gate is open and the log isn't good, and it is as it was.
 pub data IsSettledCopy (size : ℕ) (copied now : Contents) : Bool → Type 0 where

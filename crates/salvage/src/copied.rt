@@ -1,4 +1,4 @@
-ghost use Rattle.std.specs.Prelude.{◌≡◌, ◌↔◌, ◌<◌, IfOk, IsErrOf, IsErr, IsFalse, IsTrue, None, length};
+ghost use Rattle.std.specs.Prelude.{◌≡◌, ◌↔◌, ◌<◌, ◌≤◌, ℕ, IfOk, IsErrOf, IsErr, IsFalse, IsTrue, None, length};
 ghost use Rattle.blockdisk.specs.Disk.{SameDisk, one_more};
 ghost use Rattle.blockdisk.specs.Memory.{held, loaded};
 ghost use Rattle.changeset.specs.Reads.{OnlyReads};
@@ -66,6 +66,7 @@ fn copy_blocks<D: Disk>(alloc: Global, disk: &mut D) -> Result<(MemDisk, u32), N
     ensures same { SameDisk (D.state disk.old) (D.state disk.new) }
     ensures failures { IfOk result (λ copy. (D.state disk.new).failures
         ≡ failed_by copy.1 (D.state disk.old).failures) }
+    ensures few { IfOk result (λ copy. copy.1 ≤ (D.state disk.old).size) }
 {
     let size = disk.blocks();
     let mut copy = MemDisk::new(alloc, size, COPY_CALLS)?;
@@ -84,7 +85,7 @@ impl Copied {
     /// # Errors
     ///
     /// `NotVolume` if the disk has a number of blocks that no volume has, with nothing read; `NoMemory` if the copy finds
-    /// no room: it takes twice what the disk holds.
+    /// no room, with nothing read: it takes twice what the disk holds. `NoMemory` too if the copy fails.
     pub fn of<D: Disk>(alloc: Global, disk: &mut D) -> Result<Copied, SalvageError>
         ensures copied { (D.state disk.new).honest
             → IfOk result (λ copy. IsCopyOf (D.state disk.old) copy.disk copy.unread copy.has_bad_log) }
@@ -94,8 +95,10 @@ impl Copied {
         ensures device { IsErrOf result Device → ⊥ }
         ensures reads { (D.state disk.new).honest → OnlyReads (D.state disk.old) (D.state disk.new) }
         ensures same { SameDisk (D.state disk.old) (D.state disk.new) }
-        ensures failures { IfOk result (λ copy. (D.state disk.new).failures
-            ≡ failed_by copy.unread (D.state disk.old).failures) }
+        // The disk failed once for each block that couldn't be read, whatever the answer.
+        ensures failures { (unread : ℕ) × (unread ≤ (D.state disk.old).size)
+            × ((D.state disk.new).failures ≡ failed_by unread (D.state disk.old).failures)
+            × IfOk result (λ copy. copy.unread ≡ unread) }
     {
         if !is_volume_size(disk.blocks()) {
             return Err(SalvageError::NotVolume);

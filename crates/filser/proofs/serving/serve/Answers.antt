@@ -1,6 +1,6 @@
-use Rattle.std.proofs.Common.{inl, inr, refl, subst}
+use Rattle.std.proofs.Common.{inl, inr, refl, subst, ◌∙◌}
 use Rattle.filser.proofs.Attending.{was_honest}
-use Rattle.filser.proofs.Imaging.{refused_by}
+use Rattle.filser.proofs.Imaging.{given_honest, given_size, refused_by}
 use Rattle.filser.proofs.serving.serve.Goals as goal
 
 pub returns-in-Ok-clause-was_honest : goal.returns-in-Ok-clause-was_honest
@@ -38,13 +38,25 @@ returns-in-Ok-clause-ran g c =
       ended = c.finish.ensures;
     })
 
+pub returns-in-Err-clause-size : goal.returns-in-Err-clause-size
+returns-in-Err-clause-size g c = given_size g.D.Disk.state c.args.task c.in-Err.disk c.give_back.result
+    c.give_back.ensures ∙ c.in-Err.ensures.same_refused.size
+
+pub returns-in-Err-clause-was_honest : goal.returns-in-Err-clause-was_honest
+returns-in-Err-clause-was_honest g c h = c.in-Err.ensures.same_refused.was_honest
+    (given_honest g.D.Disk.state c.args.task c.in-Err.disk c.give_back.result c.give_back.ensures h)
+
 pub returns-in-Err-clause-ran : goal.returns-in-Err-clause-ran
 returns-in-Err-clause-ran g c =
     let p = c.in-Err.ensures in
-    inr (record {
-      error = c.in-Err.error;
-      refused = refused_by _ _ c.in-Err.error p.same_refused p.named p.failed p.served_refused p.refused p.kept
-          p.crash_refused;
-      said = c.say.ensures.said;
-      unread = refl;
-    })
+    inr (
+      c.in-Err.disk,
+      record {
+        error = c.in-Err.error;
+        refused = refused_by _ _ c.in-Err.error p.same_refused p.named p.failed p.served_refused p.refused p.kept
+            p.crash_refused;
+        said = c.say-status.ensures.said;
+        unread = refl;
+      },
+      c.give_back.ensures,
+    )

@@ -1,0 +1,136 @@
+ghost use Rattle.std.specs.Prelude.{◌≡◌, IsTrue};
+ghost use Rattle.filser.specs.ServedDisks.{IsGivenBack, IsSearched};
+ghost use Rattle.filser.specs.declared.task.Task.TheVariants.{Check};
+
+use crate::Task;
+use crate::fault::tell_no_memory;
+use blockdisk::Disk;
+use commands::extension_text;
+use salvage::{Copied, Cost, Finding, SalvageError, Survey, survey_disk};
+use std::alloc::Global;
+use std::fmt::{self, Display, Formatter};
+use std::io::Write;
+use volume::VolumeError;
+use words36::{FileName, Ppn, text_of};
+
+/// A file of a directory, as a line names it: `FOO.TXT[10,20]`.
+#[derive(Clone, Copy, Debug)]
+struct Place {
+    owner: Ppn,
+    name: FileName,
+}
+
+impl Display for Place {
+    fn fmt<W: fmt::Write>(&self, f: &mut Formatter<W>) -> fmt::Result {
+        let name = text_of(self.name.name);
+        write_part(f, &name)?;
+        let extension = extension_text(self.name.ext);
+        if self.name.ext.bits() != 0 {
+            f.write_char('.')?;
+            write_part(f, &extension)?;
+        }
+        write!(f, "{}", self.owner)
+    }
+}
+
+/// Writes the characters of a name or of an extension, without the blanks at the end.
+fn write_part<W: fmt::Write>(f: &mut Formatter<W>, part: &[u8]) -> fmt::Result {
+    for character in part.trim_ascii_end() {
+        f.write_char(char::from(*character))?;
+    }
+    Ok(())
+}
+
+/// Tells people which file a fault costs, if it costs one.
+fn tell_loss<E: Write>(errors: &mut E, finding: Finding) {
+    let Finding { fault, costs } = finding;
+    let _ = match costs {
+        Cost::File(owner, name) => {
+            let place = Place { owner, name };
+            writeln!(errors, "filser: {place}: {fault}")
+        }
+        Cost::Unnamed(owner, name) => {
+            let place = Place { owner, name };
+            writeln!(errors, "filser: {place}, in no directory: {fault}")
+        }
+        Cost::Directory(owner) => writeln!(errors, "filser: {owner}: {fault}"),
+        Cost::Directories => writeln!(errors, "filser: all directories: {fault}"),
+        Cost::Nothing => Ok(()),
+    };
+}
+
+/// Finds what the faults of a disk cost. Nothing is written to it.
+///
+/// # Errors
+///
+/// `NotVolume` if it has a number of blocks that no volume has, `Device` if a block couldn't be read, `NoMemory` if there
+/// is none: it takes twice what the disk holds.
+fn search<D: Disk>(alloc: Global, disk: &mut D) -> Result<Survey, SalvageError>
+    ensures { IsSearched (D.state disk.old) (D.state disk.new) }
+{
+    let mut copied = Copied::of(alloc, disk)?;
+    if copied.unread > 0 {
+        return Err(SalvageError::Device); // a disk that keeps blocks doesn't give the neighbours either
+    }
+    survey_disk(alloc, &mut copied.disk)
+}
+
+/// Tells people which files the faults of a disk cost.
+fn tell_losses<D: Disk, E: Write>(alloc: Global, disk: &mut D, errors: &mut E)
+    ensures { IsSearched (D.state disk.old) (D.state disk.new) }
+{
+    match search(alloc, disk) {
+        Ok(found) => {
+            for finding in found.findings.as_slice() {
+                tell_loss(errors, *finding);
+            }
+        }
+        Err(SalvageError::NoMemory) => tell_no_memory(errors),
+        Err(SalvageError::NotVolume | SalvageError::Device) => {}
+    }
+}
+
+/// Whether files may be lost by what a start was refused for.
+fn may_cost_files(error: VolumeError) -> bool {
+    match error {
+        VolumeError::NotVolume
+        | VolumeError::Device
+        | VolumeError::NoMemory
+        | VolumeError::Failed => false,
+        VolumeError::BadHome
+        | VolumeError::BadLog
+        | VolumeError::BadDirectory(_)
+        | VolumeError::BadRetrieval(_)
+        | VolumeError::BlockTwice(_)
+        | VolumeError::TableWrong(_)
+        | VolumeError::BadData(_) => true,
+    }
+}
+
+/// Whether a disk that a start refused is searched for files that are lost.
+fn is_searched(task: Task, error: VolumeError) -> bool
+    ensures { IsTrue result → task ≡ Check }
+{
+    match task {
+        Task::Check => may_cost_files(error),
+        _ => false,
+    }
+}
+
+/// Hands a disk back that a start refused. If the task is to check it, people are told first which files are lost.
+pub(crate) fn give_back<D: Disk, E: Write>(
+    alloc: Global,
+    disk: D,
+    task: Task,
+    error: VolumeError,
+    errors: &mut E,
+) -> D
+    ensures { IsGivenBack D.state task disk result }
+{
+    if !is_searched(task, error) {
+        return disk;
+    }
+    let mut searched = disk;
+    tell_losses(alloc, &mut searched, errors);
+    searched
+}
