@@ -4,7 +4,7 @@ ghost use Rattle.filser.specs.declared.task.Task.TheVariants.{Check};
 
 use crate::Task;
 use crate::fault::tell_no_memory;
-use blockdisk::Disk;
+use blockdisk::{Disk, Fail, FuseDisk};
 use commands::extension_text;
 use salvage::{Copied, Cost, Finding, SalvageError, Survey, survey_disk};
 use std::alloc::Global;
@@ -12,6 +12,13 @@ use std::fmt::{self, Display, Formatter};
 use std::io::Write;
 use volume::VolumeError;
 use words36::{FileName, Ppn, text_of};
+
+/// How often the search for lost files reads a block, all in all: more often than it has to unless files and directories
+/// have blocks in common.
+const READS_PER_BLOCK: u64 = 16;
+
+/// How many faults are told at most.
+const MOST_TOLD: usize = 100;
 
 /// A file of a directory, as a line names it: `FOO.TXT[10,20]`.
 #[derive(Clone, Copy, Debug)]
@@ -59,20 +66,40 @@ fn tell_loss<E: Write>(errors: &mut E, finding: Finding) {
     };
 }
 
+/// Tells people which command says more.
+fn tell_elsewhere<E: Write>(errors: &mut E, what: &str) {
+    let _ = writeln!(errors, "filser: {what}: see filser salvage --list");
+}
+
+/// Tells people which files these faults cost: of a few of them.
+fn tell_findings<E: Write>(errors: &mut E, findings: &[Finding]) {
+    let (told, others) = findings.split_at(findings.len().min(MOST_TOLD));
+    for finding in told {
+        tell_loss(errors, *finding);
+    }
+    if !others.is_empty() {
+        tell_elsewhere(errors, "more is wrong");
+    }
+}
+
 /// Finds what the faults of a disk cost. Nothing is written to it.
 ///
 /// # Errors
 ///
-/// `NotVolume` if it has a number of blocks that no volume has, `Device` if a block couldn't be read, `NoMemory` if there
-/// is none: it takes twice what the disk holds.
+/// `NotVolume` if it has a number of blocks that no volume has; `Device` if a block couldn't be read, or if the faults lead
+/// to the same blocks again and again; `NoMemory` if there is none: it takes twice what the disk holds.
 fn search<D: Disk>(alloc: Global, disk: &mut D) -> Result<Survey, SalvageError>
     ensures { IsSearched (D.state disk.old) (D.state disk.new) }
 {
-    let mut copied = Copied::of(alloc, disk)?;
-    if copied.unread > 0 {
+    let size = disk.blocks();
+    let Copied {
+        disk: copy, unread, ..
+    } = Copied::of(alloc, disk)?;
+    if unread > 0 {
         return Err(SalvageError::Device); // a disk that keeps blocks doesn't give the neighbours either
     }
-    survey_disk(alloc, &mut copied.disk)
+    let mut copy = FuseDisk::new(copy, READS_PER_BLOCK * u64::from(size), Fail::All);
+    survey_disk(alloc, &mut copy)
 }
 
 /// Tells people which files the faults of a disk cost.
@@ -80,13 +107,10 @@ fn tell_losses<D: Disk, E: Write>(alloc: Global, disk: &mut D, errors: &mut E)
     ensures { IsSearched (D.state disk.old) (D.state disk.new) }
 {
     match search(alloc, disk) {
-        Ok(found) => {
-            for finding in found.findings.as_slice() {
-                tell_loss(errors, *finding);
-            }
-        }
+        Ok(found) => tell_findings(errors, found.findings.as_slice()),
+        Err(SalvageError::Device) => tell_elsewhere(errors, "which files are lost"),
         Err(SalvageError::NoMemory) => tell_no_memory(errors),
-        Err(SalvageError::NotVolume | SalvageError::Device) => {}
+        Err(SalvageError::NotVolume) => {}
     }
 }
 
