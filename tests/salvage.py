@@ -274,6 +274,33 @@ def losses_told(tries):
     tries.so(f"two files: {done.stderr!r}", sorted(done.stderr.decode().splitlines()) == [f"filser: {loss}" for loss in both])
 
 
+def tangled_image(tries):
+    """A check gives its search up if the same blocks are read again and again, and tells 100 faults at most."""
+    image = tries.make("T.IMG", 2048)
+    chain = list(range(500, 1000))
+    for place, block in enumerate(chain):
+        following = chain[place + 1] if place + 1 < len(chain) else 0
+        names = [sixbit(f"F{42 * place + number:05}") for number in range(42)]
+        image.set_words(block, [following, 42, *[word for name in names for word in (name, 0, 499)]])
+    master = image.words(1)[5]
+
+    def told(directories):
+        """What a check tells with so many directories that lead to the chain."""
+        entries = [word for number in range(directories) for word in (PPN + number, 0o775 << 27, chain[0])]
+        image.set_words(master, [0, directories, *entries, *[0] * (126 - len(entries))])
+        image.save()
+        done = tries.run(["check", "T.IMG"])
+        tries.so(f"a tangled image: {done.stdout!r}", done.stdout == b"?Bad retrieval block 499\n" and done.returncode == 3)
+        return done.stderr.decode().splitlines()
+
+    lines = told(1)
+    wanted = [f"filser: F{place:05}[10,20]: bad retrieval block 499" for place in range(100)]
+    wanted.append("filser: more is wrong: see filser salvage --list")
+    tries.so(f"a hundred faults: {lines[:2]}, {lines[-1:]}", lines == wanted)
+    lines = told(42)
+    tries.so(f"too many reads: {lines[:3]}", lines == ["filser: which files are lost: see filser salvage --list"])
+
+
 def shared_blocks(tries):
     """A block that is in two files costs both; one that no directory names costs none of those that one names."""
     fresh = tries.make("C.IMG")
@@ -386,7 +413,8 @@ def main():
     count = int(sys.argv[2]) if len(sys.argv) > 2 else 200
     with tempfile.TemporaryDirectory() as folder:
         tries = Tries(program, folder)
-        for part in (whole_image, damaged_blocks, losses_told, shared_blocks, deleted_files, logs, odd_images):
+        for part in (whole_image, damaged_blocks, losses_told, tangled_image, shared_blocks, deleted_files, logs,
+                     odd_images):
             part(tries)
         spoiled_images(tries, count)
     print(f"salvage: {tries.count - tries.failed} passed, {tries.failed} failed")
