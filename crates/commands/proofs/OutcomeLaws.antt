@@ -1,36 +1,45 @@
 -- What the errands of job 1 come to.
 use Rattle.std.proofs.Common.{◌≡◌, ◌⊎◌, inl, inr, ⊎_elim, ◌<◌, ℕ, true, false, List, [], ◌∷◌, length, Option, Some}
-use Rattle.std.proofs.Common.{None, refl, sym, ap, subst, ◌∙◌}
-use Rattle.std.specs.Prelude.{codes, IsTrue}
+use Rattle.std.proofs.Common.{None, All, Ok, refl, sym, ap, subst, ◌∙◌}
+use Rattle.std.specs.Prelude.{codes, flat_map, IsTrue}
 use Rattle.std.specs.Io.KnownBytes.{IsAtEnd}
+use Rattle.std.specs.declared.alloc.AllocError.{AllocError}
+use Rattle.words36.specs.Blocks.{word_bytes}
+use Rattle.words36.specs.Words.{IsWord}
 use Rattle.words36.specs.declared.moment.Moment.{Moment}
 use Rattle.meaning.specs.Copies.{AreShort, HasFiles, IsLineRefused, IsPrinted, HasHalfwordExtension}
 use Rattle.meaning.specs.Causes.{IsRefusedAt}
-use Rattle.meaning.specs.Errands.{AreWords, gets, keeps, unfit}
+use Rattle.meaning.specs.Errands.{AreWords, gets, keeps, operator, unfit}
 use Rattle.meaning.specs.Files.{Files}
 use Rattle.meaning.specs.Jobs.{State}
 use Rattle.meaning.specs.Plans.{Act, Say, Conducts, ok}
 use Rattle.meaning.specs.Published.{Version}
 use Rattle.meaning.specs.Room.{Pack}
 use Rattle.meaning.specs.Runs.{Service, Serving}
-use Rattle.meaning.specs.Texts.{Spoken, complains}
+use Rattle.meaning.specs.Texts.{Spoken, complains, prints, refuses}
 use Rattle.meaning.specs.Transcripts.{Went}
+use Rattle.meaning.specs.declared.call.Reply.{Reply}
 use Rattle.meaning.specs.declared.command.Spec.{Spec}
 use Rattle.meaning.specs.declared.encoding.Encoding.{Encoding}
+use Rattle.meaning.specs.declared.encoding.Encoding.TheVariants.{Words}
 use Rattle.meaning.proofs.CauseLaws.{put_refusals, get_refusals}
 use Rattle.meaning.proofs.ErrandRuns.{puts_are_exact, gets_are_exact}
 use Rattle.meaning.proofs.ToldLaws.{no_reply}
 use Rattle.commands.specs.Machines.{Machine}
 use Rattle.commands.specs.Errands.{keeps_new, no_room}
+use Rattle.commands.specs.Exporting.{Exports, ExportsWords, takes_out}
 use Rattle.commands.specs.Importing.{said_behind}
 use Rattle.commands.specs.Outcomes.{IsStored, IsStoredNew, DeliveriesKeepFiles, DeliveriesMakeFiles, ErrandsShowFiles}
-use Rattle.commands.specs.Outcomes.{ImportsMakeFiles}
+use Rattle.commands.specs.Outcomes.{AreReadOf, ExportsShowFiles, ImportsMakeFiles, IsExportOf}
 use Rattle.commands.specs.Reasons.{BeginsNoFile}
 use Rattle.commands.specs.Streams.{spoken}
+use Rattle.commands.specs.declared.exporting.Exported.{Exported}
+use Rattle.commands.specs.declared.exporting.Exported.TheVariants.{File, Refused, NotBytes}
 use Rattle.commands.proofs.GoingLaws.{acts_went}
 use Rattle.commands.proofs.ImportLaws.{unlabelled}
 use Rattle.commands.proofs.InputLaws.{no_file, not_both}
 use Rattle.commands.proofs.NewRuns.{new_puts_are_exact}
+use Rattle.commands.proofs.WordBytes.{words_same}
 
 -- nothing is asked where the input is no file's
 complained : (pack : Pack) (s : State) (acts : List Act) (text : List ℕ) (said : Spoken) (last : Service)
@@ -105,6 +114,53 @@ got pack s moment me encoding spec acts said last there few short led went = ⊎
     ))
     (gets_are_exact pack moment me s encoding spec said last there few short (acts, led, went))
 
+-- words that are printed as a body is
+read_of : (body words : List ℕ) → All IsWord words
+    → prints (flat_map word_bytes words) ≡ prints (flat_map word_bytes body) → AreReadOf body words
+read_of body words fit is =
+    let printed : flat_map word_bytes words ≡ flat_map word_bytes body = ap (λ (x : Spoken). x.text) is in
+    record {
+      fit = fit;
+      printed = printed;
+      same = λ fits. words_same words body fit fits printed;
+    }
+
+-- the same of a file that is taken out
+module _ (pack : Pack) (s : State) (moment : Moment) (asked : Option Encoding) (mode : ℕ) (spec : Spec)
+    (acts : List Act) (last : Service) (there : 1 < length s.jobs) (few : HasHalfwordExtension spec)
+    (short : AreShort s.files) (went : Went pack (Serving s) acts last) where
+  abbrev IsOut : Exported → Type 0
+  IsOut exported = HasFiles s.files last × IsExportOf moment asked mode s spec acts exported
+
+  words_out : (exported : Exported) → ExportsWords asked mode (takes_out moment spec) acts exported → IsOut exported
+  words_out exported (words, fit, led, is) =
+      let said = prints (flat_map word_bytes words) in
+      ⊎_elim
+      (λ printed. (
+        printed.1,
+        inl (
+          printed.0.0,
+          printed.0.1,
+          words,
+          read_of printed.0.0.file.body words fit printed.0.2,
+          is,
+        ),
+      ))
+      (λ refused. absurd (not_refused said said (says_refused s.files said last refused.0) refl refl))
+      (got pack s moment operator Words spec acts said last there few short led went)
+
+  refused_out : (reply : Reply) → Conducts (takes_out moment spec) acts (refuses reply) → IsOut (Refused reply)
+  refused_out reply led = ⊎_elim
+      (λ printed. absurd (no_reply Words printed.0.0.file.body reply (sym printed.0.2)))
+      (λ refused. (refused.0.1, inr (reply, refl, refused.1)))
+      (got pack s moment operator Words spec acts (refuses reply) last there few short led went)
+
+  taken_out : (exported : Exported)
+      → Exports {E = AllocError} asked mode (takes_out moment spec) acts (Ok exported) → IsOut exported
+  taken_out (File encoding bytes) out = words_out (File encoding bytes) out
+  taken_out (Refused reply) out = refused_out reply out
+  taken_out NotBytes out = words_out NotBytes out
+
 module _ {S : Type 0} (machine : S → Machine) where
   pub deliveries_keep_files : DeliveriesKeepFiles machine
   deliveries_keep_files source left sink full old new moment me encoding spec tally d honest s serves there few =
@@ -168,3 +224,11 @@ module _ {S : Type 0} (machine : S → Machine) where
         got (machine old).pack s moment me encoding spec e.acts
             (spoken e.written tally) end.0 there few short e.performs went,
       )
+
+  pub exports_show_files : ExportsShowFiles machine
+  exports_show_files old new moment asked mode spec exported out honest s serves there few short =
+      let end = out.goes.went honest (Serving s) serves in
+      let went = acts_went machine (machine old).pack old (Serving s) out.acts new end.0 end.2 in
+      let is = taken_out (machine old).pack s moment asked mode spec out.acts end.0 there few short went exported
+      out.exports in
+      (end.0, end.1, is.0, is.1)

@@ -231,7 +231,7 @@ typed_pieces before after words rest piece behind n put is_piece is_behind was =
 
 -- Bytes have the same words, whatever they are asked for.
 
-words_same : (a b : List ℕ) → All IsWord a → All IsWord b → flat_map word_bytes a ≡ flat_map word_bytes b → a ≡ b
+pub words_same : (a b : List ℕ) → All IsWord a → All IsWord b → flat_map word_bytes a ≡ flat_map word_bytes b → a ≡ b
 words_same a b fit other same =
     let long : length a ≡ length b = omega (arith, length-words a, length-words b, ap length same) in
     ext_get_or 0 a b long (λ i h.

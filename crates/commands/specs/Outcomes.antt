@@ -1,24 +1,31 @@
 -- What the errands of job 1 come to, where the service has kept its promises.
-use Rattle.std.specs.Prelude.{◌≡◌, ◌⊎◌, ◌<◌, ℕ, IsTrue, List, length, Option, None, Some, Ok, codes}
+use Rattle.std.specs.Prelude.{◌≡◌, ◌⊎◌, ◌<◌, ℕ, IsTrue, List, All, length, Option, None, Some, Ok, codes, flat_map}
+use Rattle.std.specs.declared.alloc.AllocError.{AllocError}
 use Rattle.std.specs.Io.KnownBytes.{Appends, Consumes, IsAtEnd}
+use Rattle.words36.specs.Blocks.{word_bytes}
+use Rattle.words36.specs.Words.{IsWord}
 use Rattle.words36.specs.declared.moment.Moment.{Moment}
 use Rattle.meaning.specs.Copies.{AreShort, HasFiles, IsPut, IsLineRefused, IsPrinted, HasHalfwordExtension}
 use Rattle.meaning.specs.Copies.{place_of}
 use Rattle.meaning.specs.Causes.{IsRefusedAt}
-use Rattle.meaning.specs.Errands.{AreWords, gets, keeps, unfit}
+use Rattle.meaning.specs.Errands.{AreWords, gets, keeps, operator, unfit}
 use Rattle.meaning.specs.Jobs.{State}
 use Rattle.meaning.specs.Plans.{Act}
-use Rattle.meaning.specs.Published.{file_at}
+use Rattle.meaning.specs.Published.{Version, file_at}
 use Rattle.meaning.specs.Runs.{Service, Serving}
-use Rattle.meaning.specs.Texts.{Spoken, complains}
+use Rattle.meaning.specs.Texts.{Spoken, complains, refuses}
+use Rattle.meaning.specs.declared.call.Reply.{Reply}
 use Rattle.meaning.specs.declared.command.Spec.{Spec}
 use Rattle.meaning.specs.declared.encoding.Encoding.{Encoding}
 use Rattle.commands.specs.Errands.{Delivery, Errand, keeps_new}
+use Rattle.commands.specs.Exporting.{HasExported, IsExport, takes_out}
 use Rattle.commands.specs.Importing.{Imported, said_behind}
 use Rattle.commands.specs.Machines.{Machine}
 use Rattle.commands.specs.Reasons.{BeginsNoFile, IsTooLong}
 use Rattle.commands.specs.Streams.{spoken}
 use Rattle.commands.specs.declared.answer.Tally.{Tally}
+use Rattle.commands.specs.declared.exporting.Exported.{Exported}
+use Rattle.commands.specs.declared.exporting.Exported.TheVariants.{Refused}
 
 -- Why an input was refused: it is no file, read to its end or to bytes with which none begins; it is too long; or a
 -- reply was not the one wanted.
@@ -95,3 +102,29 @@ ErrandsShowFiles {S} machine =
     → (written : List ℕ) × Appends sink full written × (last : Service) × (machine new).serves last
     × (IsPrinted me s encoding spec (spoken written tally) last
     ⊎ (IsLineRefused s.files (spoken written tally) last × IsRefusedAt moment errand.acts (spoken written tally)))
+
+-- Words that were read of a body. Their bytes, eight for each, are those of the body, so they are its own words, if
+-- these fit.
+pub record AreReadOf (body words : List ℕ) : Type 0 where
+  pub fit : All IsWord words
+  pub printed : flat_map word_bytes words ≡ flat_map word_bytes body
+  pub same : All IsWord body → words ≡ body
+
+-- The words of the version that was found are taken out; or the file is refused, at the reply that was not wanted.
+abbrev pub IsExportOf : Moment → Option Encoding → ℕ → State → Spec → List Act → Exported → Type 0
+IsExportOf moment asked mode s spec acts exported =
+    ((v : Version) × (file_at s.files (place_of operator spec) ≡ Some v)
+    × (words : List ℕ) × AreReadOf v.file.body words × IsExport asked mode words exported)
+    ⊎ ((reply : Reply) × (exported ≡ Refused reply) × IsRefusedAt moment acts (refuses reply))
+
+-- What is answered for a file that is taken out is what its version's words come to, or a refusal at a reply that was
+-- not wanted; the files stay.
+abbrev pub ExportsShowFiles : {S : Type 0} → (S → Machine) → Type 0
+ExportsShowFiles {S} machine =
+    (old new : S) (moment : Moment) (asked : Option Encoding) (mode : ℕ) (spec : Spec) (exported : Exported)
+    → (out : HasExported {E = AllocError} machine old new asked mode (takes_out moment spec) (Ok exported))
+    → (machine new).honest → (s : State) → (machine old).serves (Serving s) → 1 < length s.jobs
+    → HasHalfwordExtension spec
+    → AreShort s.files
+    → (last : Service) × (machine new).serves last × HasFiles s.files last
+    × IsExportOf moment asked mode s spec out.acts exported

@@ -14,7 +14,8 @@ ghost use Rattle.meaning.specs.declared.call.Event.{Event};
 ghost use Rattle.meaning.specs.declared.command.Command.{Command};
 ghost use Rattle.meaning.specs.declared.encoding.Encoding.{Encoding};
 ghost use Rattle.commands.specs.Exporting.{ComesBack, IsExport};
-ghost use Rattle.commands.specs.Outcomes.{DeliveriesKeepFiles, DeliveriesMakeFiles, ErrandsShowFiles, ImportsMakeFiles};
+ghost use Rattle.commands.specs.Outcomes.{DeliveriesKeepFiles, DeliveriesMakeFiles, ErrandsShowFiles, ExportsShowFiles};
+ghost use Rattle.commands.specs.Outcomes.{ImportsMakeFiles};
 ghost use Rattle.commands.specs.Reasons.{IsTooLong};
 ghost use Rattle.commands.specs.Streams.{IsServedTranscript};
 ghost use Rattle.commands.specs.declared.exporting.Exported.{Exported};
@@ -62,10 +63,12 @@ pub fn exports_come_back()
 /// What an errand of job 1 comes to, where the service has kept its promises up to its end: a file that was put has the
 /// words that the input says, or it was refused and nothing has changed; if it was put only if its name is free, no
 /// file had the name, and the same holds for one that was imported; a file that was got was written as the words of the
-/// version that was found, or refused.
+/// version that was found, or refused; and one that was exported is what these words are taken out as, or it was
+/// refused.
 pub fn errands_reach_files<S: FileService>()
     ensures put { DeliveriesKeepFiles S.machine }
     ensures new { DeliveriesMakeFiles S.machine }
     ensures imported { ImportsMakeFiles S.machine }
     ensures got { ErrandsShowFiles S.machine }
+    ensures exported { ExportsShowFiles S.machine }
 {}

@@ -43,7 +43,8 @@
 //!    `import` does this for bytes in memory, and writes its answer behind a label. (`Imported`) `entries` gives the
 //!    files of a directory as job 1 is told of them. (`HasEntries`) `export` gives the bytes of a file. If no encoding
 //!    is asked for, it takes the first of the file's mode in which any bytes say its words, and a file that is made of
-//!    these bytes has the very words. (`HasExported`, `exports_come_back`)
+//!    these bytes has the very words. (`HasExported`, `exports_come_back`) They are those of the file that was found.
+//!    (`errands_reach_files`)
 #![tactic(auto)]
 
 mod answer;

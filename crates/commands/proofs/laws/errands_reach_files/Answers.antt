@@ -1,5 +1,5 @@
 use Rattle.commands.proofs.OutcomeLaws.{deliveries_keep_files, deliveries_make_files, errands_show_files}
-use Rattle.commands.proofs.OutcomeLaws.{imports_make_files}
+use Rattle.commands.proofs.OutcomeLaws.{exports_show_files, imports_make_files}
 use Rattle.commands.proofs.laws.errands_reach_files.Goals as goal
 
 pub returns-clause-put : goal.returns-clause-put
@@ -13,3 +13,6 @@ returns-clause-imported g c = imports_make_files g.S.FileService.machine
 
 pub returns-clause-got : goal.returns-clause-got
 returns-clause-got g c = errands_show_files g.S.FileService.machine
+
+pub returns-clause-exported : goal.returns-clause-exported
+returns-clause-exported g c = exports_show_files g.S.FileService.machine
