@@ -17,7 +17,8 @@ use Rattle.volume.proofs.MovingCore.{moved_across_whole}
 use Rattle.volume.proofs.MovingLaw.{map_moved_across, moved_across_files, moving_across_leads, moved_across_elsewhere}
 use Rattle.volume.proofs.MovingLaw.{moved_across_in_range, moved_across_low, moved_across_few, source_times}
 use Rattle.volume.proofs.MovingLaw.{target_times}
-use Rattle.volume.proofs.PublishingBlocks.{IsKept, total_place}
+use Rattle.volume.proofs.KeptBlocks.{IsKept}
+use Rattle.volume.proofs.PublishingBlocks.{total_place}
 use Rattle.volume.proofs.RenamingTransactions.{IsMove}
 
 module _ (size : ℕ) (c c' : VolumeCore) (ppn : ℕ) (name : FileName) (to_ppn : ℕ) (to : FileName)

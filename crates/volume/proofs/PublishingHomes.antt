@@ -1,5 +1,5 @@
 -- A version is published: its retrieval blocks and the puts of its change are none of the home copies.
-use Rattle.std.proofs.Common.{◌⊎◌, ℕ, ◌<◌, ◌≤◌, false, List, ◌∷◌, ◌∙◌, Result, OnOk, Ok, Err}
+use Rattle.std.proofs.Common.{◌⊎◌, ℕ, ◌<◌, ◌≤◌, false, List, ◌∷◌, ◌∙◌}
 use Rattle.blockdisk.specs.Disk.{Contents, DiskState, MayLeave, Near, Modifies, LeavesOnly}
 use Rattle.changeset.specs.Crashes.{IsGateOrLog}
 use Rattle.changeset.specs.Puts.{IsPutIn}
@@ -12,11 +12,6 @@ use Rattle.volume.specs.declared.live.LiveVersion.{LiveVersion}
 use Rattle.volume.specs.declared.pending.PendingVersion.{PendingVersion}
 use Rattle.volume.proofs.HomesKept.{homes_modified, homes_written, homes_stay, past_homes, clear_past}
 use Rattle.volume.proofs.PublishingBlocks.{IsMadeCurrent, retrieval_free, puts_low}
-
--- what holds anyway holds at Ok
-pub ok_anyway : {T E : Type 0} (result : Result T E) (P : Type 0) → P → OnOk result P
-ok_anyway (Ok x) P is = is
-ok_anyway (Err e) P is = tt
 
 module _ {s mid : DiskState} {c c' : VolumeCore} {key : ℕ} {p : PendingVersion} {v : LiveVersion} {puts : List Put}
     (sound : IsSoundCore s c false) (made_current : IsMadeCurrent s.size c c' key p v puts)

@@ -28,7 +28,8 @@ use Rattle.volume.specs.declared.pending.PendingVersion.{PendingVersion}
 use Rattle.volume.proofs.LiveBodies.{HaveBodies, body_stays}
 use Rattle.volume.proofs.MakingDirectories.{files_are, crash_for, rest_for, sound_for, sound_failed, whole_fixed}
 use Rattle.volume.proofs.MakingHeld.{ignores_log}
-use Rattle.volume.proofs.PublishingBlocks.{IsMadeCurrent, IsKept, read_kept, written_kept, retrieval_free}
+use Rattle.volume.proofs.KeptBlocks.{IsKept, read_kept, written_kept}
+use Rattle.volume.proofs.PublishingBlocks.{IsMadeCurrent, retrieval_free}
 use Rattle.volume.proofs.PublishingBlocks.{kept_retrieved, kept_put}
 use Rattle.volume.proofs.PublishingCore.{made_current_whole}
 use Rattle.volume.proofs.PublishingLaw.{map_published, published_files, publishing_leads_in, stored, stored_at}

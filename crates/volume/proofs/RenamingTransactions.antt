@@ -38,7 +38,8 @@ use Rattle.volume.proofs.MakingHeld.{ignores_log}
 use Rattle.volume.proofs.MakingLaw.{bit_few}
 use Rattle.volume.proofs.OnePlace.{first_set, first_no_data}
 use Rattle.volume.proofs.Pinning.{total_at, current_stands}
-use Rattle.volume.proofs.PublishingBlocks.{IsKept, read_kept, written_kept, total_place}
+use Rattle.volume.proofs.KeptBlocks.{IsKept, read_kept, written_kept}
+use Rattle.volume.proofs.PublishingBlocks.{total_place}
 use Rattle.volume.proofs.RenamingCore.{moved_whole}
 use Rattle.volume.proofs.RenamingLaw.{map_moved, moved_files, moving_leads, moved_elsewhere, moved_in_range, moved_few}
 use Rattle.volume.proofs.RenamingLaw.{new_times}
@@ -66,39 +67,6 @@ module _ (size : ℕ) (c : VolumeCore) (whole : IsWholeCore size c) (key : ℕ) 
         (λ from. from) (cases_lt v.at (space_start size));
     below = first_below table;
   }
-
-  -- it is no data block of a version that is read, nor of one that is written
-
-  not_held : (n : ℕ) → 0 < holds c.known.table n → n ≡ v.at → ⊥
-  not_held n some same =
-      let none = whole.primes key v there current in
-      let here = ap (holds c.known.table) same in
-      omega arith
-
-  pub not_read : (k : ℕ) (u : LiveVersion) → slot c.live k ≡ Some u → (n : ℕ) → 0 < times n u.version.blocks
-      → n ≡ v.at → ⊥
-  not_read k u at n some same = by u.is_current refl
-    where
-      by : (b : Bool) → u.is_current ≡ b → ⊥
-      by true now =
-          let none = first_no_data size c whole key v there current k u at now in
-          let here = ap (λ (j : ℕ). times j u.version.blocks) same in
-          absurd (omega arith)
-      by false ended = not_held n
-          (let part = total_at (held_reaches n) refl c.live k in
-          let here = ap (held_reaches n) at
-          ∙ ap (λ (b : Bool). if b then 0 else times n (blocks_reached u.at u.version)) ended in
-          let parts = times-append n u.version.ribs u.version.blocks in
-          let all = whole.held n in
-          omega arith) same
-
-  pub not_written : (k : ℕ) (q : PendingVersion) → pending_at c.pending k ≡ Some q → (n : ℕ)
-      → 0 < times n q.version.blocks → n ≡ v.at → ⊥
-  not_written k q at n some same = not_held n
-      (let part = total_at (pending_reaches n) refl c.pending k in
-      let here = ap (pending_reaches n) at in
-      let all = whole.held n in
-      omega arith) same
 
 -- Nothing looks at no blocks.
 
@@ -194,12 +162,14 @@ module _ {s mid : DiskState} {c c' : VolumeCore} {ppn : ℕ} {name : FileName} {
         (subst (λ (b : ℕ). IsGateOrLog b n ⊎ IsPutIn puts n) same.size there)) ∙ keeps.contents n
 
     pub move_readers : KeepsRead s.contents s'.contents c
-    move_readers k u at some n there = stays n (read_kept s.size c sound.whole k u at some n there)
-        (not_read s.size c sound.whole key v move.there move.current k u at n there)
+    move_readers k u at some n there =
+        let kept = read_kept s.size c sound.whole k u at some n there in
+        stays n kept (kept.first key v move.there move.current)
 
     pub move_writers : KeepsEachWritten s.contents s'.contents c
-    move_writers k q at n there = stays n (written_kept s.size c sound.whole k q at n there)
-        (not_written s.size c sound.whole key v move.there move.current k q at n there)
+    move_writers k q at n there =
+        let kept = written_kept s.size c sound.whole k q at n there in
+        stays n kept (kept.first key v move.there move.current)
 
     move_bodies : s.honest → HaveBodies s'.contents c'
     move_bodies h = versions_have c c' key v move.prime move.there move.here move.others s s'.contents sound h

@@ -10,9 +10,11 @@ ghost use Rattle.meaning.specs.Log.{IsTarget, targets, with_puts};
 ghost use Rattle.meaning.specs.Regions.{IsVolumeSize, log_images};
 ghost use Rattle.meaning.specs.Stands.{DiskMap};
 ghost use Rattle.alloctab.specs.TableState.{bit};
+ghost use Rattle.volume.specs.Edits.{IsCommitted};
 ghost use Rattle.volume.specs.Known.{Known, IsHeld};
 ghost use Rattle.volume.specs.Making.{LeadsTo, IsAligned};
 
+use crate::CallError;
 use blockdisk::{Disk, Fault};
 use changeset::{ChangeSet, LogError, commit};
 use words36::Block;
@@ -97,5 +99,30 @@ pub fn commit_puts<D: Disk>(disk: &mut D, set: &ChangeSet) -> Result<(), Fault>
         Ok(()) => Ok(()),
         Err(LogError::Device) => Err(Fault::Device),
         Err(_) => unreachable!(), // the log has room, and a commit reads no log
+    }
+}
+
+/// Makes the puts of a change, all or none, for which core is the new one already. What was written before is durable
+/// first.
+///
+/// # Errors
+///
+/// `Device` where the device failed, and the volume with it: recovery then finds all puts made, or none.
+pub(crate) fn commit_edit<D: Disk>(
+    disk: &mut D,
+    failed: &mut bool,
+    set: &ChangeSet,
+) -> Result<(), CallError>
+    requires volume { IsVolumeSize (D.state disk.old).size }
+    requires in_range { AllByRecursion (IsTarget (D.state disk.old).size) (targets set.now) }
+    requires few { length set.now ≤ log_images (D.state disk.old).size }
+    ensures { IsCommitted (D.state disk.old) (D.state disk.new) set.now failed.old failed.new result }
+{
+    match commit_puts(disk, set) {
+        Ok(()) => Ok(()),
+        Err(_) => {
+            *failed = true; // nothing of core is used any more
+            Err(CallError::Device)
+        }
     }
 }
