@@ -4,8 +4,8 @@ use Rattle.std.proofs.Common.{◌≡◌, ◌⊎◌, inl, ⊎_elim, ℕ, ◌≤�
 use Rattle.std.proofs.Common.{OnErr, IfErr, IsErrOf, refl, sym, ap, ◌∙◌, subst, arith}
 use Rattle.std.proofs.lemmas.Result.{on_ok_weaker}
 use Rattle.std.specs.List.{AllByRecursion}
-use Rattle.blockdisk.specs.Disk.{Contents, DiskState, MayLeave, Modifies, SameDisk, LeavesOnly}
-use Rattle.blockdisk.specs.Laws.{leaves_weaker, modifies_start}
+use Rattle.blockdisk.specs.Disk.{Contents, DiskState, MayLeave, Keeps, Modifies, SameDisk, LeavesOnly}
+use Rattle.blockdisk.specs.Laws.{leaves_weaker, modifies_start, keeps_still, still_modifies}
 use Rattle.changeset.specs.Crashes.{IsGateOrLog}
 use Rattle.changeset.specs.Puts.{IsPutIn}
 use Rattle.changeset.specs.Rest.{Ignores, AtRest, SettlesTo, quiet_rest, quiet_leaves, quiet_stands, transaction_leaves}
@@ -63,6 +63,20 @@ pub record IsEdit (size layout : ℕ) (c c' : VolumeCore) (Quiet : ℕ → Type 
       → (m' : DiskMap) × IsHeld size c'.known m' (with_puts puts d) × (files_of m' ≡ become (files_of m))
       × (m'.layout ≡ m.layout)
 
+-- what is asked of the puts, on a disk of the same size
+module _ {s mid : DiskState} {layout : ℕ} {c c' : VolumeCore} {Quiet : ℕ → Type 0} {Ready : Contents → Type 0}
+    {puts : List Put} {become : Files File → Files File} (edit : IsEdit s.size layout c c' Quiet Ready puts become)
+    (same : SameDisk s mid) where
+  pub edit_in_range : AllByRecursion (IsTarget mid.size) (targets puts)
+  edit_in_range = subst (λ (n : ℕ). AllByRecursion (IsTarget n) (targets puts)) (sym same.size) edit.in_range
+
+  pub edit_few : length puts ≤ log_images mid.size
+  edit_few = subst (λ (n : ℕ). length puts ≤ log_images n) (sym same.size) edit.few
+
+-- a read writes nothing
+pub read_nothing : (s mid : DiskState) → Keeps s mid → Modifies Nowhere s mid
+read_nothing s mid keeps = still_modifies Nowhere s mid (keeps_still s mid keeps)
+
 -- What a commit answered.
 
 -- it was made, unless the device failed
@@ -89,19 +103,22 @@ only_device (Err x) e only is = cc
 
 -- What follows.
 
-module _ {s mid : DiskState} {c c' : VolumeCore} {layout : ℕ} {Quiet : ℕ → Type 0} {Ready : Contents → Type 0}
-    {puts : List Put} {become : Files File → Files File} {alive : Bool}
-    (edit : IsEdit s.size layout c c' Quiet Ready puts become) (sound : IsSoundCore s c alive) (ok : alive ≡ false)
-    (only_now : s.honest → (d : Contents) → s.left_since s.clock d → MayLeave s d) (same : SameDisk s mid) where
+module _ {s mid : DiskState} {c : VolumeCore} {Quiet : ℕ → Type 0} {alive : Bool} (sound : IsSoundCore s c alive)
+    (ok : alive ≡ false) (only_now : s.honest → (d : Contents) → s.left_since s.clock d → MayLeave s d)
+    (same : SameDisk s mid) (free : (n : ℕ) → Quiet n → IsFree c.known.table n) where
   -- no home copy is written beforehand
   quiet_past : (n : ℕ) → n ≤ 2 → Quiet n → ⊥
-  quiet_past n low is = clear_past s.size c.known sound.whole.map n low (edit.quiet n is).clear
+  quiet_past n low is = clear_past s.size c.known sound.whole.map n low (free n is).clear
 
   not_gate : Quiet 3 → ⊥
   not_gate is =
-      let clear = (edit.quiet 3 is).clear in
+      let clear = (free 3 is).clear in
       let set = whole_fixed s.size c.known sound.whole.map 3 (omega arith) in
       omega arith
+
+  -- nor a block of a version in use
+  quiet_stays : Modifies Quiet s mid → (n : ℕ) → IsKept s.size c n → mid.contents n ≡ s.contents n
+  quiet_stays written n kept = written.contents n (λ is. kept.used (free n is))
 
   -- What is written beforehand, no crash sees.
   module _ (h : s.honest) (written : Modifies Quiet s mid) where
@@ -109,8 +126,7 @@ module _ {s mid : DiskState} {c c' : VolumeCore} {layout : ℕ} {Quiet : ℕ →
     at_rest = sound.rest h ok
 
     ignores : Ignores Quiet (IsHeld s.size c.known at_rest.map)
-    ignores = ignores_clear s.size c.known at_rest.map Quiet sound.whole.map.aligned
-        (λ n is. (edit.quiet n is).clear)
+    ignores = ignores_clear s.size c.known at_rest.map Quiet sound.whole.map.aligned (λ n is. (free n is).clear)
 
     mid_rest : AtRest mid (IsHeld s.size c.known at_rest.map)
     mid_rest = quiet_rest Quiet s mid (IsHeld s.size c.known at_rest.map) ignores not_gate same.size at_rest.rest
@@ -125,22 +141,26 @@ module _ {s mid : DiskState} {c c' : VolumeCore} {layout : ℕ} {Quiet : ℕ →
         written))
         (λ d held. inl (held.0, held.1, (at_rest.map, held.2.stands, is, pack_held s c.known at_rest.map at_rest.rest)))
 
-  -- where it failed
-  pub interrupted : (mid.honest → Modifies Quiet s mid) → IsEdited s mid c c' become true (Err Device)
-  interrupted written = record {
-    sound = sound_failed s mid c' true same.size edit.whole refl;
+  -- The call breaks off there.
+  pub interrupted : {c' : VolumeCore} {become : Files File → Files File} → IsWholeCore s.size c'
+      → (mid.honest → Modifies Quiet s mid) → (e : CallError) → IsEdited s mid c c' become true (Err e)
+  interrupted {c'} {become} whole written e = record {
+    sound = sound_failed s mid c' true same.size whole refl;
     crash = λ m f. written_crash (same.was_honest m) (written m) f (become f);
     done = λ m f rests. tt;
-    readers = λ m served. absurd (served refl);
-    writers = λ m served. absurd (served refl);
+    readers = λ m served k v is some n there.
+        quiet_stays (written m) n (read_kept s.size c sound.whole k v is some n there);
+    writers = λ m served k q is n there. quiet_stays (written m) n (written_kept s.size c sound.whole k q is n there);
     homes = λ m. homes_modified Quiet s mid quiet_past (only_now (same.was_honest m)) (written m);
-    home_blocks = λ m served. absurd (served refl);
+    home_blocks = λ m served. homes_stay Quiet s mid quiet_past (written m);
   }
 
   -- The puts are committed.
-  module _ {s' : DiskState} {was failed : Bool} {result : Result (Unit {0}) CallError}
-      (committed : IsCommitted mid s' puts was failed result) (written : mid.honest → Modifies Quiet s mid)
-      (ready : mid.honest → Ready mid.contents) (layout_is : s.honest → (pack_of s).layout ≡ layout) where
+  module _ {s' : DiskState} {c' : VolumeCore} {layout : ℕ} {Ready : Contents → Type 0} {puts : List Put}
+      {become : Files File → Files File} {was failed : Bool} {result : Result (Unit {0}) CallError}
+      (edit : IsEdit s.size layout c c' Quiet Ready puts become) (committed : IsCommitted mid s' puts was failed result)
+      (written : mid.honest → Modifies Quiet s mid) (ready : mid.honest → Ready mid.contents)
+      (layout_is : s.honest → (pack_of s).layout ≡ layout) where
     size : s'.size ≡ s.size
     size = committed.same.size ∙ same.size
 
@@ -189,7 +209,7 @@ module _ {s mid : DiskState} {c c' : VolumeCore} {layout : ℕ} {Quiet : ℕ →
             (unless_device result _ committed.only served (committed.modified h')).contents n
             (⊎_elim (λ log. let from = kept.from in let below = log.1 in let e = same.size in omega arith)
             (edit.spares n kept))
-            ∙ (written m).contents n (λ is. kept.used (edit.quiet n is))
+            ∙ quiet_stays (written m) n kept
 
         bodies : HaveBodies s'.contents c'
         bodies = edit.bodies s'.contents (record {
@@ -231,7 +251,7 @@ pub edited_alone : {s s' : DiskState} {c c' : VolumeCore} {layout : ℕ} {puts :
     → (s.honest → (d : Contents) → s.left_since s.clock d → MayLeave s d) → IsCommitted s s' puts was failed result
     → (s.honest → (pack_of s).layout ≡ layout) → IsEdited s s' c c' become failed result
 edited_alone {s} edit sound ok only_now committed layout_is =
-    edited edit sound ok only_now (record { size = refl; was_honest = λ h. h }) committed
+    edited sound ok only_now (record { size = refl; was_honest = λ h. h }) edit.quiet edit committed
     (λ h. modifies_start Nowhere s) (λ h. tt) layout_is
 
 -- A volume that was sound is sound.
