@@ -5,7 +5,8 @@ use Rattle.std.proofs.Common.{OnErr, IfErr, IsErrOf, refl, sym, ap, ◌∙◌, s
 use Rattle.std.proofs.lemmas.Result.{on_ok_weaker}
 use Rattle.std.specs.List.{AllByRecursion}
 use Rattle.blockdisk.specs.Disk.{Contents, DiskState, MayLeave, Keeps, Modifies, SameDisk, LeavesOnly}
-use Rattle.blockdisk.specs.Laws.{leaves_weaker, modifies_start, keeps_still, still_modifies}
+use Rattle.blockdisk.specs.Laws.{leaves_weaker, modifies_start, keeps_still, still_modifies, same_disk_start}
+use Rattle.blockdisk.specs.Laws.{same_disk_on}
 use Rattle.changeset.specs.Crashes.{IsGateOrLog}
 use Rattle.changeset.specs.Puts.{IsPutIn}
 use Rattle.changeset.specs.Rest.{Ignores, AtRest, SettlesTo, quiet_rest, quiet_leaves, quiet_stands, transaction_leaves}
@@ -153,6 +154,8 @@ module _ {s mid : DiskState} {c : VolumeCore} {Quiet : ℕ → Type 0} {alive : 
     writers = λ m served k q is n there. quiet_stays (written m) n (written_kept s.size c sound.whole k q is n there);
     homes = λ m. homes_modified Quiet s mid quiet_past (only_now (same.was_honest m)) (written m);
     home_blocks = λ m served. homes_stay Quiet s mid quiet_past (written m);
+    device = λ failed. refl;
+    same = same;
   }
 
   -- The puts are committed.
@@ -161,8 +164,8 @@ module _ {s mid : DiskState} {c : VolumeCore} {Quiet : ℕ → Type 0} {alive : 
       (edit : IsEdit s.size layout c c' Quiet Ready puts become) (committed : IsCommitted mid s' puts was failed result)
       (written : mid.honest → Modifies Quiet s mid) (ready : mid.honest → Ready mid.contents)
       (layout_is : s.honest → (pack_of s).layout ≡ layout) where
-    size : s'.size ≡ s.size
-    size = committed.same.size ∙ same.size
+    both : SameDisk s s'
+    both = same_disk_on s mid s' same committed.same
 
     past : (n : ℕ) → n ≤ 2 → IsWrittenBy mid.size puts n → ⊥
     past = past_homes mid.size puts edit.low
@@ -224,7 +227,7 @@ module _ {s mid : DiskState} {c : VolumeCore} {Quiet : ℕ → Type 0} {alive : 
 
     pub edited : IsEdited s s' c c' become failed result
     edited = record {
-      sound = sound_for s s' c' failed size edit.whole (λ h' good. bodies h' (served good))
+      sound = sound_for s s' c' failed both.size edit.whole (λ h' good. bodies h' (served good))
           (λ h' good. edit.dated (pack_of s).layout (sound.dated (h h') ok))
           (λ h' good. (
             (led h').0,
@@ -232,8 +235,8 @@ module _ {s mid : DiskState} {c : VolumeCore} {Quiet : ℕ → Type 0} {alive : 
             (led h').3 ∙ pack_held s c.known (now h').map (now h').rest,
           ));
       crash = crash;
-      done = λ h' f rests. on_ok_weaker result (rest_for s s' c'.known (led h').0 (become f) size (names h' f rests))
-          (rest h');
+      done = λ h' f rests. on_ok_weaker result (rest_for s s' c'.known (led h').0 (become f) both.size
+          (names h' f rests)) (rest h');
       readers = λ h' good k v is some n there. stays h' good n (read_kept s.size c sound.whole k v is some n there);
       writers = λ h' good k q is n there. stays h' good n (written_kept s.size c sound.whole k q is n there);
       homes = λ h'. homes_written Quiet (IsWrittenBy mid.size puts) s mid s' quiet_past past (only_now (h h'))
@@ -242,6 +245,8 @@ module _ {s mid : DiskState} {c : VolumeCore} {Quiet : ℕ → Type 0} {alive : 
           homes_stay (IsWrittenBy mid.size puts) mid s' past
           (unless_device result _ committed.only good (committed.modified h')) n low
           ∙ homes_stay Quiet s mid quiet_past (written (m h')) n low;
+      device = committed.device;
+      same = both;
     }
 
 -- with nothing written beforehand
@@ -251,17 +256,16 @@ pub edited_alone : {s s' : DiskState} {c c' : VolumeCore} {layout : ℕ} {puts :
     → (s.honest → (d : Contents) → s.left_since s.clock d → MayLeave s d) → IsCommitted s s' puts was failed result
     → (s.honest → (pack_of s).layout ≡ layout) → IsEdited s s' c c' become failed result
 edited_alone {s} edit sound ok only_now committed layout_is =
-    edited sound ok only_now (record { size = refl; was_honest = λ h. h }) edit.quiet edit committed
+    edited sound ok only_now (same_disk_start s) edit.quiet edit committed
     (λ h. modifies_start Nowhere s) (λ h. tt) layout_is
 
 -- A volume that was sound is sound.
 pub edited_volume : {s s' : DiskState} {c c' : VolumeCore} {become : Files File → Files File} {alive failed : Bool}
     {result : Result (Unit {0}) CallError} {layout : Layout} → IsSoundVolume s c alive layout → alive ≡ false
-    → IsEdited s s' c c' become failed result → SameDisk s s' → (IsErrOf result Device → failed ≡ true)
-    → IsSoundVolume s' c' failed layout
-edited_volume {s} {s'} {c} {c'} {become} {alive} {failed} {result} {layout} was ok edited same device =
-    volume_goes_on s s' c c' alive failed layout was edited.sound same.size same.was_honest (λ good. ok)
-    (λ h good. edited.home_blocks h (λ is. not_both failed (device is) good))
+    → IsEdited s s' c c' become failed result → IsSoundVolume s' c' failed layout
+edited_volume {s} {s'} {c} {c'} {become} {alive} {failed} {result} {layout} was ok edited =
+    volume_goes_on s s' c c' alive failed layout was edited.sound edited.same.size edited.same.was_honest (λ good. ok)
+    (λ h good. edited.home_blocks h (λ is. not_both failed (edited.device is) good))
 
 -- A block that isn't written stays, and where the device failed a closed one does.
 pub not_written_stays : {s s' : DiskState} {puts : List Put} {was failed : Bool}

@@ -51,3 +51,5 @@ pub record IsEdited (s s' : DiskState) (c c' : VolumeCore) (become : Files File 
   pub writers : s'.honest → (IsErrOf result Device → ⊥) → KeepsEachWritten s.contents s'.contents c
   pub homes : s'.honest → LeavesOnly s s' (HasHomesFrom s)
   pub home_blocks : s'.honest → (IsErrOf result Device → ⊥) → KeepsHomes s.contents s'.contents
+  pub device : IsErrOf result Device → failed ≡ true
+  pub same : SameDisk s s'

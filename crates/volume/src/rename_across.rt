@@ -238,7 +238,6 @@ fn move_across<D: Disk>(
     ensures still { OnOk result (failed.new ≡ false) }
     ensures counted { IsErrOf result Device → (D.state disk.new).failures ≡ one_more (D.state disk.old).failures }
     ensures served { (IsErrOf result Device → ⊥) → (D.state disk.new).failures ≡ (D.state disk.old).failures }
-    ensures same { SameDisk (D.state disk.old) (D.state disk.new) }
 {
     let _booked = core.table.booked(); // any table is one as it should be
     let at = prime_of(&core.versions, key);

@@ -27,8 +27,7 @@ edited g c = edited_alone (unmade_edit c.self.invariant.core.whole c.remove_dire
     c.commit_edit.ensures (λ h. refl)
 
 pub invariant_of-self : goal.invariant_of-self
-invariant_of-self g c = edited_volume c.self.invariant c.if-self.false (edited g c) c.commit_edit.ensures.same
-    c.commit_edit.ensures.device
+invariant_of-self g c = edited_volume c.self.invariant c.if-self.false (edited g c)
 
 pub returns-clause-crash : goal.returns-clause-crash
 returns-clause-crash g c = rw (← c.self.view_is) (edited g c).crash
