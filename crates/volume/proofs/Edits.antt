@@ -4,7 +4,7 @@ use Rattle.std.proofs.Common.{◌≡◌, ◌⊎◌, inl, ⊎_elim, ℕ, ◌≤�
 use Rattle.std.proofs.Common.{OnErr, IfErr, IsErrOf, refl, sym, ap, ◌∙◌, subst, arith}
 use Rattle.std.proofs.lemmas.Result.{on_ok_weaker}
 use Rattle.std.specs.List.{AllByRecursion}
-use Rattle.blockdisk.specs.Disk.{Contents, DiskState, MayLeave, Keeps, Modifies, SameDisk, LeavesOnly}
+use Rattle.blockdisk.specs.Disk.{Contents, DiskState, MayLeave, Keeps, Near, Modifies, SameDisk, LeavesOnly}
 use Rattle.blockdisk.specs.Laws.{leaves_weaker, modifies_start, keeps_still, still_modifies, same_disk_start}
 use Rattle.blockdisk.specs.Laws.{same_disk_on}
 use Rattle.changeset.specs.Crashes.{IsGateOrLog}
@@ -31,7 +31,6 @@ use Rattle.volume.proofs.KeptBlocks.{IsKept, read_kept, written_kept}
 use Rattle.volume.proofs.LiveBodies.{HaveBodies, body_stays}
 use Rattle.volume.proofs.MakingDirectories.{err_of, files_are, crash_for, rest_for, sound_for, sound_failed, whole_fixed}
 use Rattle.volume.proofs.MakingHeld.{ignores_log}
-use Rattle.volume.proofs.MakingTransactions.{on_ok_three, near_closed}
 use Rattle.volume.proofs.Packs.{pack_held}
 use Rattle.volume.proofs.PuttingDisk.{ignores_clear}
 use Rattle.volume.proofs.SoundVolumes.{not_both, volume_goes_on}
@@ -90,6 +89,12 @@ pub no_refusal : {T : Type 0} (result : Result T CallError) (X : Type 0) → IfE
     → (IsErrOf result Device → ⊥) → OnErr result X
 no_refusal (Ok x) X only served = tt
 no_refusal (Err e) X only served = absurd (served (err_of e Device only))
+
+-- what follows of three facts that hold where a call answers Ok
+on_ok_three : {T E : Type 0} {A B C X : Type 0} (result : Result T E) → (A → B → C → X) → OnOk result A
+    → OnOk result B → OnOk result C → OnOk result X
+on_ok_three (Ok x) gives a b c = gives a b c
+on_ok_three (Err e) gives a b c = tt
 
 -- what holds anyway holds at Ok
 pub ok_anyway : {T E : Type 0} (result : Result T E) (P : Type 0) → P → OnOk result P
@@ -266,6 +271,13 @@ pub edited_volume : {s s' : DiskState} {c c' : VolumeCore} {become : Files File 
 edited_volume {s} {s'} {c} {c'} {become} {alive} {failed} {result} {layout} was ok edited =
     volume_goes_on s s' c c' alive failed layout was edited.sound edited.same.size edited.same.was_honest (λ good. ok)
     (λ h good. edited.home_blocks h (λ is. not_both failed (edited.device is) good))
+
+-- a closed block that wasn't written is as it was
+near_closed : (In : ℕ → Type 0) (s s' : DiskState) → LeavesOnly s s' (Near In s) → (n : ℕ) → (In n → ⊥)
+    → s.is_open n ≡ false → s'.contents n ≡ s.contents n
+near_closed In s s' leaves n out closed =
+    let near = leaves.now s'.contents (λ m is. refl) in
+    near.2 n out ∙ near.1 n closed
 
 -- A block that isn't written stays, and where the device failed a closed one does.
 pub not_written_stays : {s s' : DiskState} {puts : List Put} {was failed : Bool}

@@ -73,25 +73,9 @@ module _ (size : ℕ) (c : VolumeCore) (whole : IsWholeCore size c) where
       let all = whole.held n in
       omega arith)
 
-  pub used_read : (old new : Contents) → ((n : ℕ) → IsUsed size c n → new n ≡ old n) → KeepsRead old new c
-  used_read old new same key v is some n there = same n (read_used key v is some n there)
-
-  pub used_written : (old new : Contents) → ((n : ℕ) → IsUsed size c n → new n ≡ old n) → KeepsEachWritten old new c
-  used_written old new same key p is n there = same n (written_used key p is n there)
-
 pub body_stays : (old new : Contents) (v : VersionState) → HasSomeBody old v
     → ((n : ℕ) → 0 < times n v.blocks → new n ≡ old n) → HasSomeBody new v
 body_stays old new v has same = (has.0, has.1, body_kept old new v.blocks has.0 has.2 same)
-
--- Where blocks in use stay, the words do.
-pub bodies_stay : (s : DiskState) (c : VolumeCore) (failed : Bool) (contents : Contents) → IsSoundCore s c failed
-    → s.honest → failed ≡ false → ((n : ℕ) → IsUsed s.size c n → contents n ≡ s.contents n) → HaveBodies contents c
-bodies_stay s c failed contents sound h ok same = record {
-  read = λ key v is some. body_stays s.contents contents v.version (sound.read h ok key v is some)
-      (λ n there. same n (read_used s.size c sound.whole key v is some n there));
-  written = λ key p is. body_stays s.contents contents p.version (sound.written h ok key p is)
-      (λ n there. same n (written_used s.size c sound.whole key p is n there));
-}
 
 -- the same moments in another core
 pub dated_of : (layout : ℕ) (c c' : VolumeCore) → c'.pending ≡ c.pending → AreDated layout c → AreDated layout c'

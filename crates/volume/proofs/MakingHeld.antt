@@ -1,4 +1,4 @@
--- What is held stays so over writes that no map sees: of gate and log, and of a free block.
+-- What is held stays so over writes that no map sees, as those of gate and log.
 use Rattle.std.proofs.Common.{◌≡◌, ℕ, zero, suc, ◌+◌, ◌<◌, ◌≤◌, inl, inr, ⊎_elim, List, [], ◌∷◌, length, Some}
 use Rattle.std.proofs.Common.{slice_get, refl, sym, ◌∙◌, ap, subst, arith}
 use Rattle.std.proofs.lemmas.Bool.{cases_eq, cases_lt}
@@ -76,22 +76,3 @@ ignores_log size k m aligned c d same h =
   where
     high : (n : ℕ) → table_start size ≤ n → d n ≡ c n
     high n from = same n (λ is. let below = is.1 in omega arith)
-
--- A free block is not looked at.
-pub ignores_free : (size : ℕ) (k : Known) (m : DiskMap) (fresh : ℕ) → IsAligned k → space_start size ≤ fresh
-    → bit k.table fresh ≡ 0 → Ignores (λ n. n ≡ fresh) (IsHeld size k m)
-ignores_free size k m fresh aligned from clear c d same h =
-    held_kept size k m c d aligned h (quiet size c d free m h.stands)
-    (λ n there. same n (λ is. unreached (subst (λ (j : ℕ). 0 < reaches j m) is there))) (quiet_bits size c d free)
-  where
-    is_clear : table_bit size c fresh ≡ 0
-    is_clear = h.bits fresh ∙ clear
-
-    free : DifferInFree size c c d
-    free n = ⊎_elim (λ is. inr (record {
-      in_space = subst (λ (j : ℕ). space_start size ≤ j) (sym is) from;
-      clear = ap (table_bit size c) is ∙ is_clear;
-    })) (λ other. inl (same n other)) (cases_eq n fresh)
-
-    unreached : 0 < reaches fresh m → ⊥
-    unreached there = let e = h.stands.marked.bits fresh in omega (arith, is_clear)

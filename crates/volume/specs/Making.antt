@@ -21,15 +21,6 @@ use Rattle.directory.specs.Edits.{PutsChain}
 use Rattle.volume.specs.declared.make.FreshBlocks.{FreshBlocks}
 use Rattle.volume.specs.Known.{KnownDirectory, Known, IsHeld}
 
--- Any transaction of quiet writes and one commit.
-
--- The puts lead from what one map has to what another has, once the fresh block has its words and all
--- else is as before.
-abbrev pub LeadsTo : ℕ → Contents → ℕ → List ℕ → List Put → Known → DiskMap → Known → DiskMap → Type 0
-LeadsTo size before fresh words puts k m k' m' =
-    (c : Contents) → SameOutside (λ n. n ≡ fresh) before c → IsHeld size k m c → c fresh ≡ Some words
-    → IsHeld size k' m' (with_puts puts c)
-
 -- as many directories as entries of the master directory
 abbrev pub IsAligned : Known → Type 0
 IsAligned k = length k.directories ≡ length k.master.entries
