@@ -111,7 +111,6 @@ pub mod RunsRead
 pub mod PrimesRead
 pub mod HomesKept
 pub mod Edits
-pub mod PublishingHomes
 pub mod Migrations
 pub mod SetQuotaEntries
 pub mod SetQuotaCore

@@ -8,7 +8,7 @@ use Rattle.meaning.specs.Costs.{blocks_of}
 use Rattle.meaning.specs.Faults.{InSpace}
 use Rattle.meaning.specs.Log.{IsTarget, targets}
 use Rattle.meaning.specs.Maps.{total, times}
-use Rattle.meaning.specs.Regions.{space_start}
+use Rattle.meaning.specs.Regions.{space_start, log_images}
 use Rattle.meaning.proofs.MapLaws.{some_same, some_none}
 use Rattle.meaning.proofs.MapSums.{times-append}
 use Rattle.meaning.proofs.QuietLaws.{each_times}
@@ -30,7 +30,7 @@ use Rattle.volume.proofs.MakingLaw.{bit_few}
 use Rattle.volume.proofs.Marking.{all_weaker}
 use Rattle.volume.proofs.Pinning.{total_at}
 use Rattle.volume.proofs.HomesKept.{published_low}
-use Rattle.volume.proofs.PublishingPuts.{published_times, published_in_range, published_elsewhere}
+use Rattle.volume.proofs.PublishingPuts.{published_times, published_in_range, published_few, published_elsewhere}
 use Rattle.volume.proofs.PuttingCore.{waits}
 
 -- The version that was put into core, under its new key, is the one that was written.
@@ -129,13 +129,13 @@ module _ {size : ℕ} {c c' : VolumeCore} {key : ℕ} {p : PendingVersion} {v : 
   puts_in_range = published_in_range size c.known c'.known p.prime.ppn p.prime.file v.at _
       (before is.old) puts whole.map is.published
 
+  pub puts_few : length puts ≤ log_images size
+  puts_few = published_few size c.known c'.known p.prime.ppn p.prime.file v.at _
+      (before is.old) puts whole.map is.published
+
   pub puts_low : (n : ℕ) → n ≤ 2 → IsPutIn puts n → ⊥
   puts_low = published_low size c.known c'.known p.prime.ppn p.prime.file v.at _
       (before is.old) puts whole.map is.published
-
-  -- a block of a version in use isn't
-  pub kept_retrieved : (n : ℕ) → IsKept size c n → 0 < times n (v.at ∷ v.version.ribs) → ⊥
-  kept_retrieved n kept there = kept.used (retrieval_free n there)
 
   grown_free : (n : ℕ) → 0 < times n is.published.grown → IsFree c.known.table n
   grown_free n there = record {
@@ -156,8 +156,7 @@ module _ {size : ℕ} {c c' : VolumeCore} {key : ℕ} {p : PendingVersion} {v : 
           omega arith
       by (suc k) some = absurd (kept.used (grown_free n (omega arith)))
 
-  pub kept_put : (n : ℕ) → IsKept size c n → IsGateOrLog size n ⊎ IsPutIn puts n → ⊥
-  kept_put n kept = ⊎_elim
-      (λ log. let from = kept.from in let below = log.1 in omega arith)
-      (published_elsewhere size c.known c'.known p.prime.ppn p.prime.file v.at _
-      (before is.old) puts whole.map is.published n kept.from (kept_chain n kept))
+  -- a block of a version in use isn't put
+  pub kept_put : (n : ℕ) → IsKept size c n → IsPutIn puts n → ⊥
+  kept_put n kept = published_elsewhere size c.known c'.known p.prime.ppn p.prime.file v.at _
+      (before is.old) puts whole.map is.published n kept.from (kept_chain n kept)
