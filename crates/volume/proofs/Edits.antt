@@ -1,6 +1,6 @@
 -- One change of a volume, whichever call makes it: blocks that nothing looks at are written, and then its puts are
 -- committed. All that its call says of the disk follows from what the change is, over values.
-use Rattle.std.proofs.Common.{◌≡◌, ◌⊎◌, inl, ⊎_elim, ℕ, ◌≤◌, Bool, true, false, List, length, Result, Ok, Err, OnOk}
+use Rattle.std.proofs.Common.{◌≡◌, inl, ⊎_elim, ℕ, ◌≤◌, Bool, true, false, List, length, Result, Ok, Err, OnOk}
 use Rattle.std.proofs.Common.{OnErr, IfErr, IsErrOf, refl, sym, ap, ◌∙◌, subst, arith}
 use Rattle.std.proofs.lemmas.Result.{on_ok_weaker}
 use Rattle.std.specs.List.{AllByRecursion}
@@ -20,7 +20,6 @@ use Rattle.meaning.specs.Regions.{log_images}
 use Rattle.meaning.specs.Stands.{DiskMap, files_of}
 use Rattle.alloctab.specs.TableState.{IsFree}
 use Rattle.volume.specs.Edits.{IsWrittenBy, IsCommitted, IsEdited}
-use Rattle.volume.specs.HomeBlocks.{HasHomesFrom}
 use Rattle.volume.specs.Known.{IsHeld}
 use Rattle.volume.specs.Live.{VolumeCore, IsWholeCore}
 use Rattle.volume.specs.Rest.{AreDated, IsAtRest, IsSoundCore, IsSoundVolume, RestsAt, StandsForOneOf}

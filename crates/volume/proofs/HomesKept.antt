@@ -1,9 +1,9 @@
 -- Blocks 0 to 2 stay: no call writes them, and none puts them.
-use Rattle.std.proofs.Common.{◌≡◌, ◌⊎◌, ⊎_elim, inl, ℕ, ◌≤◌, List, refl, sym, ◌∙◌, subst, arith}
+use Rattle.std.proofs.Common.{◌≡◌, ◌⊎◌, ⊎_elim, inl, ℕ, ◌≤◌, List, refl, ◌∙◌, arith}
 use Rattle.std.specs.List.{AllByRecursion}
 use Rattle.words36.specs.declared.names.FileName.{FileName}
-use Rattle.blockdisk.specs.Disk.{Contents, DiskState, MayLeave, Keeps, Near, Modifies, LeavesOnly}
-use Rattle.blockdisk.specs.Laws.{keeps_still, leaves_start, leaves_still, leaves_on, leaves_weaker, modifies_near}
+use Rattle.blockdisk.specs.Disk.{Contents, DiskState, MayLeave, Near, Modifies, LeavesOnly}
+use Rattle.blockdisk.specs.Laws.{leaves_start, leaves_on, leaves_weaker, modifies_near}
 use Rattle.changeset.specs.Crashes.{IsGateOrLog}
 use Rattle.changeset.specs.Puts.{IsPutIn}
 use Rattle.changeset.specs.PutLaws.{some_or_none}

@@ -25,10 +25,9 @@ use Rattle.meaning.proofs.MapLists.{find-append_both}
 use Rattle.meaning.proofs.MapSums.{times-append}
 use Rattle.meaning.proofs.DiskMaps.{stands_same, fixed_below}
 use Rattle.meaning.proofs.Layouts.{settled_in_any}
-use Rattle.meaning.proofs.ChangedFiles.{files_made as files_of_made}
 use Rattle.changeset.specs.Crashes.{IsGateOrLog}
 use Rattle.changeset.specs.Puts.{IsPutIn}
-use Rattle.changeset.specs.PutLaws.{times_head, times_tail, with_puts_here, with_puts_later}
+use Rattle.changeset.specs.PutLaws.{times_tail, with_puts_here, with_puts_later}
 use Rattle.changeset.specs.Rest.{AtRest, SettlesTo}
 use Rattle.alloctab.specs.TableState.{bit, holds, space, IsFree}
 use Rattle.retrieval.specs.Writing.{IsFixed}
@@ -38,15 +37,15 @@ use Rattle.volume.specs.Live.{VolumeCore, slot, pending_at, IsKeyed, AreStanding
 use Rattle.volume.specs.Live.{current_reaches, entry_reaches, pending_reaches, pending_cost, creates, growths}
 use Rattle.volume.specs.Live.{AreWaiting, IsWholeCore}
 use Rattle.volume.specs.declared.pending.PendingVersion.{PendingVersion}
-use Rattle.volume.specs.Making.{IsAligned, bare_known, entry_made, map_made, files_made, IsMade}
-use Rattle.volume.specs.Rest.{AreDated, IsAtRest, IsSoundCore, RestsAt, StandsForOneOf}
+use Rattle.volume.specs.Making.{IsAligned, bare_known, entry_made, IsMade}
+use Rattle.volume.specs.Rest.{AreDated, IsSoundCore, RestsAt, StandsForOneOf}
 use Rattle.volume.proofs.Apart.{apart_same}
 use Rattle.volume.proofs.Packs.{pack_held, rests_in}
 use Rattle.volume.proofs.Pinning.{total_at}
 use Rattle.volume.proofs.PrimeBlocks.{prime_stays}
 use Rattle.volume.proofs.Lookups.{all_push, total-push, zip_behind}
 use Rattle.volume.proofs.LiveBodies.{HaveBodies}
-use Rattle.volume.proofs.MakingLaw.{making_leads, bare_chain, bit_few}
+use Rattle.volume.proofs.MakingLaw.{bare_chain, bit_few}
 
 -- Of any event.
 

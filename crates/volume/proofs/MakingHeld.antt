@@ -1,7 +1,7 @@
 -- What is held stays so over writes that no map sees, as those of gate and log.
-use Rattle.std.proofs.Common.{◌≡◌, ℕ, zero, suc, ◌+◌, ◌<◌, ◌≤◌, inl, inr, ⊎_elim, List, [], ◌∷◌, length, Some}
-use Rattle.std.proofs.Common.{slice_get, refl, sym, ◌∙◌, ap, subst, arith}
-use Rattle.std.proofs.lemmas.Bool.{cases_eq, cases_lt}
+use Rattle.std.proofs.Common.{◌≡◌, ℕ, zero, suc, ◌+◌, ◌<◌, ◌≤◌, ⊎_elim, List, [], ◌∷◌, length, Some}
+use Rattle.std.proofs.Common.{slice_get, refl, ◌∙◌, ap, arith}
+use Rattle.std.proofs.lemmas.Bool.{cases_lt}
 use Rattle.std.proofs.lemmas.Option.{slice_get_within}
 use Rattle.std.specs.Cmp.{nat_cmp_total}
 use Rattle.std.specs.FinMap.{nat_cmp-IsAntisymmetric}
@@ -12,12 +12,10 @@ use Rattle.meaning.specs.Maps.{times}
 use Rattle.meaning.specs.Regions.{table_start, space_start}
 use Rattle.meaning.specs.Directories.{master_words, file_words}
 use Rattle.meaning.specs.Stands.{DiskMap, HasMap, reaches_in_directory, reaches}
-use Rattle.meaning.specs.Quiet.{DifferInFree}
 use Rattle.meaning.specs.Table.{table_bit}
 use Rattle.meaning.specs.Faults.{InSpace}
 use Rattle.meaning.proofs.MapSums.{at-le-sum}
-use Rattle.meaning.proofs.DiskMaps.{none_below, quiet, quiet_bits, log_ignored, bits_kept_off}
-use Rattle.alloctab.specs.TableState.{bit}
+use Rattle.meaning.proofs.DiskMaps.{none_below, log_ignored, bits_kept_off}
 use Rattle.directory.specs.ChainLaws.{on_kept}
 use Rattle.volume.specs.Known.{KnownDirectory, Known, IsKnownMap, IsHeld}
 use Rattle.volume.specs.Making.{IsAligned}

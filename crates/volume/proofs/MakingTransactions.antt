@@ -1,5 +1,5 @@
 -- A directory is made: this is one change of the volume, with the block of the directory written beforehand.
-use Rattle.std.proofs.Common.{◌≡◌, ◌⊎◌, inl, inr, ⊎_elim, ℕ, ◌<◌, Bool, true, false, List, [], ◌∷◌, ◌++◌, replicate, Some, Result, Err}
+use Rattle.std.proofs.Common.{◌≡◌, ◌⊎◌, inl, inr, ℕ, ◌<◌, Bool, true, false, List, [], ◌∷◌, ◌++◌, replicate, Some, Result, Err}
 use Rattle.std.proofs.Common.{IsErrOf, refl, sym, subst, ◌∙◌, arith}
 use Rattle.blockdisk.specs.Disk.{Contents, DiskState, MayLeave, SameDisk, Writes}
 use Rattle.blockdisk.specs.Laws.{writes_modifies}

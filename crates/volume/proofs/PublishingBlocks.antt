@@ -1,5 +1,5 @@
 -- A version becomes the file of its name: which blocks are written for it, and that those of versions in use stay.
-use Rattle.std.proofs.Common.{◌≡◌, ℕ, zero, suc, ◌+◌, ◌<◌, ◌≤◌, ◌⊎◌, ⊎_elim, Bool, true, false, if◌then◌else◌, List, []}
+use Rattle.std.proofs.Common.{◌≡◌, ℕ, zero, suc, ◌+◌, ◌<◌, ◌≤◌, false, List, []}
 use Rattle.std.proofs.Common.{◌∷◌, ◌++◌, length, Some, slice_get, refl, sym, ap, subst, ◌∙◌, arith}
 use Rattle.std.specs.List.{AllByRecursion}
 use Rattle.blockdisk.specs.Disk.{DiskState}
@@ -8,27 +8,24 @@ use Rattle.meaning.specs.Costs.{blocks_of}
 use Rattle.meaning.specs.Faults.{InSpace}
 use Rattle.meaning.specs.Log.{IsTarget, targets}
 use Rattle.meaning.specs.Maps.{total, times}
-use Rattle.meaning.specs.Regions.{space_start, log_images}
+use Rattle.meaning.specs.Regions.{log_images}
 use Rattle.meaning.proofs.MapLaws.{some_same, some_none}
 use Rattle.meaning.proofs.MapSums.{times-append}
 use Rattle.meaning.proofs.QuietLaws.{each_times}
 use Rattle.meaning.proofs.Walking.{all_front, all_back}
-use Rattle.alloctab.specs.TableState.{bit, holds, IsFree}
-use Rattle.changeset.specs.Crashes.{IsGateOrLog}
+use Rattle.alloctab.specs.TableState.{bit, IsFree}
 use Rattle.changeset.specs.Puts.{IsPutIn}
 use Rattle.changeset.specs.PutLaws.{times_head}
 use Rattle.retrieval.specs.Writing.{AreApart}
-use Rattle.volume.specs.Known.{KnownDirectory, blocks_reached}
-use Rattle.volume.specs.Live.{VolumeCore, slot, pending_at, held_reaches, current_reaches, pending_reaches}
-use Rattle.volume.specs.Live.{entry_reaches, IsWholePending, IsWholeCore}
+use Rattle.volume.specs.Known.{KnownDirectory}
+use Rattle.volume.specs.Live.{VolumeCore, slot}
+use Rattle.volume.specs.Live.{IsWholePending, IsWholeCore}
 use Rattle.volume.specs.Publishing.{before, MakesCurrent}
 use Rattle.volume.specs.Rest.{IsSoundCore}
 use Rattle.volume.specs.declared.live.LiveVersion.{LiveVersion}
 use Rattle.volume.specs.declared.pending.PendingVersion.{PendingVersion}
 use Rattle.volume.proofs.KeptBlocks.{IsKept}
-use Rattle.volume.proofs.MakingLaw.{bit_few}
 use Rattle.volume.proofs.Marking.{all_weaker}
-use Rattle.volume.proofs.Pinning.{total_at}
 use Rattle.volume.proofs.HomesKept.{published_low}
 use Rattle.volume.proofs.PublishingPuts.{published_times, published_in_range, published_few, published_elsewhere}
 use Rattle.volume.proofs.PuttingCore.{waits}

@@ -24,7 +24,7 @@ use Rattle.volume.specs.declared.error.CallError.TheVariants.{Device}
 use Rattle.volume.specs.declared.live.LiveVersion.{LiveVersion}
 use Rattle.volume.specs.declared.pending.PendingVersion.{PendingVersion}
 use Rattle.volume.proofs.Edits.{IsEdit, interrupted, edited}
-use Rattle.volume.proofs.KeptBlocks.{IsKept, written_kept}
+use Rattle.volume.proofs.KeptBlocks.{written_kept}
 use Rattle.volume.proofs.PublishingBlocks.{IsMadeCurrent, retrieval_free, puts_in_range, puts_low, puts_few, kept_put}
 use Rattle.volume.proofs.PublishingCore.{made_current_whole}
 use Rattle.volume.proofs.PublishingLaw.{map_published, published_files, publishing_leads_in, stored, stored_at}

@@ -1,5 +1,5 @@
 -- A file gets another name or protection: this is one change of the volume, once its prime block is read.
-use Rattle.std.proofs.Common.{◌≡◌, ℕ, ◌+◌, ◌<◌, ◌≤◌, ⊎_elim, true, false, List, ◌++◌, Some, refl, subst, arith}
+use Rattle.std.proofs.Common.{◌≡◌, ℕ, ◌<◌, ⊎_elim, true, false, List, ◌++◌, Some, refl, subst, arith}
 use Rattle.std.proofs.lemmas.Bool.{cases_lt}
 use Rattle.words36.specs.declared.names.FileName.{FileName}
 use Rattle.blockdisk.specs.Disk.{Contents}

@@ -1,5 +1,5 @@
 -- A version is the same but for what its prime block says, and the others stay.
-use Rattle.std.proofs.Common.{◌≡◌, ℕ, ⊎_elim, true, false, Option, Some, None, refl, sym, ap, subst}
+use Rattle.std.proofs.Common.{◌≡◌, ℕ, ⊎_elim, true, Option, Some, None, refl, sym, ap, subst}
 use Rattle.std.proofs.Common.{◌∙◌, arith}
 use Rattle.std.proofs.lemmas.Bool.{cases_eq}
 use Rattle.words36.specs.declared.names.FileName.{FileName}

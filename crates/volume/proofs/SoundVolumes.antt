@@ -1,5 +1,5 @@
 -- A volume stays sound if its core does: its layout is that of the home copies, which stay.
-use Rattle.std.proofs.Common.{◌≡◌, Bool, true, false, Result, Ok, Err, IsErrOf, IfErr, refl, sym, ◌∙◌}
+use Rattle.std.proofs.Common.{◌≡◌, Bool, true, false, Result, IsErrOf, sym, ◌∙◌}
 use Rattle.blockdisk.specs.Disk.{DiskState}
 use Rattle.meaning.specs.declared.layout.Layout.{Layout}
 use Rattle.volume.specs.HomeBlocks.{KeepsHomes}

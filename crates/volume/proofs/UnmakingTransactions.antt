@@ -1,5 +1,5 @@
 -- A directory is deleted: this is one change of the volume.
-use Rattle.std.proofs.Common.{◌≡◌, inr, ℕ, List, refl, subst, arith}
+use Rattle.std.proofs.Common.{inr, ℕ, List, refl, subst, arith}
 use Rattle.meaning.specs.declared.put.Put.{Put}
 use Rattle.meaning.specs.Changes.{without_directory}
 use Rattle.meaning.proofs.ChangedFiles.{files_without}

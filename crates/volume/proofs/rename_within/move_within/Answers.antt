@@ -1,7 +1,7 @@
 use Rattle.std.proofs.Common.{ℕ, ◌<◌, refl, sym, ap, subst, ◌∙◌}
 use Rattle.volume.specs.LiveCores.{core_of}
 use Rattle.volume.specs.declared.error.CallError.TheVariants.{Failed}
-use Rattle.volume.proofs.Edits.{edit_in_range, edit_few, read_nothing, ok_anyway, only_device, interrupted, edited}
+use Rattle.volume.proofs.Edits.{edit_in_range, edit_few, read_nothing, ok_anyway, interrupted, edited}
 use Rattle.volume.proofs.MakingDirectories.{err_on}
 use Rattle.volume.proofs.PrimesRead.{prime_holds}
 use Rattle.volume.proofs.RenamingTransactions.{first_below, within_sized, within_edit}
