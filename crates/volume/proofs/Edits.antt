@@ -1,7 +1,7 @@
 -- One change of a volume, whichever call makes it: blocks that nothing looks at are written, and then its puts are
 -- committed. All that its call says of the disk follows from what the change is, over values.
 use Rattle.std.proofs.Common.{◌≡◌, inl, ⊎_elim, ℕ, ◌≤◌, Bool, true, false, List, length, Result, Ok, Err, OnOk}
-use Rattle.std.proofs.Common.{OnErr, IfErr, IsErrOf, refl, sym, ap, ◌∙◌, subst, arith}
+use Rattle.std.proofs.Common.{IfErr, IsErrOf, refl, sym, ap, ◌∙◌, subst, arith}
 use Rattle.std.proofs.lemmas.Result.{on_ok_weaker}
 use Rattle.std.specs.List.{AllByRecursion}
 use Rattle.blockdisk.specs.Disk.{Contents, DiskState, MayLeave, Keeps, Near, Modifies, SameDisk, LeavesOnly}
@@ -79,15 +79,10 @@ read_nothing s mid keeps = still_modifies Nowhere s mid (keeps_still s mid keeps
 -- What a commit answered.
 
 -- it was made, unless the device failed
-pub unless_device : {T : Type 0} (result : Result T CallError) (X : Type 0) → IfErr result (λ e. e ≡ Device)
+unless_device : {T : Type 0} (result : Result T CallError) (X : Type 0) → IfErr result (λ e. e ≡ Device)
     → (IsErrOf result Device → ⊥) → OnOk result X → X
 unless_device (Ok x) X only served is = is
 unless_device (Err e) X only served is = absurd (served (err_of e Device only))
-
-pub no_refusal : {T : Type 0} (result : Result T CallError) (X : Type 0) → IfErr result (λ e. e ≡ Device)
-    → (IsErrOf result Device → ⊥) → OnErr result X
-no_refusal (Ok x) X only served = tt
-no_refusal (Err e) X only served = absurd (served (err_of e Device only))
 
 -- what follows of three facts that hold where a call answers Ok
 on_ok_three : {T E : Type 0} {A B C X : Type 0} (result : Result T E) → (A → B → C → X) → OnOk result A
