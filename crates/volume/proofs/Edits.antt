@@ -18,7 +18,7 @@ use Rattle.meaning.specs.Layouts.{pack_of}
 use Rattle.meaning.specs.Log.{IsTarget, targets, with_puts}
 use Rattle.meaning.specs.Regions.{log_images}
 use Rattle.meaning.specs.Stands.{DiskMap, files_of}
-use Rattle.alloctab.specs.TableState.{IsFree}
+use Rattle.alloctab.specs.TableState.{IsFree, bit}
 use Rattle.volume.specs.Edits.{IsWrittenBy, IsCommitted, IsEdited}
 use Rattle.volume.specs.Known.{IsHeld}
 use Rattle.volume.specs.Live.{VolumeCore, IsWholeCore}
@@ -31,7 +31,8 @@ use Rattle.volume.proofs.LiveBodies.{HaveBodies, body_stays}
 use Rattle.volume.proofs.MakingDirectories.{err_of, files_are, crash_for, rest_for, sound_for, sound_failed, whole_fixed}
 use Rattle.volume.proofs.MakingHeld.{ignores_log}
 use Rattle.volume.proofs.Packs.{pack_held}
-use Rattle.volume.proofs.PuttingDisk.{ignores_clear}
+use Rattle.volume.proofs.Publications.{quiet_leaves_either}
+use Rattle.volume.proofs.PuttingDisk.{ignores_clear, quiet_at_rest, quiet_finds}
 use Rattle.volume.proofs.SoundVolumes.{not_both, volume_goes_on}
 
 -- no block is written beforehand,
@@ -110,11 +111,9 @@ module _ {s mid : DiskState} {c : VolumeCore} {Quiet : ℕ → Type 0} {alive : 
   quiet_past : (n : ℕ) → n ≤ 2 → Quiet n → ⊥
   quiet_past n low is = clear_past s.size c.known sound.whole.map n low (free n is).clear
 
-  not_gate : Quiet 3 → ⊥
-  not_gate is =
-      let clear = (free 3 is).clear in
-      let set = whole_fixed s.size c.known sound.whole.map 3 (omega arith) in
-      omega arith
+  -- nor the gate
+  gate : bit c.known.table 3 ≡ 1
+  gate = whole_fixed s.size c.known sound.whole.map 3 (omega arith)
 
   -- nor a block of a version in use
   quiet_stays : Modifies Quiet s mid → (n : ℕ) → IsKept s.size c n → mid.contents n ≡ s.contents n
@@ -122,24 +121,14 @@ module _ {s mid : DiskState} {c : VolumeCore} {Quiet : ℕ → Type 0} {alive : 
 
   -- What is written beforehand, no crash sees.
   module _ (h : s.honest) (written : Modifies Quiet s mid) where
-    abbrev at_rest : IsAtRest s c.known
-    at_rest = sound.rest h ok
-
-    ignores : Ignores Quiet (IsHeld s.size c.known at_rest.map)
-    ignores = ignores_clear s.size c.known at_rest.map Quiet sound.whole.map.aligned (λ n is. (free n is).clear)
-
-    mid_rest : AtRest mid (IsHeld s.size c.known at_rest.map)
-    mid_rest = quiet_rest Quiet s mid (IsHeld s.size c.known at_rest.map) ignores not_gate same.size at_rest.rest
-        written
+    mid_rest : AtRest mid (IsHeld s.size c.known (sound.rest h ok).map)
+    mid_rest = quiet_at_rest s mid c.known Quiet (λ n is. (free n is).clear) sound.whole.map.aligned (sound.rest h ok)
+        same.size written gate
 
     written_crash : (f g : Files File) → RestsAt s f → LeavesOnly s mid (StandsForOneOf (pack_of s) f g)
-    written_crash f g rests =
-        let is = files_are s c.known at_rest.map f at_rest.rest rests in
-        leaves_weaker s mid (SettlesTo s.size (IsHeld s.size c.known at_rest.map)) (StandsForOneOf (pack_of s) f g)
-        (quiet_stands s mid (IsHeld s.size c.known at_rest.map)
-        (quiet_leaves Quiet s mid (IsHeld s.size c.known at_rest.map) ignores not_gate at_rest.rest (only_now h)
-        written))
-        (λ d held. inl (held.0, held.1, (at_rest.map, held.2.stands, is, pack_held s c.known at_rest.map at_rest.rest)))
+    written_crash f g rests = quiet_leaves_either s mid f g
+        (quiet_finds s mid c.known Quiet (λ n is. (free n is).clear) sound.whole.map.aligned (sound.rest h ok) same.size
+        written gate f rests (only_now h))
 
   -- The call breaks off there.
   pub interrupted : {c' : VolumeCore} {become : Files File → Files File} → IsWholeCore s.size c'
@@ -195,7 +184,8 @@ module _ {s mid : DiskState} {c : VolumeCore} {Quiet : ℕ → Type 0} {alive : 
       crash f rests = crash_for s s' c.known c'.known now.map led.0 f (become f) now.rest
           (files_are s c.known now.map f now.rest rests) (names f rests) led.3
           (transaction_leaves Quiet puts s mid s' (IsHeld s.size c.known now.map) (IsHeld s.size c'.known led.0)
-          (ignores h (written m)) not_gate (ignores_log s.size c.known now.map sound.whole.map.aligned) ignores_new
+          (ignores_clear s.size c.known now.map Quiet sound.whole.map.aligned (λ n is. (free n is).clear))
+          (λ is. let none = (free 3 is).clear in let set = gate in omega arith) (ignores_log s.size c.known now.map sound.whole.map.aligned) ignores_new
           same.size now.rest (only_now h) (written m) led.1 (committed.crash h' (mid_rest h (written m)).shut))
 
       -- and at Ok the latter
