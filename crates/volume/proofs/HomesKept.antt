@@ -1,9 +1,9 @@
 -- Blocks 0 to 2 stay: no call writes them, and none puts them.
-use Rattle.std.proofs.Common.{◌≡◌, ◌⊎◌, ⊎_elim, inl, ℕ, ◌≤◌, List, refl, sym, ◌∙◌, subst, arith}
+use Rattle.std.proofs.Common.{◌≡◌, ◌⊎◌, ⊎_elim, inl, ℕ, ◌≤◌, List, refl, ◌∙◌, arith}
 use Rattle.std.specs.List.{AllByRecursion}
 use Rattle.words36.specs.declared.names.FileName.{FileName}
-use Rattle.blockdisk.specs.Disk.{Contents, DiskState, MayLeave, Keeps, Near, Modifies, LeavesOnly}
-use Rattle.blockdisk.specs.Laws.{keeps_still, leaves_start, leaves_still, leaves_on, leaves_weaker, modifies_near}
+use Rattle.blockdisk.specs.Disk.{Contents, DiskState, MayLeave, Near, Modifies, LeavesOnly}
+use Rattle.blockdisk.specs.Laws.{leaves_start, leaves_on, leaves_weaker, modifies_near}
 use Rattle.changeset.specs.Crashes.{IsGateOrLog}
 use Rattle.changeset.specs.Puts.{IsPutIn}
 use Rattle.changeset.specs.PutLaws.{some_or_none}
@@ -30,11 +30,6 @@ pub homes_start : (s : DiskState) → ((c : Contents) → s.left_since s.clock c
     → LeavesOnly s s (HasHomesFrom s)
 homes_start s only_now = leaves_start s (HasHomesFrom s) only_now (λ c left. (c, left, λ n low. refl))
 
-pub homes_read : (s s' : DiskState) → ((c : Contents) → s.left_since s.clock c → MayLeave s c) → Keeps s s'
-    → LeavesOnly s s' (HasHomesFrom s)
-homes_read s s' only_now keeps = leaves_still s s' (HasHomesFrom s) only_now (keeps_still s s' keeps)
-    (λ c left. (c, left, λ n low. refl))
-
 pub homes_on : (s s' s'' : DiskState) → LeavesOnly s s' (HasHomesFrom s) → LeavesOnly s' s'' (HasHomesFrom s')
     → LeavesOnly s s'' (HasHomesFrom s)
 homes_on s s' s'' first second = leaves_on s s' s'' (HasHomesFrom s) (HasHomesFrom s') first second
@@ -51,13 +46,7 @@ pub homes_modified : (In : ℕ → Type 0) (s s' : DiskState) → ((n : ℕ) →
     → ((c : Contents) → s.left_since s.clock c → MayLeave s c) → Modifies In s s' → LeavesOnly s s' (HasHomesFrom s)
 homes_modified In s s' out only_now modified = homes_near In s s' out (modifies_near In s s' only_now modified)
 
--- a commit after a read, and one after other writes
-pub homes_committed : (In : ℕ → Type 0) (s mid s' : DiskState) → ((n : ℕ) → n ≤ 2 → In n → ⊥)
-    → ((c : Contents) → s.left_since s.clock c → MayLeave s c) → Keeps s mid → LeavesOnly mid s' (Near In mid)
-    → LeavesOnly s s' (HasHomesFrom s)
-homes_committed In s mid s' out only_now keeps near = homes_on s mid s' (homes_read s mid only_now keeps)
-    (homes_near In mid s' out near)
-
+-- a commit after other writes
 pub homes_written : (In Out : ℕ → Type 0) (s mid s' : DiskState) → ((n : ℕ) → n ≤ 2 → In n → ⊥)
     → ((n : ℕ) → n ≤ 2 → Out n → ⊥) → ((c : Contents) → s.left_since s.clock c → MayLeave s c) → Modifies In s mid
     → LeavesOnly mid s' (Near Out mid) → LeavesOnly s s' (HasHomesFrom s)
@@ -121,11 +110,3 @@ moved_low size k k' ppn name to old v words puts whole is inside n low =
     moved_elsewhere size k k' ppn name to old v words puts whole is n
     (λ same. let from = inside.from in omega arith)
     (out_of_chain size k k' ppn name to old v words puts whole is n (inl (omega arith)))
-
--- The block of a new directory is one of the free space.
-pub made_past : (size : ℕ) (k k' : Known) (ppn protection first : ℕ) (puts : List Put) (whole : IsWholeMap size k)
-    (made : IsMade size k k' ppn protection first puts) → (n : ℕ) → n ≤ 2
-    → (n ≡ first) ⊎ (IsGateOrLog size n ⊎ IsPutIn puts n) → ⊥
-made_past size k k' ppn protection first puts whole made n low = ⊎_elim
-    (λ same. space_past size n low (subst (InSpace size) (sym same) made.inside.0))
-    (past_homes size puts (made_low size k k' ppn protection first puts whole made) n low)

@@ -69,6 +69,7 @@ pub mod UsedVersions
 pub mod MakingCurrent
 pub mod BecomingCurrent
 pub mod Supplying
+pub mod KeptBlocks
 pub mod PublishingBlocks
 pub mod PublishingTransactions
 pub mod Publications
@@ -109,7 +110,7 @@ pub mod MovingTransactions
 pub mod RunsRead
 pub mod PrimesRead
 pub mod HomesKept
-pub mod PublishingHomes
+pub mod Edits
 pub mod Migrations
 pub mod SetQuotaEntries
 pub mod SetQuotaCore

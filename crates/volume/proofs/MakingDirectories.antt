@@ -25,10 +25,9 @@ use Rattle.meaning.proofs.MapLists.{find-append_both}
 use Rattle.meaning.proofs.MapSums.{times-append}
 use Rattle.meaning.proofs.DiskMaps.{stands_same, fixed_below}
 use Rattle.meaning.proofs.Layouts.{settled_in_any}
-use Rattle.meaning.proofs.ChangedFiles.{files_made as files_of_made}
 use Rattle.changeset.specs.Crashes.{IsGateOrLog}
 use Rattle.changeset.specs.Puts.{IsPutIn}
-use Rattle.changeset.specs.PutLaws.{times_head, times_tail, with_puts_here, with_puts_later}
+use Rattle.changeset.specs.PutLaws.{times_tail, with_puts_here, with_puts_later}
 use Rattle.changeset.specs.Rest.{AtRest, SettlesTo}
 use Rattle.alloctab.specs.TableState.{bit, holds, space, IsFree}
 use Rattle.retrieval.specs.Writing.{IsFixed}
@@ -38,15 +37,15 @@ use Rattle.volume.specs.Live.{VolumeCore, slot, pending_at, IsKeyed, AreStanding
 use Rattle.volume.specs.Live.{current_reaches, entry_reaches, pending_reaches, pending_cost, creates, growths}
 use Rattle.volume.specs.Live.{AreWaiting, IsWholeCore}
 use Rattle.volume.specs.declared.pending.PendingVersion.{PendingVersion}
-use Rattle.volume.specs.Making.{LeadsTo, IsAligned, bare_known, entry_made, map_made, files_made, IsMade}
-use Rattle.volume.specs.Rest.{AreDated, IsAtRest, IsSoundCore, RestsAt, StandsForOneOf}
+use Rattle.volume.specs.Making.{IsAligned, bare_known, entry_made, IsMade}
+use Rattle.volume.specs.Rest.{AreDated, IsSoundCore, RestsAt, StandsForOneOf}
 use Rattle.volume.proofs.Apart.{apart_same}
 use Rattle.volume.proofs.Packs.{pack_held, rests_in}
 use Rattle.volume.proofs.Pinning.{total_at}
 use Rattle.volume.proofs.PrimeBlocks.{prime_stays}
 use Rattle.volume.proofs.Lookups.{all_push, total-push, zip_behind}
 use Rattle.volume.proofs.LiveBodies.{HaveBodies}
-use Rattle.volume.proofs.MakingLaw.{making_leads, bare_chain, bit_few}
+use Rattle.volume.proofs.MakingLaw.{bare_chain, bit_few}
 
 -- Of any event.
 
@@ -340,18 +339,6 @@ module _ (size : ℕ) (k k' : Known) (ppn protection first : ℕ) (puts : List P
   pub puts_few : length puts ≤ log_images size
   puts_few = let a = made.put.few in let b = made.entered.few in omega arith
 
-  pub first_clear : bit k.table first ≡ 0
-  first_clear =
-      let sum = made.taken.bits first in
-      let one = times_head first first made.grown refl in
-      let few = bit_few k'.table first in
-      omega arith
-
-  pub leads : (before : Contents) (m : DiskMap) → protection < 512
-      → LeadsTo size before first (replicate 128 0) puts k m k' (map_made m k'.master.blocks ppn protection first)
-  leads before m fits c near held zeros = making_leads size k k' m ppn protection first puts whole made
-      fits c held zeros
-
   -- a block in use is not written, but for those of the master directory
   pub not_written : (n : ℕ) → space_start size ≤ n → times n k.master.blocks ≡ 0 → (IsFree k.table n → ⊥)
       → (n ≡ first) ⊎ (IsGateOrLog size n ⊎ IsPutIn puts n) → ⊥
@@ -365,49 +352,3 @@ module _ (size : ℕ) (k k' : Known) (ppn protection first : ℕ) (puts : List P
           let a = ap (times n) made.entered.blocks ∙ times-append n k.master.blocks made.grown in
           let b = not_free n made.grown used made.free.1 in
           omega arith
-
--- What the write and the commit promise, for this directory.
-module _ (s s' : DiskState) (k k' : Known) (ppn protection first : ℕ) (puts : List Put) (fits : protection
-    < 512) (whole : IsWholeMap s.size k) (made : IsMade s.size k k' ppn protection first puts) (at : IsAtRest s k) where
-  pub made_crash : (f : Files File) → RestsAt s f
-      → ((m m' : DiskMap) → IsAligned k → IsAligned k' → AtRest s (IsHeld s.size k m) → bit k.table first ≡ 0
-      → LeadsTo s.size s.contents first (replicate 128 0) puts k m k' m'
-      → LeavesOnly s s' (λ c. SettlesTo s.size (IsHeld s.size k m) c ⊎ SettlesTo s.size (IsHeld s.size k' m') c))
-      → LeavesOnly s s' (StandsForOneOf (pack_of s) f (files_made f ppn protection))
-  made_crash f rests transaction =
-      let next = map_made at.map k'.master.blocks ppn protection first in
-      let same = files_are s k at.map f at.rest rests in
-      crash_for s s' k k' at.map next f (files_made f ppn protection) at.rest same
-      (files_of_made at.map k'.master.blocks ppn protection 0 (first ∷ [])
-      ∙ ap (λ (z : Files File). files_made z ppn protection) same) refl
-      (transaction at.map next whole.aligned (made_aligned s.size k k' ppn protection first puts whole made) at.rest
-      (first_clear s.size k k' ppn protection first puts whole made)
-      (leads s.size k k' ppn protection first puts whole made s.contents at.map fits))
-
-  pub made_rest : ((m m' : DiskMap) → IsAligned k → IsAligned k' → AtRest s (IsHeld s.size k m) → bit k.table first ≡ 0
-      → LeadsTo s.size s.contents first (replicate 128 0) puts k m k' m' → AtRest s' (IsHeld s.size k' m'))
-      → AtRest s' (IsHeld s.size k' (map_made at.map k'.master.blocks ppn protection first))
-  made_rest transaction =
-      transaction at.map (map_made at.map k'.master.blocks ppn protection first) whole.aligned
-      (made_aligned s.size k k' ppn protection first puts whole made) at.rest
-      (first_clear s.size k k' ppn protection first puts whole made)
-      (leads s.size k k' ppn protection first puts whole made s.contents at.map fits)
-
-  pub made_done : (f : Files File) → RestsAt s f → s'.size ≡ s.size
-      → AtRest s' (IsHeld s.size k' (map_made at.map k'.master.blocks ppn protection first))
-      → RestsAt s' (files_made f ppn protection)
-  made_done f rests size rest =
-      let same = files_are s k at.map f at.rest rests in
-      rest_for s s' k' (map_made at.map k'.master.blocks ppn protection first) (files_made f ppn protection) size
-      (files_of_made at.map k'.master.blocks ppn protection 0 (first ∷ [])
-      ∙ ap (λ (z : Files File). files_made z ppn protection) same) rest
-
-  pub made_at : s'.size ≡ s.size → ((m m' : DiskMap) → IsAligned k → IsAligned k' → AtRest s (IsHeld s.size k m)
-      → bit k.table first ≡ 0 → LeadsTo s.size s.contents first (replicate 128 0) puts k m k' m'
-      → AtRest s' (IsHeld s.size k' m'))
-      → (m' : DiskMap) × AtRest s' (IsHeld s.size k' m') × (m'.layout ≡ (pack_of s).layout)
-  made_at size transaction = (
-    map_made at.map k'.master.blocks ppn protection first,
-    made_rest transaction,
-    pack_held s k at.map at.rest,
-  )

@@ -1,7 +1,7 @@
--- What is held stays so over writes that no map sees: of gate and log, and of a free block.
-use Rattle.std.proofs.Common.{◌≡◌, ℕ, zero, suc, ◌+◌, ◌<◌, ◌≤◌, inl, inr, ⊎_elim, List, [], ◌∷◌, length, Some}
-use Rattle.std.proofs.Common.{slice_get, refl, sym, ◌∙◌, ap, subst, arith}
-use Rattle.std.proofs.lemmas.Bool.{cases_eq, cases_lt}
+-- What is held stays so over writes that no map sees, as those of gate and log.
+use Rattle.std.proofs.Common.{◌≡◌, ℕ, zero, suc, ◌+◌, ◌<◌, ◌≤◌, ⊎_elim, List, [], ◌∷◌, length, Some}
+use Rattle.std.proofs.Common.{slice_get, refl, ◌∙◌, ap, arith}
+use Rattle.std.proofs.lemmas.Bool.{cases_lt}
 use Rattle.std.proofs.lemmas.Option.{slice_get_within}
 use Rattle.std.specs.Cmp.{nat_cmp_total}
 use Rattle.std.specs.FinMap.{nat_cmp-IsAntisymmetric}
@@ -12,12 +12,10 @@ use Rattle.meaning.specs.Maps.{times}
 use Rattle.meaning.specs.Regions.{table_start, space_start}
 use Rattle.meaning.specs.Directories.{master_words, file_words}
 use Rattle.meaning.specs.Stands.{DiskMap, HasMap, reaches_in_directory, reaches}
-use Rattle.meaning.specs.Quiet.{DifferInFree}
 use Rattle.meaning.specs.Table.{table_bit}
 use Rattle.meaning.specs.Faults.{InSpace}
 use Rattle.meaning.proofs.MapSums.{at-le-sum}
-use Rattle.meaning.proofs.DiskMaps.{none_below, quiet, quiet_bits, log_ignored, bits_kept_off}
-use Rattle.alloctab.specs.TableState.{bit}
+use Rattle.meaning.proofs.DiskMaps.{none_below, log_ignored, bits_kept_off}
 use Rattle.directory.specs.ChainLaws.{on_kept}
 use Rattle.volume.specs.Known.{KnownDirectory, Known, IsKnownMap, IsHeld}
 use Rattle.volume.specs.Making.{IsAligned}
@@ -76,22 +74,3 @@ ignores_log size k m aligned c d same h =
   where
     high : (n : ℕ) → table_start size ≤ n → d n ≡ c n
     high n from = same n (λ is. let below = is.1 in omega arith)
-
--- A free block is not looked at.
-pub ignores_free : (size : ℕ) (k : Known) (m : DiskMap) (fresh : ℕ) → IsAligned k → space_start size ≤ fresh
-    → bit k.table fresh ≡ 0 → Ignores (λ n. n ≡ fresh) (IsHeld size k m)
-ignores_free size k m fresh aligned from clear c d same h =
-    held_kept size k m c d aligned h (quiet size c d free m h.stands)
-    (λ n there. same n (λ is. unreached (subst (λ (j : ℕ). 0 < reaches j m) is there))) (quiet_bits size c d free)
-  where
-    is_clear : table_bit size c fresh ≡ 0
-    is_clear = h.bits fresh ∙ clear
-
-    free : DifferInFree size c c d
-    free n = ⊎_elim (λ is. inr (record {
-      in_space = subst (λ (j : ℕ). space_start size ≤ j) (sym is) from;
-      clear = ap (table_bit size c) is ∙ is_clear;
-    })) (λ other. inl (same n other)) (cases_eq n fresh)
-
-    unreached : 0 < reaches fresh m → ⊥
-    unreached there = let e = h.stands.marked.bits fresh in omega (arith, is_clear)

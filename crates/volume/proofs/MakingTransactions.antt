@@ -1,98 +1,77 @@
--- A free block is written, and then a set of puts is committed: what a crash leaves, and the end.
-use Rattle.std.proofs.Common.{◌≡◌, ◌⊎◌, inl, inr, ⊎_elim, ℕ, false, List, Some, Result, Ok, Err, OnOk, refl, sym, subst}
-use Rattle.std.proofs.Common.{◌∙◌, arith}
-use Rattle.blockdisk.specs.Disk.{Contents, DiskState, MayLeave, NoneOpen, SameOutside, Near, Modifies, LeavesOnly}
-use Rattle.blockdisk.specs.Laws.{leaves_weaker, leaves_wider, near_then, modifies_wider, modifies_on}
-use Rattle.changeset.specs.Crashes.{IsGateOrLog, IsShut, AllOrNone}
-use Rattle.changeset.specs.Puts.{IsPutIn}
-use Rattle.changeset.specs.Rest.{Ignores, SettlesTo, AtRest, quiet_rest, quiet_leaves, quiet_stands, transaction_leaves}
-use Rattle.changeset.specs.Rest.{commit_rest}
+-- A directory is made: this is one change of the volume, with the block of the directory written beforehand.
+use Rattle.std.proofs.Common.{◌≡◌, ◌⊎◌, inl, inr, ℕ, ◌<◌, Bool, true, false, List, [], ◌∷◌, ◌++◌, replicate, Some, Result, Err}
+use Rattle.std.proofs.Common.{IsErrOf, refl, sym, subst, ◌∙◌, arith}
+use Rattle.blockdisk.specs.Disk.{Contents, DiskState, MayLeave, SameDisk, Writes}
+use Rattle.blockdisk.specs.Laws.{writes_modifies}
 use Rattle.meaning.specs.declared.put.Put.{Put}
-use Rattle.meaning.specs.Faults.{InSpace}
-use Rattle.meaning.specs.Log.{with_puts}
-use Rattle.meaning.specs.Stands.{DiskMap}
-use Rattle.alloctab.specs.TableState.{bit}
-use Rattle.volume.specs.Known.{Known, IsHeld}
-use Rattle.volume.specs.Making.{LeadsTo, IsAligned}
-use Rattle.volume.proofs.MakingHeld.{ignores_log, ignores_free}
+use Rattle.meaning.proofs.ChangedFiles.{files_made as files_of_made}
+use Rattle.alloctab.specs.TableState.{IsFree}
+use Rattle.volume.specs.Edits.{IsWrittenBy, IsCommitted, IsEdited}
+use Rattle.volume.specs.Known.{Known}
+use Rattle.volume.specs.Live.{VolumeCore, IsWholeCore}
+use Rattle.volume.specs.Making.{map_made, files_made, IsMade}
+use Rattle.volume.specs.Rest.{IsSoundCore}
+use Rattle.volume.specs.declared.error.CallError.{CallError}
+use Rattle.volume.specs.declared.error.CallError.TheVariants.{Device}
+use Rattle.volume.proofs.Edits.{IsEdit, interrupted, not_written_stays}
+use Rattle.volume.proofs.HomesKept.{made_low}
+use Rattle.volume.proofs.LiveBodies.{bodies_of, dated_of}
+use Rattle.volume.proofs.MakingDirectories.{made_core, puts_in_range, puts_few, not_written}
+use Rattle.volume.proofs.MakingLaw.{making_leads}
 
--- what follows of three facts that hold where a call answers Ok
-pub on_ok_three : {T E : Type 0} {A B C X : Type 0} (result : Result T E) → (A → B → C → X) → OnOk result A
-    → OnOk result B → OnOk result C → OnOk result X
-on_ok_three (Ok x) gives a b c = gives a b c
-on_ok_three (Err e) gives a b c = tt
+-- Core says it of a disk of the size that it knows.
+pub made_sized : {size : ℕ} {c : VolumeCore} {k' : Known} {ppn protection first : ℕ} {puts : List Put}
+    → IsWholeCore size c → IsMade c.known.table.size c.known k' ppn protection first puts
+    → IsMade size c.known k' ppn protection first puts
+made_sized {size} {c} {k'} {ppn} {protection} {first} {puts} whole is =
+    subst (λ (n : ℕ). IsMade n c.known k' ppn protection first puts) whole.map.size_is is
 
--- what the two calls write
-pub wrote : (fresh : ℕ) (puts : List Put) (s mid s' : DiskState) → mid.size ≡ s.size → Modifies (λ n. n ≡ fresh) s mid
-    → Modifies (λ n. IsGateOrLog mid.size n ⊎ IsPutIn puts n) mid s'
-    → Modifies (λ n. (n ≡ fresh) ⊎ (IsGateOrLog s.size n ⊎ IsPutIn puts n)) s s'
-wrote fresh puts s mid s' size first second =
-    modifies_on Out s mid s' (modifies_wider (λ n. n ≡ fresh) Out s mid (λ n is. inl is) first)
-    (modifies_wider (λ n. IsGateOrLog mid.size n ⊎ IsPutIn puts n) Out mid s'
-    (λ n. ⊎_elim (λ is. inr (inl (subst (λ (b : ℕ). IsGateOrLog b n) size is))) (λ is. inr (inr is))) second)
-  where
-    Out : ℕ → Type 0
-    Out n = (n ≡ fresh) ⊎ (IsGateOrLog s.size n ⊎ IsPutIn puts n)
+pub made_edit : {size : ℕ} {c c' : VolumeCore} {ppn protection first : ℕ} {puts : List Put} → IsWholeCore size c
+    → IsMade c.known.table.size c.known c'.known ppn protection first puts → c'.live ≡ c.live
+    → c'.pending ≡ c.pending → c'.keys ≡ c.keys ++ [] ∷ [] → protection < 512 → (layout : ℕ)
+    → IsEdit size layout c c' (λ n. n ≡ first) (λ d. d first ≡ Some (replicate 128 0)) puts
+    (λ f. files_made f ppn protection)
+made_edit {size} {c} {c'} {ppn} {protection} {first} {puts} whole is live pending keys fits layout =
+    let made = made_sized whole is in
+    record {
+      whole = made_core size c.known c'.known ppn protection first puts whole.map made c c' whole refl refl live pending
+          keys;
+      bodies = λ d. bodies_of d c c' live pending;
+      dated = λ n. dated_of n c c' pending;
+      quiet = λ n same. subst (IsFree c.known.table) (sym same) made.free.0;
+      in_range = puts_in_range size c.known c'.known ppn protection first puts whole.map made;
+      few = puts_few size c.known c'.known ppn protection first puts whole.map made;
+      low = made_low size c.known c'.known ppn protection first puts whole.map made;
+      spares = λ n kept put. not_written size c.known c'.known ppn protection first puts whole.map made n kept.from
+          (let apart = kept.apart in omega arith) kept.used (inr (inr put));
+      leads = λ m d same held zeros. (
+        map_made m c'.known.master.blocks ppn protection first,
+        making_leads size c.known c'.known m ppn protection first puts whole.map made fits d held zeros,
+        files_of_made m c'.known.master.blocks ppn protection 0 (first ∷ []),
+        refl,
+      );
+    }
 
--- and what a crash leaves of it, whatever the second one answered
-pub wrote_near : (fresh : ℕ) (puts : List Put) (s mid s' : DiskState) → mid.size ≡ s.size
-    → ((c : Contents) → s.left_since s.clock c → MayLeave s c) → Modifies (λ n. n ≡ fresh) s mid
-    → LeavesOnly mid s' (Near (λ n. IsGateOrLog mid.size n ⊎ IsPutIn puts n) mid)
-    → LeavesOnly s s' (Near (λ n. (n ≡ fresh) ⊎ (IsGateOrLog s.size n ⊎ IsPutIn puts n)) s)
-wrote_near fresh puts s mid s' size only_now first second =
-    near_then Out s mid s' only_now (modifies_wider (λ n. n ≡ fresh) Out s mid (λ n is. inl is) first)
-    (leaves_wider (λ n. IsGateOrLog mid.size n ⊎ IsPutIn puts n) Out mid s'
-    (λ n. ⊎_elim (λ is. inr (inl (subst (λ (b : ℕ). IsGateOrLog b n) size is))) (λ is. inr (inr is))) second)
-  where
-    Out : ℕ → Type 0
-    Out n = (n ≡ fresh) ⊎ (IsGateOrLog s.size n ⊎ IsPutIn puts n)
+-- where the write of the block failed
+pub made_ended : {s mid : DiskState} {c c' : VolumeCore} {ppn protection first : ℕ} {puts : List Put} {alive : Bool}
+    → IsSoundCore s c alive → alive ≡ false
+    → (s.honest → (d : Contents) → s.left_since s.clock d → MayLeave s d) → SameDisk s mid
+    → (mid.honest → Writes first s mid) → IsMade c.known.table.size c.known c'.known ppn protection first puts
+    → c'.live ≡ c.live → c'.pending ≡ c.pending → c'.keys ≡ c.keys ++ [] ∷ [] → protection < 512
+    → IsEdited s mid c c' (λ f. files_made f ppn protection) true (Err Device)
+made_ended {s} {mid} {c} {c'} {ppn} {protection} {first} sound ok only_now same writes is live pending keys fits =
+    let edit = made_edit sound.whole is live pending keys fits 0 in
+    interrupted sound ok only_now same edit.quiet edit.whole
+    (λ m. writes_modifies (λ n. n ≡ first) first s mid refl (writes m)) Device
 
--- a closed block that wasn't written is as it was
-pub near_closed : (In : ℕ → Type 0) (s s' : DiskState) → LeavesOnly s s' (Near In s) → (n : ℕ) → (In n → ⊥)
-    → s.is_open n ≡ false → s'.contents n ≡ s.contents n
-near_closed In s s' leaves n out closed = let near = leaves.now s'.contents (λ m is. refl) in
-    near.2 n out ∙ near.1 n closed
-
-module _ (fresh : ℕ) (words : List ℕ) (puts : List Put) (s mid s' : DiskState) (k k' : Known) (m m' : DiskMap)
-    (aligned : IsAligned k) (aligned' : IsAligned k') (rest : AtRest s (IsHeld s.size k m)) (clear : bit k.table fresh
-    ≡ 0) (inside : InSpace s.size fresh)
-    (size : mid.size ≡ s.size) (quiet : Modifies (λ n. n ≡ fresh) s mid) where
-  Either : Contents → Type 0
-  Either c = SettlesTo s.size (IsHeld s.size k m) c ⊎ SettlesTo s.size (IsHeld s.size k' m') c
-
-  unseen : Ignores (λ n. n ≡ fresh) (IsHeld s.size k m)
-  unseen = ignores_free s.size k m fresh aligned inside.from clear
-
-  no_gate : 3 ≡ fresh → ⊥
-  no_gate is = let from = inside.from in omega arith
-
-  pub mid_rest : AtRest mid (IsHeld s.size k m)
-  mid_rest = quiet_rest (λ n. n ≡ fresh) s mid (IsHeld s.size k m) unseen no_gate size rest quiet
-
-  pub written_leaves : ((c : Contents) → s.left_since s.clock c → MayLeave s c)
-      → LeavesOnly s mid (λ c. SettlesTo s.size (IsHeld s.size k m) c ⊎ SettlesTo s.size (IsHeld s.size k' m') c)
-  unfolding Either
-  written_leaves only_now =
-      leaves_weaker s mid (SettlesTo s.size (IsHeld s.size k m)) Either
-      (quiet_stands s mid (IsHeld s.size k m)
-      (quiet_leaves (λ n. n ≡ fresh) s mid (IsHeld s.size k m) unseen no_gate rest only_now quiet)) (λ c is. inl is)
-
-  changed : LeadsTo s.size s.contents fresh words puts k m k' m' → mid.contents fresh ≡ Some words
-      → IsHeld s.size k' m' (with_puts puts mid.contents)
-  changed leads written = leads mid.contents quiet.contents (mid_rest.all mid.contents (λ n closed. refl)) written
-
-  pub committed_leaves : ((c : Contents) → s.left_since s.clock c → MayLeave s c)
-      → LeadsTo s.size s.contents fresh words puts k m k' m' → mid.contents fresh ≡ Some words
-      → LeavesOnly mid s' (AllOrNone puts mid)
-      → LeavesOnly s s' (λ c. SettlesTo s.size (IsHeld s.size k m) c ⊎ SettlesTo s.size (IsHeld s.size k' m') c)
-  committed_leaves only_now leads written leaves =
-      transaction_leaves (λ n. n ≡ fresh) puts s mid s' (IsHeld s.size k m) (IsHeld s.size k' m') unseen no_gate
-      (ignores_log s.size k m aligned) (ignores_log s.size k' m' aligned')
-      size rest only_now quiet (changed leads written) leaves
-
-  pub committed_rest : LeadsTo s.size s.contents fresh words puts k m k' m' → mid.contents fresh ≡ Some words
-      → SameOutside (IsGateOrLog mid.size) (with_puts puts mid.contents) s'.contents → NoneOpen s' → IsShut s'
-      → AtRest s' (IsHeld s.size k' m')
-  committed_rest leads written all none shut =
-      commit_rest puts mid s' (IsHeld s.size k' m') (subst (λ (b : ℕ). Ignores (IsGateOrLog b) (IsHeld s.size k' m'))
-      (sym size) (ignores_log s.size k' m' aligned')) (changed leads written) all none shut
+-- A block that neither the write nor the commit writes stays.
+pub both_stay : {s mid s' : DiskState} {first : ℕ} {puts : List Put} {was failed : Bool}
+    {result : Result (Unit {0}) CallError} → SameDisk s mid → Writes first s mid
+    → IsCommitted mid s' puts was failed result → s'.honest → (n : ℕ)
+    → ((n ≡ first) ⊎ IsWrittenBy s.size puts n → ⊥) → (IsErrOf result Device → s.is_open n ≡ false)
+    → s'.contents n ≡ s.contents n
+both_stay {s} {mid} {s'} {first} {puts} same writes committed h n out closed =
+    not_written_stays committed h n
+    (λ written. out (inr (subst (λ (b : ℕ). IsWrittenBy b puts n) same.size written)))
+    (λ is. writes.is_open n (λ here. out (inl here)) ∙ closed is)
+    ∙ writes.contents n (λ here. out (inl here))

@@ -1,24 +1,27 @@
--- A move to another directory is one, as the puts are committed.
+-- A file moves to another directory: this is one change of the volume, once its prime block is read.
 use Rattle.std.proofs.Common.{◌≡◌, ℕ, zero, suc, ◌+◌, ◌<◌, false, List, Some, refl, subst, arith}
 use Rattle.words36.specs.declared.names.FileName.{FileName}
-use Rattle.blockdisk.specs.Disk.{Contents, DiskState}
+use Rattle.blockdisk.specs.Disk.{Contents}
 use Rattle.meaning.specs.declared.put.Put.{Put}
 use Rattle.meaning.specs.Log.{with_puts}
 use Rattle.meaning.specs.Maps.{get, times}
 use Rattle.meaning.specs.Stands.{StoredDirectory, DiskMap, files_of, place_of}
-use Rattle.alloctab.specs.TableState.{IsFree}
+use Rattle.alloctab.specs.TableState.{IsTable, IsFree}
 use Rattle.volume.specs.Claims.{claims}
 use Rattle.volume.specs.Known.{KnownVersion, KnownDirectory, IsKnownFile, IsKnownDirectory, IsHeld}
 use Rattle.volume.specs.Live.{VolumeCore, as_known, IsWholeCore}
 use Rattle.volume.specs.Moving.{files_moved, MovesAcross}
-use Rattle.volume.specs.Rest.{IsSoundCore}
 use Rattle.volume.specs.declared.live.LiveVersion.{LiveVersion}
 use Rattle.volume.proofs.MovingCore.{moved_across_whole}
 use Rattle.volume.proofs.MovingLaw.{map_moved_across, moved_across_files, moving_across_leads, moved_across_elsewhere}
 use Rattle.volume.proofs.MovingLaw.{moved_across_in_range, moved_across_low, moved_across_few, source_times}
 use Rattle.volume.proofs.MovingLaw.{target_times}
-use Rattle.volume.proofs.PublishingBlocks.{IsKept, total_place}
-use Rattle.volume.proofs.RenamingTransactions.{IsMove}
+use Rattle.volume.proofs.Edits.{Nowhere, IsEdit}
+use Rattle.volume.proofs.KeptBlocks.{IsKept}
+use Rattle.volume.proofs.LiveBodies.{dated_of}
+use Rattle.volume.proofs.PublishingBlocks.{total_place}
+use Rattle.volume.proofs.RenamingTransactions.{first_inside}
+use Rattle.volume.proofs.SameVersion.{versions_have}
 
 module _ (size : ℕ) (c c' : VolumeCore) (ppn : ℕ) (name : FileName) (to_ppn : ℕ) (to : FileName)
     (protection key : ℕ) (v : LiveVersion) (words : List ℕ) (puts : List Put) (whole : IsWholeCore size c)
@@ -79,33 +82,36 @@ module _ (size : ℕ) (c c' : VolumeCore) (ppn : ℕ) (name : FileName) (to_ppn 
       refl,
     )
 
-  across_of_size : IsMove size c c' ppn name to_ppn to protection key v words puts
-  across_of_size = record {
-    whole = moved_across_whole size c c' ppn name to_ppn to protection key v words puts whole moves unclaimed;
-    pending = moves.pending;
-    prime = moves.prime;
-    there = moves.there;
-    current = moves.current;
-    here = moves.here;
-    others = moves.others;
-    in_range = moved_across_in_range size c.known c'.known ppn name to_ppn to (v.at, as_known v) with_prime words puts
-        whole.map moves.moved;
-    few = moved_across_few size c.known c'.known ppn name to_ppn to (v.at, as_known v) with_prime words puts whole.map
-        moves.moved;
-    low = λ inside n small. moved_across_low size c.known c'.known ppn name to_ppn to (v.at, as_known v) with_prime
-        words puts whole.map moves.moved inside n (omega arith);
-    spares = λ n kept other. moved_across_elsewhere size c.known c'.known ppn name to_ppn to (v.at, as_known v)
-        with_prime words puts whole.map moves.moved n kept.from other (kept_chains n kept);
-    leads = leads_across;
-  }
+  edit : (layout : ℕ) → IsTable c.known.table → IsEdit size layout c c' Nowhere (λ d. d v.at ≡ Some words) puts
+      (λ f. files_moved f ppn name to_ppn to protection)
+  edit layout table =
+      let inside = first_inside size c whole key v moves.there moves.current table in
+      record {
+        whole = moved_across_whole size c c' ppn name to_ppn to protection key v words puts whole moves unclaimed;
+        bodies = λ d. versions_have c c' key v moves.prime moves.there moves.here moves.others d moves.pending;
+        dated = λ n. dated_of n c c' moves.pending;
+        quiet = λ n none. absurd none;
+        in_range = moved_across_in_range size c.known c'.known ppn name to_ppn to (v.at, as_known v) with_prime words
+            puts whole.map moves.moved inside;
+        few = moved_across_few size c.known c'.known ppn name to_ppn to (v.at, as_known v) with_prime words puts
+            whole.map moves.moved;
+        low = λ n small. moved_across_low size c.known c'.known ppn name to_ppn to (v.at, as_known v) with_prime words
+            puts whole.map moves.moved inside n (omega arith);
+        spares = λ n kept. moved_across_elsewhere size c.known c'.known ppn name to_ppn to (v.at, as_known v) with_prime
+            words puts whole.map moves.moved n kept.from (kept.first key v moves.there moves.current)
+            (kept_chains n kept);
+        leads = λ m d same. leads_across m d;
+      }
 
--- so it is where core says it of a disk of the size that it knows
-pub across_move : {s : DiskState} {c c' : VolumeCore} {ppn : ℕ} {name : FileName} {to_ppn : ℕ} {to : FileName}
-    {protection key : ℕ} {v : LiveVersion} {words : List ℕ} {puts : List Put} → IsSoundCore s c false
-    → MovesAcross c.known.table.size c c' ppn name to_ppn to protection key v words puts → protection < 512
-    → claims c.pending (place_of ppn name) ≡ false
-    → IsMove s.size c c' ppn name to_ppn to protection key v words puts
-across_move {s} {c} {c'} {ppn} {name} {to_ppn} {to} {protection} {key} {v} {words} {puts} sound moves fits unclaimed =
-    across_of_size s.size c c' ppn name to_ppn to protection key v words puts sound.whole
-    (subst (λ (n : ℕ). MovesAcross n c c' ppn name to_ppn to protection key v words puts) sound.whole.map.size_is moves)
-    fits unclaimed
+-- Where core says it of a disk of the size that it knows.
+module _ {size : ℕ} {c c' : VolumeCore} {ppn : ℕ} {name : FileName} {to_ppn : ℕ} {to : FileName} {protection key : ℕ}
+    {v : LiveVersion} {words : List ℕ} {puts : List Put} (whole : IsWholeCore size c)
+    (moves : MovesAcross c.known.table.size c c' ppn name to_ppn to protection key v words puts) where
+  pub across_sized : MovesAcross size c c' ppn name to_ppn to protection key v words puts
+  across_sized = subst (λ (n : ℕ). MovesAcross n c c' ppn name to_ppn to protection key v words puts)
+      whole.map.size_is moves
+
+  pub across_edit : protection < 512 → claims c.pending (place_of ppn name) ≡ false → (layout : ℕ)
+      → IsTable c.known.table → IsEdit size layout c c' Nowhere (λ d. d v.at ≡ Some words) puts
+      (λ f. files_moved f ppn name to_ppn to protection)
+  across_edit = edit size c c' ppn name to_ppn to protection key v words puts whole across_sized

@@ -1,5 +1,5 @@
 -- A version becomes the file of its name: which blocks are written for it, and that those of versions in use stay.
-use Rattle.std.proofs.Common.{◌≡◌, ℕ, zero, suc, ◌+◌, ◌<◌, ◌≤◌, ◌⊎◌, ⊎_elim, Bool, true, false, if◌then◌else◌, List, []}
+use Rattle.std.proofs.Common.{◌≡◌, ℕ, zero, suc, ◌+◌, ◌<◌, ◌≤◌, false, List, []}
 use Rattle.std.proofs.Common.{◌∷◌, ◌++◌, length, Some, slice_get, refl, sym, ap, subst, ◌∙◌, arith}
 use Rattle.std.specs.List.{AllByRecursion}
 use Rattle.blockdisk.specs.Disk.{DiskState}
@@ -8,30 +8,26 @@ use Rattle.meaning.specs.Costs.{blocks_of}
 use Rattle.meaning.specs.Faults.{InSpace}
 use Rattle.meaning.specs.Log.{IsTarget, targets}
 use Rattle.meaning.specs.Maps.{total, times}
-use Rattle.meaning.specs.Regions.{space_start}
+use Rattle.meaning.specs.Regions.{log_images}
 use Rattle.meaning.proofs.MapLaws.{some_same, some_none}
 use Rattle.meaning.proofs.MapSums.{times-append}
 use Rattle.meaning.proofs.QuietLaws.{each_times}
 use Rattle.meaning.proofs.Walking.{all_front, all_back}
-use Rattle.alloctab.specs.TableState.{bit, holds, IsFree}
-use Rattle.changeset.specs.Crashes.{IsGateOrLog}
+use Rattle.alloctab.specs.TableState.{bit, IsFree}
 use Rattle.changeset.specs.Puts.{IsPutIn}
 use Rattle.changeset.specs.PutLaws.{times_head}
 use Rattle.retrieval.specs.Writing.{AreApart}
-use Rattle.volume.specs.Known.{KnownDirectory, blocks_reached}
-use Rattle.volume.specs.Live.{VolumeCore, slot, pending_at, held_reaches, current_reaches, pending_reaches}
-use Rattle.volume.specs.Live.{entry_reaches, IsWholePending, IsWholeCore}
+use Rattle.volume.specs.Known.{KnownDirectory}
+use Rattle.volume.specs.Live.{VolumeCore, slot}
+use Rattle.volume.specs.Live.{IsWholePending, IsWholeCore}
 use Rattle.volume.specs.Publishing.{before, MakesCurrent}
 use Rattle.volume.specs.Rest.{IsSoundCore}
 use Rattle.volume.specs.declared.live.LiveVersion.{LiveVersion}
 use Rattle.volume.specs.declared.pending.PendingVersion.{PendingVersion}
-use Rattle.volume.proofs.LiveBodies.{IsUsed, read_used, written_used}
-use Rattle.volume.proofs.MakingLaw.{bit_few}
+use Rattle.volume.proofs.KeptBlocks.{IsKept}
 use Rattle.volume.proofs.Marking.{all_weaker}
-use Rattle.volume.proofs.Pinning.{total_at}
 use Rattle.volume.proofs.HomesKept.{published_low}
-use Rattle.volume.proofs.PublishingPuts.{published_times, published_in_range, published_elsewhere}
-use Rattle.volume.proofs.PublishingSlots.{reaches_parts}
+use Rattle.volume.proofs.PublishingPuts.{published_times, published_in_range, published_few, published_elsewhere}
 use Rattle.volume.proofs.PuttingCore.{waits}
 
 -- The version that was put into core, under its new key, is the one that was written.
@@ -66,64 +62,6 @@ apart_once (n ∷ ns) once = (
   let head = times_head n n ns refl in let one = once n in omega arith,
   apart_once ns (λ k. let one = once k in omega arith),
 )
-
--- A block of a version in use: it stands in no chain.
-pub record IsKept (size : ℕ) (c : VolumeCore) (n : ℕ) : Type 0 where
-  pub from : space_start size ≤ n
-  pub apart : total (λ d. times n d.chain.blocks) c.known.directories ≡ 0
-  pub used : IsFree c.known.table n → ⊥
-
-module _ (size : ℕ) (c : VolumeCore) (whole : IsWholeCore size c) where
-  entry_apart : (n : ℕ) → 0 < entry_reaches n c.known.directories
-      → total (λ d. times n d.chain.blocks) c.known.directories ≡ 0
-  entry_apart n some =
-      let parts = reaches_parts n c.known.directories in
-      let bits = whole.map.bits n in
-      let few = bit_few c.known.table n in
-      omega arith
-
-  held_apart : (n : ℕ) → 0 < holds c.known.table n → total (λ d. times n d.chain.blocks) c.known.directories ≡ 0
-  held_apart n some = let none = whole.apart n some in omega arith
-
-  pub read_kept : (k : ℕ) (v : LiveVersion) → slot c.live k ≡ Some v → 0 < v.readers → (n : ℕ)
-      → 0 < times n v.version.blocks → IsKept size c n
-  read_kept k v is some n there = record { from = used.from; apart = by v.is_current refl; used = used.used }
-    where
-      used : IsUsed size c n
-      used = read_used size c whole k v is some n there
-
-      stands : 0 < times n (blocks_reached v.at v.version)
-      stands = let parts = times-append n v.version.ribs v.version.blocks in omega arith
-
-      by : (b : Bool) → v.is_current ≡ b → total (λ d. times n d.chain.blocks) c.known.directories ≡ 0
-      by true current = entry_apart n
-          (let part = total_at (current_reaches n) refl c.live k in
-          let here = ap (current_reaches n) is
-          ∙ ap (λ (b : Bool). if b then times n (blocks_reached v.at v.version) else 0) current in
-          let all = whole.current n in
-          let one = stands in
-          omega arith)
-      by false ended = held_apart n
-          (let part = total_at (held_reaches n) refl c.live k in
-          let here = ap (held_reaches n) is
-          ∙ ap (λ (b : Bool). if b then 0 else times n (blocks_reached v.at v.version)) ended in
-          let all = whole.held n in
-          let one = stands in
-          omega arith)
-
-  written_held : (k : ℕ) (q : PendingVersion) → pending_at c.pending k ≡ Some q → (n : ℕ) → 0 < times n q.version.blocks
-      → 0 < holds c.known.table n
-  written_held k q is n there =
-      let part = total_at (pending_reaches n) refl c.pending k in
-      let here = ap (pending_reaches n) is in
-      let all = whole.held n in
-      omega arith
-
-  pub written_kept : (k : ℕ) (q : PendingVersion) → pending_at c.pending k ≡ Some q → (n : ℕ)
-      → 0 < times n q.version.blocks → IsKept size c n
-  written_kept k q is n there =
-      let used = written_used size c whole k q is n there in
-      record { from = used.from; apart = held_apart n (written_held k q is n there); used = used.used }
 
 -- The blocks of one that is published.
 
@@ -188,13 +126,13 @@ module _ {size : ℕ} {c c' : VolumeCore} {key : ℕ} {p : PendingVersion} {v : 
   puts_in_range = published_in_range size c.known c'.known p.prime.ppn p.prime.file v.at _
       (before is.old) puts whole.map is.published
 
+  pub puts_few : length puts ≤ log_images size
+  puts_few = published_few size c.known c'.known p.prime.ppn p.prime.file v.at _
+      (before is.old) puts whole.map is.published
+
   pub puts_low : (n : ℕ) → n ≤ 2 → IsPutIn puts n → ⊥
   puts_low = published_low size c.known c'.known p.prime.ppn p.prime.file v.at _
       (before is.old) puts whole.map is.published
-
-  -- a block of a version in use isn't
-  pub kept_retrieved : (n : ℕ) → IsKept size c n → 0 < times n (v.at ∷ v.version.ribs) → ⊥
-  kept_retrieved n kept there = kept.used (retrieval_free n there)
 
   grown_free : (n : ℕ) → 0 < times n is.published.grown → IsFree c.known.table n
   grown_free n there = record {
@@ -215,8 +153,7 @@ module _ {size : ℕ} {c c' : VolumeCore} {key : ℕ} {p : PendingVersion} {v : 
           omega arith
       by (suc k) some = absurd (kept.used (grown_free n (omega arith)))
 
-  pub kept_put : (n : ℕ) → IsKept size c n → IsGateOrLog size n ⊎ IsPutIn puts n → ⊥
-  kept_put n kept = ⊎_elim
-      (λ log. let from = kept.from in let below = log.1 in omega arith)
-      (published_elsewhere size c.known c'.known p.prime.ppn p.prime.file v.at _
-      (before is.old) puts whole.map is.published n kept.from (kept_chain n kept))
+  -- a block of a version in use isn't put
+  pub kept_put : (n : ℕ) → IsKept size c n → IsPutIn puts n → ⊥
+  kept_put n kept = published_elsewhere size c.known c'.known p.prime.ppn p.prime.file v.at _
+      (before is.old) puts whole.map is.published n kept.from (kept_chain n kept)

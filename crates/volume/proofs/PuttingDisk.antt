@@ -78,37 +78,39 @@ same_bits size k t m c same h = record {
   bits = λ n. h.bits n ∙ sym (same n);
 }
 
-module _ (s s' : DiskState) (k : Known) (blocks : List ℕ) (aligned : IsAligned k) (at : IsAtRest s k) (size : s'.size
-    ≡ s.size) (modified : Modifies (IsOwn k.table blocks) s s') (gate : bit k.table 3 ≡ 1) where
-  ignores : Ignores (IsOwn k.table blocks) (IsHeld s.size k at.map)
-  ignores = ignores_clear s.size k at.map (IsOwn k.table blocks) aligned (λ n own. own.clear)
+-- Blocks are written whose bits are clear.
+module _ (s s' : DiskState) (k : Known) (In : ℕ → Type 0) (clear : (n : ℕ) → In n → bit k.table n ≡ 0)
+    (aligned : IsAligned k) (at : IsAtRest s k) (size : s'.size ≡ s.size) (modified : Modifies In s s')
+    (gate : bit k.table 3 ≡ 1) where
+  ignores : Ignores In (IsHeld s.size k at.map)
+  ignores = ignores_clear s.size k at.map In aligned clear
 
-  not_gate : IsOwn k.table blocks 3 → ⊥
-  not_gate own = let clear = own.clear in omega arith
+  not_gate : In 3 → ⊥
+  not_gate is = let none = clear 3 is in omega arith
 
-  rest_after : AtRest s' (IsHeld s.size k at.map)
-  rest_after = quiet_rest (IsOwn k.table blocks) s s' (IsHeld s.size k at.map) ignores not_gate size at.rest modified
+  pub quiet_at_rest : AtRest s' (IsHeld s.size k at.map)
+  quiet_at_rest = quiet_rest In s s' (IsHeld s.size k at.map) ignores not_gate size at.rest modified
 
   -- a crash finds the files from before
-  pub put_quiet : (f : Files File) → RestsAt s f → ((c : Contents) → s.left_since s.clock c → MayLeave s c)
+  pub quiet_finds : (f : Files File) → RestsAt s f → ((c : Contents) → s.left_since s.clock c → MayLeave s c)
       → LeavesOnly s s' (λ c. StandsOn (pack_of s) c f)
-  put_quiet f rests only_now =
+  quiet_finds f rests only_now =
       let same = files_are s k at.map f at.rest rests in
       leaves_weaker s s' (SettlesTo s.size (IsHeld s.size k at.map)) (λ c. StandsOn (pack_of s) c f)
-      (quiet_stands s s' (IsHeld s.size k at.map) (quiet_leaves (IsOwn k.table blocks) s s'
-      (IsHeld s.size k at.map) ignores not_gate at.rest only_now modified))
+      (quiet_stands s s' (IsHeld s.size k at.map) (quiet_leaves In s s' (IsHeld s.size k at.map) ignores not_gate
+      at.rest only_now modified))
       (λ c held. (held.0, held.1, (at.map, held.2.stands, same, pack_held s k at.map at.rest)))
 
   -- and so does a start
-  pub put_rests : (f : Files File) → RestsAt s f → RestsAt s' f
-  put_rests f rests = rest_for s s' k at.map f size (files_are s k at.map f at.rest rests) rest_after
+  pub quiet_rests : (f : Files File) → RestsAt s f → RestsAt s' f
+  quiet_rests f rests = rest_for s s' k at.map f size (files_are s k at.map f at.rest rests) quiet_at_rest
 
   -- what is in core is still the disk's
   pub put_at : (t : TableState) → ((n : ℕ) → bit t n ≡ bit k.table n)
       → (m : DiskMap) × AtRest s' (IsHeld s.size (record k { table = t }) m) × (m.layout ≡ (pack_of s).layout)
   put_at t same = (
     at.map,
-    record { shut = rest_after.shut; all = λ c left. same_bits s.size k t at.map c same (rest_after.all c left) },
+    record { shut = quiet_at_rest.shut; all = λ c left. same_bits s.size k t at.map c same (quiet_at_rest.all c left) },
     pack_held s k at.map at.rest,
   )
 
@@ -254,14 +256,14 @@ module _ {s s' : DiskState} {c : VolumeCore} (sound : IsSoundCore s c false) (sa
       (sound.dated (same.was_honest h') refl key p was))
       (λ other. sound.dated (same.was_honest h') refl k q (sym (others k other) ∙ there)) (cases_eq k key))
       (λ h' ok. let h : s.honest = same.was_honest h' in
-      put_at s s' c.known p.version.blocks sound.whole.map.aligned (sound.rest h refl) same.size
-      (modified h') gate_set t (λ n. ap (λ (u : TableState). bit u n) is.1.table))
+      put_at s s' c.known (IsOwn c.known.table p.version.blocks) (λ n own. own.clear) sound.whole.map.aligned
+      (sound.rest h refl) same.size (modified h') gate_set t (λ n. ap (λ (u : TableState). bit u n) is.1.table))
 
   pub crash_finds : s'.honest → (f : Files File) → RestsAt s f
       → ((d : Contents) → s.left_since s.clock d → MayLeave s d) → LeavesOnly s s' (λ d. StandsOn (pack_of s) d f)
-  crash_finds h f rests only_now = put_quiet s s' c.known p.version.blocks sound.whole.map.aligned
-      (sound.rest (same.was_honest h) refl) same.size (modified h) gate_set f rests only_now
+  crash_finds h = quiet_finds s s' c.known (IsOwn c.known.table p.version.blocks) (λ n own. own.clear)
+      sound.whole.map.aligned (sound.rest (same.was_honest h) refl) same.size (modified h) gate_set
 
   pub rest_finds : s'.honest → (f : Files File) → RestsAt s f → RestsAt s' f
-  rest_finds h f rests = put_rests s s' c.known p.version.blocks sound.whole.map.aligned
-      (sound.rest (same.was_honest h) refl) same.size (modified h) gate_set f rests
+  rest_finds h = quiet_rests s s' c.known (IsOwn c.known.table p.version.blocks) (λ n own. own.clear)
+      sound.whole.map.aligned (sound.rest (same.was_honest h) refl) same.size (modified h) gate_set

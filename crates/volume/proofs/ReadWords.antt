@@ -26,7 +26,8 @@ use Rattle.volume.specs.Known.{blocks_reached, IsHeld}
 use Rattle.volume.specs.Live.{VolumeCore, slot, held_reaches, IsWholePending, IsWholeCore}
 use Rattle.volume.specs.Pins.{version_under, IsReadable}
 use Rattle.volume.specs.Rest.{AreDated, HasSomeBody, IsSoundCore, RestsAt}
-use Rattle.volume.proofs.LiveBodies.{read_used, body_stays}
+use Rattle.volume.proofs.KeptBlocks.{read_kept}
+use Rattle.volume.proofs.LiveBodies.{body_stays}
 use Rattle.volume.proofs.Pinning.{total_at, each_slot, current_stands}
 use Rattle.volume.proofs.Starting.{rest_read}
 use Rattle.volume.proofs.Packs.{homes_layout, rests_in}
@@ -71,7 +72,7 @@ module _ (size : ℕ) (c : VolumeCore) (whole : IsWholeCore size c) (table : IsT
   read_inside : (key : ℕ) (v : LiveVersion) → slot c.live key ≡ Some v → 0 < v.readers → (n : ℕ)
       → 0 < times n v.version.blocks → InSpace size n
   read_inside key v is some n there = record {
-    from = (read_used size c whole key v is some n there).from;
+    from = (read_kept size c whole key v is some n there).from;
     below = by v.is_current refl;
   }
     where

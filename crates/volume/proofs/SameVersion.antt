@@ -1,18 +1,18 @@
 -- A version is the same but for what its prime block says, and the others stay.
-use Rattle.std.proofs.Common.{◌≡◌, ℕ, ⊎_elim, true, false, Option, Some, None, refl, sym, ap, subst}
+use Rattle.std.proofs.Common.{◌≡◌, ℕ, ⊎_elim, true, Option, Some, None, refl, sym, ap, subst}
 use Rattle.std.proofs.Common.{◌∙◌, arith}
 use Rattle.std.proofs.lemmas.Bool.{cases_eq}
 use Rattle.words36.specs.declared.names.FileName.{FileName}
-use Rattle.blockdisk.specs.Disk.{Contents, DiskState}
+use Rattle.blockdisk.specs.Disk.{Contents}
 use Rattle.meaning.specs.Maps.{total}
 use Rattle.meaning.proofs.MapLaws.{some_same}
 use Rattle.alloctab.specs.TableState.{holds}
 use Rattle.retrieval.specs.declared.prime.Prime.{Prime}
 use Rattle.volume.specs.Known.{prime_in}
 use Rattle.volume.specs.Live.{VolumeCore, slot, pending_at, IsCurrentAt}
-use Rattle.volume.specs.Rest.{HasSomeBody, IsSoundCore, KeepsRead, KeepsEachWritten}
+use Rattle.volume.specs.Rest.{HasSomeBody}
 use Rattle.volume.specs.declared.live.LiveVersion.{LiveVersion}
-use Rattle.volume.proofs.LiveBodies.{HaveBodies, body_stays}
+use Rattle.volume.proofs.LiveBodies.{HaveBodies}
 use Rattle.volume.proofs.LiveTotals.{total_updated}
 
 module _ (c c' : VolumeCore) (key : ℕ) (v : LiveVersion) (prime : Prime) (there : slot c.live key ≡ Some v)
@@ -28,23 +28,16 @@ module _ (c c' : VolumeCore) (key : ℕ) (v : LiveVersion) (prime : Prime) (ther
       ))
       (λ other. (u.prime, others k other ∙ at)) (cases_eq k key)
 
-  pub versions_have : (s : DiskState) (d : Contents) → IsSoundCore s c false → s.honest → c'.pending ≡ c.pending
-      → KeepsRead s.contents d c → KeepsEachWritten s.contents d c → HaveBodies d c'
-  versions_have s d sound h pending readers writers = record {
+  pub versions_have : (d : Contents) → c'.pending ≡ c.pending → HaveBodies d c → HaveBodies d c'
+  versions_have d pending had = record {
     read = λ k u at some. ⊎_elim
         (λ (is_key : k ≡ key).
         let of : record v { prime = prime } ≡ u = some_same (sym here ∙ sym (ap (slot c'.live) is_key) ∙ at) in
         let reads = ap (λ (x : LiveVersion). x.readers) of in
-        subst (λ (x : LiveVersion). HasSomeBody d x.version) of
-        (body_stays s.contents d v.version (sound.read h refl key v there (omega arith))
-        (readers key v there (omega arith))))
-        (λ other.
-        let was : slot c.live k ≡ Some u = sym (others k other) ∙ at in
-        body_stays s.contents d u.version (sound.read h refl k u was some) (readers k u was some))
+        subst (λ (x : LiveVersion). HasSomeBody d x.version) of (had.read key v there (omega arith)))
+        (λ other. had.read k u (sym (others k other) ∙ at) some)
         (cases_eq k key);
-    written = λ k q at.
-        let was : pending_at c.pending k ≡ Some q = ap (λ l. pending_at l k) (sym pending) ∙ at in
-        body_stays s.contents d q.version (sound.written h refl k q was) (writers k q was);
+    written = λ k q at. had.written k q (ap (λ l. pending_at l k) (sym pending) ∙ at);
   }
 
   pub version_total : (f : Option LiveVersion → ℕ) → f None ≡ 0 → f (Some (record v { prime = prime })) ≡ f (Some v)

@@ -1,5 +1,5 @@
 -- A volume stays sound if its core does: its layout is that of the home copies, which stay.
-use Rattle.std.proofs.Common.{◌≡◌, Bool, true, false, Result, Ok, Err, IsErrOf, IfErr, refl, sym, ◌∙◌}
+use Rattle.std.proofs.Common.{◌≡◌, Bool, true, false, Result, IsErrOf, sym, ◌∙◌}
 use Rattle.blockdisk.specs.Disk.{DiskState}
 use Rattle.meaning.specs.declared.layout.Layout.{Layout}
 use Rattle.volume.specs.HomeBlocks.{KeepsHomes}
@@ -26,11 +26,6 @@ volume_goes_on s s' c c' failed failed' layout was core size honest alive homes 
   layout_is = λ h ok. was.layout_is (honest h) (alive ok) ∙ sym (homes_layout s s' size (homes h ok));
 }
 
--- once it has failed nothing is said of the disk
-pub volume_ends : (s : DiskState) (c : VolumeCore) (layout : Layout) → IsSoundCore s c true
-    → IsSoundVolume s c true layout
-volume_ends s c layout core = record { core = core; layout_is = λ h ok. absurd (not_both true refl ok) }
-
 -- Whether it serves still.
 
 pub still_serves : {T : Type 0} (result : Result T CallError) (failed failed' : Bool)
@@ -39,8 +34,3 @@ pub still_serves : {T : Type 0} (result : Result T CallError) (failed failed' : 
     → failed' ≡ false → failed ≡ false
 still_serves result failed failed' device gone still ok =
     sym (still (λ is. not_both failed' (device is) ok) (λ is. not_both failed' (gone is) ok)) ∙ ok
-
-pub no_device : {T : Type 0} (result : Result T CallError) (failed : Bool) → IfErr result (λ error. failed ≡ true)
-    → failed ≡ false → IsErrOf result Device → ⊥
-no_device (Ok x) failed ended ok is = cc
-no_device (Err error) failed ended ok is = not_both failed ended ok

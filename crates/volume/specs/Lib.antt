@@ -27,3 +27,4 @@ pub mod PrimeBlocks
 pub mod Quotas
 pub mod Migrating
 pub mod Charging
+pub mod Edits

@@ -1,10 +1,10 @@
 -- What a directory that is made does to core, to the table and to the disk.
 use Rattle.std.specs.Prelude.{◌≡◌, ◌⊎◌, ℕ, ◌+◌, ◌-◌, ◌*◌, ◌/◌, ◌<◌, ◌≤◌, ◌==◌, if◌then◌else◌, true, false, List, []}
-use Rattle.std.specs.Prelude.{◌∷◌, ◌++◌, length, replicate, option_to_list, Some, None, IsSome}
+use Rattle.std.specs.Prelude.{◌∷◌, ◌++◌, length, replicate, option_to_list, None, IsSome}
 use Rattle.std.specs.List.{AllByRecursion}
 use Rattle.std.specs.Ordering.{nat_cmp}
 use Rattle.std.specs.FinMap.Entries.{find}
-use Rattle.blockdisk.specs.Disk.{Contents, SameOutside}
+use Rattle.blockdisk.specs.Disk.{Contents}
 use Rattle.meaning.specs.declared.put.Put.{Put}
 use Rattle.meaning.specs.Maps.{insert, empty, times}
 use Rattle.meaning.specs.Files.{File, Files}
@@ -19,16 +19,7 @@ use Rattle.alloctab.specs.TableState.{TableState, IsTable, IsFree, IsChanged, bi
 use Rattle.directory.specs.Chains.{ChainState, IsChain}
 use Rattle.directory.specs.Edits.{PutsChain}
 use Rattle.volume.specs.declared.make.FreshBlocks.{FreshBlocks}
-use Rattle.volume.specs.Known.{KnownDirectory, Known, IsHeld}
-
--- Any transaction of quiet writes and one commit.
-
--- The puts lead from what one map has to what another has, once the fresh block has its words and all
--- else is as before.
-abbrev pub LeadsTo : ℕ → Contents → ℕ → List ℕ → List Put → Known → DiskMap → Known → DiskMap → Type 0
-LeadsTo size before fresh words puts k m k' m' =
-    (c : Contents) → SameOutside (λ n. n ≡ fresh) before c → IsHeld size k m c → c fresh ≡ Some words
-    → IsHeld size k' m' (with_puts puts c)
+use Rattle.volume.specs.Known.{KnownDirectory, Known}
 
 -- as many directories as entries of the master directory
 abbrev pub IsAligned : Known → Type 0

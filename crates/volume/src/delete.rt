@@ -35,7 +35,7 @@ use crate::current::{place_of, retire};
 use crate::live::{LiveDirectory, LiveMap};
 use crate::map::Volume;
 use crate::pins::find_version;
-use crate::transaction::commit_puts;
+use crate::transaction::commit_edit;
 use alloctab::Table;
 use blockdisk::Disk;
 use changeset::ChangeSet;
@@ -187,12 +187,6 @@ impl<D: Disk> Volume<D> {
         }
         let mut set = ChangeSet::new();
         remove_in_core(&mut self.map, ppn, name, &mut set);
-        match commit_puts(&mut self.disk, &set) {
-            Ok(()) => Ok(()),
-            Err(_) => {
-                self.failed = true; // nothing of core is used any more
-                Err(CallError::Device)
-            }
-        }
+        commit_edit(&mut self.disk, &mut self.failed, &set)
     }
 }

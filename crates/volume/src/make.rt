@@ -29,7 +29,7 @@ ghost use Rattle.volume.specs.declared.error.CallError.TheVariants.{Refused, Dev
 use crate::CallError;
 use crate::live::{LiveDirectory, LiveMap};
 use crate::map::Volume;
-use crate::transaction::write_and_commit;
+use crate::transaction::commit_edit;
 use alloctab::Table;
 use blockdisk::{Disk, NoMemory};
 use changeset::ChangeSet;
@@ -294,8 +294,8 @@ impl<D: Disk> Volume<D> {
             Ok(first) => first,
             Err(error) => return Err(error),
         };
-        match write_and_commit(&mut self.disk, first, &[Word::ZERO; BLOCK_WORDS], &set) {
-            Ok(()) => Ok(()),
+        match self.disk.write(first, &[Word::ZERO; BLOCK_WORDS]) {
+            Ok(()) => commit_edit(&mut self.disk, &mut self.failed, &set),
             Err(_) => {
                 self.failed = true; // nothing of core is used any more
                 Err(CallError::Device)

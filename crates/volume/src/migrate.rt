@@ -21,9 +21,8 @@ use crate::VolumeError;
 use crate::home::{Home, home_block};
 use crate::map::Volume;
 use crate::start::read_volume;
-use crate::transaction::commit_puts;
 use blockdisk::Disk;
-use changeset::ChangeSet;
+use changeset::{ChangeSet, LogError, commit};
 use meaning::layout::{HOME_COPIES, Layout};
 use std::alloc::Global;
 use words36::Block;
@@ -100,9 +99,10 @@ fn raise<D: Disk>(disk: &mut D, master: u32) -> Result<(), VolumeError>
         master,
     };
     let words = home_block(disk.blocks(), home);
-    match commit_puts(disk, &home_puts(&words)) {
+    match commit(disk, &home_puts(&words)) {
         Ok(()) => Ok(()),
-        Err(_) => Err(VolumeError::Device),
+        Err(LogError::Device) => Err(VolumeError::Device),
+        Err(_) => unreachable!(), // the log has room for two, and a commit reads no log
     }
 }
 

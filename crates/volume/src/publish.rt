@@ -34,7 +34,7 @@ use crate::live::LiveMap;
 use crate::map::Volume;
 use crate::put::{growth, length_with, put_in_core};
 use crate::supplies::{Supplies, find_supplies};
-use crate::transaction::commit_puts;
+use crate::transaction::commit_edit;
 use blockdisk::Disk;
 use changeset::ChangeSet;
 use meaning::ErrorCode;
@@ -144,13 +144,7 @@ fn publish_written<D: Disk>(
         *failed = true; // nothing of core is used any more
         return Err(CallError::Device);
     }
-    match commit_puts(disk, &set) {
-        Ok(()) => Ok(()),
-        Err(_) => {
-            *failed = true; // nothing of core is used any more
-            Err(CallError::Device)
-        }
-    }
+    commit_edit(disk, failed, &set)
 }
 
 impl<D: Disk> Volume<D> {

@@ -18,6 +18,7 @@ ghost use Rattle.retrieval.specs.declared.prime.Prime.{Prime as PrimeValue};
 ghost use Rattle.volume.specs.Beginning.{entries_with, IsDirectoryOf};
 ghost use Rattle.volume.specs.Claims.{claims};
 ghost use Rattle.volume.specs.Cores.{master_view};
+ghost use Rattle.volume.specs.Edits.{IsEdited};
 ghost use Rattle.volume.specs.HomeBlocks.{HasHomesFrom, KeepsHomes};
 ghost use Rattle.volume.specs.Known.{KnownDirectory};
 ghost use Rattle.volume.specs.Live.{slot, IsWholeCore};
@@ -44,7 +45,7 @@ use crate::pins::find_version;
 use crate::query::directory_place;
 use crate::rename_within::{move_version, prime_of, read_prime};
 use crate::supplies::{EntrySupplies, find_entry_supplies};
-use crate::transaction::commit_puts;
+use crate::transaction::commit_edit;
 use alloctab::Table;
 use blockdisk::Disk;
 use changeset::ChangeSet;
@@ -220,7 +221,8 @@ fn move_across<D: Disk>(
     requires unclaimed { claims (core_of core.old).pending (place_of ppn name.now) ≡ false }
 
     // What it does to core and disk.
-    ensures sound { IsSoundCore (D.state disk.new) (core_of core.new) failed.new }
+    ensures edited { IsEdited (D.state disk.old) (D.state disk.new) (core_of core.old) (core_of core.new)
+        (λ f. files_moved f ppn name.now to_ppn to.now protection) failed.new result }
     ensures moved { OnOk result ((v : LiveVersion) × (words : List ℕ) × (puts : List Put)
         × MovesAcross (D.state disk.old).size (core_of core.old) (core_of core.new) ppn name.now to_ppn to.now
         protection key v words puts × ((D.state disk.new).honest → (D.state disk.old).contents v.at ≡ Some words)
@@ -228,19 +230,6 @@ fn move_across<D: Disk>(
     ensures pending { (core_of core.new).pending ≡ (core_of core.old).pending }
     ensures held { (k : ℕ) (v : LiveVersion) → slot (core_of core.old).live k ≡ Some v
         → (prime : PrimeValue) × (slot (core_of core.new).live k ≡ Some (record v { prime = prime })) }
-    ensures crash { (D.state disk.new).honest → (f : Files File) → RestsAt (D.state disk.old) f
-        → LeavesOnly (D.state disk.old) (D.state disk.new) (StandsForOneOf (pack_of (D.state disk.old)) f
-        (files_moved f ppn name.now to_ppn to.now protection)) }
-    ensures done { (D.state disk.new).honest → (f : Files File) → RestsAt (D.state disk.old) f
-        → OnOk result (RestsAt (D.state disk.new) (files_moved f ppn name.now to_ppn to.now protection)) }
-    ensures readers { (D.state disk.new).honest → (IsErrOf result Device → ⊥)
-        → KeepsRead (D.state disk.old).contents (D.state disk.new).contents (core_of core.old) }
-    ensures writers { (D.state disk.new).honest → (IsErrOf result Device → ⊥)
-        → KeepsEachWritten (D.state disk.old).contents (D.state disk.new).contents (core_of core.old) }
-    ensures homes { (D.state disk.new).honest
-        → LeavesOnly (D.state disk.old) (D.state disk.new) (HasHomesFrom (D.state disk.old)) }
-    ensures home_blocks { (D.state disk.new).honest → (IsErrOf result Device → ⊥)
-        → KeepsHomes (D.state disk.old).contents (D.state disk.new).contents }
 
     // Which refusal comes when, and what it leaves.
     ensures only { IfErr result (λ error. (error ≡ Device) ⊎ (error ≡ Failed)) }
@@ -249,7 +238,6 @@ fn move_across<D: Disk>(
     ensures still { OnOk result (failed.new ≡ false) }
     ensures counted { IsErrOf result Device → (D.state disk.new).failures ≡ one_more (D.state disk.old).failures }
     ensures served { (IsErrOf result Device → ⊥) → (D.state disk.new).failures ≡ (D.state disk.old).failures }
-    ensures same { SameDisk (D.state disk.old) (D.state disk.new) }
 {
     let _booked = core.table.booked(); // any table is one as it should be
     let at = prime_of(&core.versions, key);
@@ -264,13 +252,7 @@ fn move_across<D: Disk>(
     move_to_directory(
         core, ppn, name, to_ppn, to, protection, key, supplies, &words, &mut set,
     );
-    match commit_puts(disk, &set) {
-        Ok(()) => Ok(()),
-        Err(_) => {
-            *failed = true; // nothing of core is used any more
-            Err(CallError::Device)
-        }
-    }
+    commit_edit(disk, failed, &set)
 }
 
 impl<D: Disk> Volume<D> {

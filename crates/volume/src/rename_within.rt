@@ -20,6 +20,7 @@ ghost use Rattle.retrieval.specs.declared.prime.Prime.{Prime as PrimeValue};
 ghost use Rattle.volume.specs.Beginning.{IsDirectoryOf};
 ghost use Rattle.volume.specs.Claims.{claims};
 ghost use Rattle.volume.specs.Cores.{file_view};
+ghost use Rattle.volume.specs.Edits.{IsEdited};
 ghost use Rattle.volume.specs.HomeBlocks.{HasHomesFrom, KeepsHomes};
 ghost use Rattle.volume.specs.Known.{KnownDirectory};
 ghost use Rattle.volume.specs.Live.{slot, IsWholeCore};
@@ -38,7 +39,7 @@ use crate::current::{file_entry, place_of};
 use crate::live::{LiveDirectory, LiveMap, LiveVersion};
 use crate::map::Volume;
 use crate::pins::find_version;
-use crate::transaction::commit_puts;
+use crate::transaction::commit_edit;
 use blockdisk::{Disk, Fault};
 use changeset::ChangeSet;
 use directory::FileEntry;
@@ -318,7 +319,8 @@ fn move_within<D: Disk>(
     requires unclaimed { claims (core_of map.old).pending (place_of ppn name.now) ≡ false }
 
     // What it does to core and disk.
-    ensures sound { IsSoundCore (D.state disk.new) (core_of map.new) failed.new }
+    ensures edited { IsEdited (D.state disk.old) (D.state disk.new) (core_of map.old) (core_of map.new)
+        (λ f. files_moved f ppn name.now ppn to.now protection) failed.new result }
     ensures moved { OnOk result ((v : LiveVersion) × (words : List ℕ) × (puts : List Put)
         × MovesWithin (D.state disk.old).size (core_of map.old) (core_of map.new) ppn name.now to.now protection key v
         words puts × ((D.state disk.new).honest → (D.state disk.old).contents v.at ≡ Some words)
@@ -326,19 +328,6 @@ fn move_within<D: Disk>(
     ensures pending { (core_of map.new).pending ≡ (core_of map.old).pending }
     ensures held { (k : ℕ) (v : LiveVersion) → slot (core_of map.old).live k ≡ Some v
         → (prime : PrimeValue) × (slot (core_of map.new).live k ≡ Some (record v { prime = prime })) }
-    ensures crash { (D.state disk.new).honest → (f : Files File) → RestsAt (D.state disk.old) f
-        → LeavesOnly (D.state disk.old) (D.state disk.new) (StandsForOneOf (pack_of (D.state disk.old)) f
-        (files_moved f ppn name.now ppn to.now protection)) }
-    ensures done { (D.state disk.new).honest → (f : Files File) → RestsAt (D.state disk.old) f
-        → OnOk result (RestsAt (D.state disk.new) (files_moved f ppn name.now ppn to.now protection)) }
-    ensures readers { (D.state disk.new).honest → (IsErrOf result Device → ⊥)
-        → KeepsRead (D.state disk.old).contents (D.state disk.new).contents (core_of map.old) }
-    ensures writers { (D.state disk.new).honest → (IsErrOf result Device → ⊥)
-        → KeepsEachWritten (D.state disk.old).contents (D.state disk.new).contents (core_of map.old) }
-    ensures homes { (D.state disk.new).honest
-        → LeavesOnly (D.state disk.old) (D.state disk.new) (HasHomesFrom (D.state disk.old)) }
-    ensures home_blocks { (D.state disk.new).honest → (IsErrOf result Device → ⊥)
-        → KeepsHomes (D.state disk.old).contents (D.state disk.new).contents }
 
     // Which refusal comes when, and what it leaves.
     ensures only { IfErr result (λ error. (error ≡ Device) ⊎ (error ≡ Failed)) }
@@ -347,7 +336,6 @@ fn move_within<D: Disk>(
     ensures still { OnOk result (failed.new ≡ false) }
     ensures counted { IsErrOf result Device → (D.state disk.new).failures ≡ one_more (D.state disk.old).failures }
     ensures served { (IsErrOf result Device → ⊥) → (D.state disk.new).failures ≡ (D.state disk.old).failures }
-    ensures same { SameDisk (D.state disk.old) (D.state disk.new) }
 {
     let _booked = map.table.booked(); // any table is one as it should be
     let at = prime_of(&map.versions, key);
@@ -360,13 +348,7 @@ fn move_within<D: Disk>(
     };
     let mut set = ChangeSet::new();
     move_in_core(map, ppn, name, to, protection, key, &words, &mut set);
-    match commit_puts(disk, &set) {
-        Ok(()) => Ok(()),
-        Err(_) => {
-            *failed = true; // nothing of core is used any more
-            Err(CallError::Device)
-        }
-    }
+    commit_edit(disk, failed, &set)
 }
 
 impl<D: Disk> Volume<D> {

@@ -25,7 +25,7 @@ use crate::CallError;
 use crate::live::LiveMap;
 use crate::map::Volume;
 use crate::query::directory_place;
-use crate::transaction::commit_puts;
+use crate::transaction::commit_edit;
 use blockdisk::Disk;
 use changeset::ChangeSet;
 use directory::MasterEntry;
@@ -123,12 +123,6 @@ impl<D: Disk> Volume<D> {
         };
         let mut set = ChangeSet::new();
         limit_directory(&mut self.map, ppn, quota, place, &mut set);
-        match commit_puts(&mut self.disk, &set) {
-            Ok(()) => Ok(()),
-            Err(_) => {
-                self.failed = true; // nothing of core is used any more
-                Err(CallError::Device)
-            }
-        }
+        commit_edit(&mut self.disk, &mut self.failed, &set)
     }
 }

@@ -5,7 +5,6 @@ use Rattle.volume.specs.Cores.{file_view}
 use Rattle.volume.specs.Known.{KnownDirectory}
 use Rattle.volume.specs.LiveCores.{core_of, live_directory}
 use Rattle.volume.proofs.Beginnings.{directory_at, same_directory}
-use Rattle.volume.proofs.UnmakingTransactions.{never_err}
 use Rattle.volume.proofs.delete_dir.empty_place.Goals as goal
 use Rattle.volume.proofs.delete_dir.empty_place.Goals.{then-entries-gt0-via-then-entries-gt0}
 use Rattle.volume.proofs.delete_dir.empty_place.Goals.{then-entries-gt0-via-else-entries-gt0+then-created-gt0}
@@ -56,7 +55,7 @@ returns-clause-filled c =
     let created = c.creations-created.ensures in
     let none = c.if-entries-gt0.false in
     let also = c.if-created-gt0.false in (
-      λ is. absurd (never_err c.in-Ok.place _ is),
+      λ is. absurd (cc),
       λ has. absurd (let same = ap (λ (d : KnownDirectory). entries_with (core_of m) d c.args.ppn)
           (same_directory m.table.size (core_of m) c.args.ppn c.in-Ok.place found.0 has.0
           (live_directory m.versions.slots x) c.requires.whole has.1 found.1.is at) in let more = has.2 in omega arith),

@@ -1,16 +1,19 @@
-use Rattle.std.proofs.Common.{ℕ, Bool, sym, subst, ◌∙◌, refl}
+use Rattle.std.proofs.Common.{◌≡◌, ℕ, List, length, Some, true, Err, refl, sym, subst, ◌∙◌}
 use Rattle.std.specs.List.{AllByRecursion}
+use Rattle.meaning.specs.Files.{File, Files}
 use Rattle.meaning.specs.Log.{IsTarget, targets}
+use Rattle.meaning.specs.Retrieval.{HasBody}
+use Rattle.volume.specs.Edits.{IsEdited}
 use Rattle.volume.specs.Live.{pending_at}
 use Rattle.volume.specs.LiveCores.{core_of}
-use Rattle.volume.specs.Rest.{IsSoundCore}
+use Rattle.volume.specs.Publishing.{file_of, files_published}
+use Rattle.volume.specs.declared.error.CallError.TheVariants.{Device}
+use Rattle.volume.specs.declared.pending.PendingVersion.{PendingVersion}
 use Rattle.volume.proofs.PuttingCore.{some_of}
 use Rattle.volume.proofs.PublishingBlocks.{made_current_of, retrieval_inside, retrieval_apart, retrieval_nonzero}
 use Rattle.volume.proofs.PublishingBlocks.{version_words, version_enough, version_fits, puts_in_range}
-use Rattle.volume.proofs.PublishingTransactions.{ok_is, mid_shut, written_failed, written_crash, committed_crash}
-use Rattle.volume.proofs.PublishingTransactions.{committed_done, committed_readers, committed_writers, committed_failed}
-use Rattle.volume.proofs.PublishingTransactions.{committed_sound}
-use Rattle.volume.proofs.PublishingHomes.{written_homes, committed_homes, committed_blocks}
+use Rattle.volume.proofs.PublishingTransactions.{ok_is, published_ended, published_edited, published_sound}
+use Rattle.volume.proofs.publish.publish_written.Given
 use Rattle.volume.proofs.publish.publish_written.Goals as goal
 
 pub write_retrieval_blocks-written-requires-clause-inside :
@@ -55,160 +58,89 @@ write_retrieval_blocks-written-requires-clause-fit g c =
     let made = made_current_of c.requires.sound (c.make_current-current.ensures there.0 there.1) c.in-Some.ensures in
     version_fits c.requires.sound.whole made
 
-pub returns-then-is_err-clause-sound : goal.returns-then-is_err-clause-sound
-returns-then-is_err-clause-sound g c =
+-- Where the retrieval blocks were not written.
+
+ended : (g : Given.Over) (c : goal.Then-is_err g) (become : Files File → Files File)
+    → IsEdited (g.D.Disk.state c.args.disk.now) (g.D.Disk.state c.write_retrieval_blocks-written.new.disk)
+    (core_of c.args.map.now) (core_of c.make_current-current.new.core) become true (Err Device)
+ended g c become =
     let there = some_of (pending_at (core_of c.args.map.now).pending c.args.key) c.requires.there in
     let made = made_current_of c.requires.sound (c.make_current-current.ensures there.0 there.1) c.in-Some.ensures in
-    written_failed c.requires.sound made c.write_retrieval_blocks-written.ensures.same
+    published_ended c.requires.sound made (λ h d left. g.met.D.Disk.only_now c.args.disk.now d h left)
+    c.write_retrieval_blocks-written.ensures.same c.write_retrieval_blocks-written.ensures.modified become
+
+pub returns-then-is_err-clause-sound : goal.returns-then-is_err-clause-sound
+returns-then-is_err-clause-sound g c = (ended g c (λ f. f)).sound
 
 pub returns-then-is_err-clause-crash : goal.returns-then-is_err-clause-crash
 returns-then-is_err-clause-crash g c h f rests p is body long has =
-    let made = made_current_of c.requires.sound (c.make_current-current.ensures p is) c.in-Some.ensures in
-    let same = c.write_retrieval_blocks-written.ensures.same in
-    written_crash c.requires.sound made same (same.was_honest h)
-    (c.write_retrieval_blocks-written.ensures.modified h) f _ rests
-    (λ d left. g.met.D.Disk.only_now c.args.disk.now d (same.was_honest h) left)
+    (ended g c (λ f. files_published f p.prime.ppn p.prime.file (file_of p.prime body))).crash h f rests
 
-pub returns-then-is_err-clause-readers : goal.returns-then-is_err-clause-readers
-returns-then-is_err-clause-readers g c h served = absurd (served refl)
+pub returns-then-is_err-clause-homes : goal.returns-then-is_err-clause-homes
+returns-then-is_err-clause-homes g c = (ended g c (λ f. f)).homes
 
-pub returns-then-is_err-clause-writers : goal.returns-then-is_err-clause-writers
-returns-then-is_err-clause-writers g c h served = absurd (served refl)
+-- The change.
 
-pub commit_puts-requires-clause-in_range : goal.commit_puts-requires-clause-in_range
-commit_puts-requires-clause-in_range g c =
+pub commit_edit-requires-clause-in_range : goal.commit_edit-requires-clause-in_range
+commit_edit-requires-clause-in_range g c =
     let there = some_of (pending_at (core_of c.args.map.now).pending c.args.key) c.requires.there in
     let made = made_current_of c.requires.sound (c.make_current-current.ensures there.0 there.1) c.in-Some.ensures in
     subst (λ (n : ℕ). AllByRecursion (IsTarget n) (targets c.make_current-current.new.set))
     (sym c.write_retrieval_blocks-written.ensures.same.size) (puts_in_range c.requires.sound.whole made)
 
-pub returns-in-Ok-clause-sound : goal.returns-in-Ok-clause-sound
-returns-in-Ok-clause-sound g c =
-    let s' = g.D.Disk.state c.commit_puts.new.disk in
-    let new = core_of c.make_current-current.new.core in
-    let there = some_of (pending_at (core_of c.args.map.now).pending c.args.key) c.requires.there in
-    let made = made_current_of c.requires.sound (c.make_current-current.ensures there.0 there.1) c.in-Some.ensures in
-    subst (λ (b : Bool). IsSoundCore s' new b) (sym c.requires.alive)
-    (committed_sound c.requires.sound made c.write_retrieval_blocks-written.ensures.same c.commit_puts.ensures.same
-    c.write_retrieval_blocks-written.ensures.modified
-    (λ h layout dated. ok_is c.write_retrieval_blocks-written.result _ (sym c.is_err.ensures.value
-    ∙ c.if-is_err.false) (c.write_retrieval_blocks-written.ensures.written h layout dated))
-    c.in-Ok.ensures.modified c.in-Ok.ensures.all c.in-Ok.ensures.settled c.in-Ok.ensures.shut)
-
-pub returns-in-Ok-clause-crash : goal.returns-in-Ok-clause-crash
-returns-in-Ok-clause-crash g c h f rests p is body long has =
+changed : (g : Given.Over) (c : goal.After-commit_edit g) (p : PendingVersion)
+    → pending_at (core_of c.args.map.now).pending c.args.key ≡ Some p → (body : List ℕ)
+    → length body ≡ p.version.words
+    → ((g.D.Disk.state c.args.disk.now).honest
+    → HasBody (g.D.Disk.state c.args.disk.now).contents p.version.blocks body)
+    → IsEdited (g.D.Disk.state c.args.disk.now) (g.D.Disk.state c.commit_edit.new.disk) (core_of c.args.map.now)
+    (core_of c.make_current-current.new.core)
+    (λ f. files_published f p.prime.ppn p.prime.file (file_of p.prime body)) c.commit_edit.new.failed
+    c.commit_edit.result
+changed g c p is =
     let made = made_current_of c.requires.sound (c.make_current-current.ensures p is) c.in-Some.ensures in
-    let sound = c.requires.sound in
-    let same = c.write_retrieval_blocks-written.ensures.same in
-    let m = c.commit_puts.ensures.same.was_honest h in
-    let h₀ = same.was_honest m in
-    let modified = c.write_retrieval_blocks-written.ensures.modified m in
-    committed_crash sound made same h₀ modified (λ layout dated.
-    ok_is c.write_retrieval_blocks-written.result _ (sym c.is_err.ensures.value ∙ c.if-is_err.false)
-    (c.write_retrieval_blocks-written.ensures.written m layout dated)) body long has (g.D.Disk.state c.commit_puts.new.disk)
-    (c.commit_puts.ensures.crash h (mid_shut sound made same h₀ modified)) f rests
-    (λ d left. g.met.D.Disk.only_now c.args.disk.now d h₀ left)
+    let written = c.write_retrieval_blocks-written.ensures in
+    published_edited c.requires.sound made (λ h d left. g.met.D.Disk.only_now c.args.disk.now d h left) written.same
+    written.modified c.commit_edit.ensures
+    (λ m n dated. ok_is c.write_retrieval_blocks-written.result _ (sym c.is_err.ensures.value ∙ c.if-is_err.false)
+    (written.written m n dated))
 
-pub returns-in-Err-clause-crash : goal.returns-in-Err-clause-crash
-returns-in-Err-clause-crash g c h f rests p is body long has =
-    let made = made_current_of c.requires.sound (c.make_current-current.ensures p is) c.in-Some.ensures in
-    let sound = c.requires.sound in
-    let same = c.write_retrieval_blocks-written.ensures.same in
-    let m = c.commit_puts.ensures.same.was_honest h in
-    let h₀ = same.was_honest m in
-    let modified = c.write_retrieval_blocks-written.ensures.modified m in
-    committed_crash sound made same h₀ modified (λ layout dated.
-    ok_is c.write_retrieval_blocks-written.result _ (sym c.is_err.ensures.value ∙ c.if-is_err.false)
-    (c.write_retrieval_blocks-written.ensures.written m layout dated)) body long has (g.D.Disk.state c.commit_puts.new.disk)
-    (c.commit_puts.ensures.crash h (mid_shut sound made same h₀ modified)) f rests
-    (λ d left. g.met.D.Disk.only_now c.args.disk.now d h₀ left)
+-- for the words that the version has
+with_words : (g : Given.Over) (c : goal.After-commit_edit g) → (g.D.Disk.state c.commit_edit.new.disk).honest
+    → (become : Files File → Files File)
+    × IsEdited (g.D.Disk.state c.args.disk.now) (g.D.Disk.state c.commit_edit.new.disk) (core_of c.args.map.now)
+    (core_of c.make_current-current.new.core) become c.commit_edit.new.failed c.commit_edit.result
+with_words g c h' =
+    let there = some_of (pending_at (core_of c.args.map.now).pending c.args.key) c.requires.there in
+    let p = there.0 in
+    let h = c.write_retrieval_blocks-written.ensures.same.was_honest (c.commit_edit.ensures.same.was_honest h') in
+    let has = c.requires.sound.written h refl c.args.key p there.1 in (
+      λ f. files_published f p.prime.ppn p.prime.file (file_of p.prime has.0),
+      changed g c p there.1 has.0 has.1 (λ h. has.2),
+    )
 
-pub returns-in-Ok-clause-done : goal.returns-in-Ok-clause-done
-returns-in-Ok-clause-done g c h f rests p is body long has =
-    let made = made_current_of c.requires.sound (c.make_current-current.ensures p is) c.in-Some.ensures in
-    let sound = c.requires.sound in
-    let same = c.write_retrieval_blocks-written.ensures.same in
-    let m = c.in-Ok.ensures.same.was_honest h in
-    let h₀ = same.was_honest m in
-    let modified = c.write_retrieval_blocks-written.ensures.modified m in
-    committed_done sound made same h₀ modified (λ layout dated.
-    ok_is c.write_retrieval_blocks-written.result _ (sym c.is_err.ensures.value ∙ c.if-is_err.false)
-    (c.write_retrieval_blocks-written.ensures.written m layout dated)) body long has (g.D.Disk.state c.commit_puts.new.disk)
-    c.commit_puts.ensures.same (c.in-Ok.ensures.all h) (c.in-Ok.ensures.settled h)
-    (c.in-Ok.ensures.shut h (mid_shut sound made same h₀ modified)) f rests
-
-pub returns-in-Ok-clause-readers : goal.returns-in-Ok-clause-readers
-returns-in-Ok-clause-readers g c h served =
+pub returns-clause-sound : goal.returns-clause-sound
+returns-clause-sound g c =
     let there = some_of (pending_at (core_of c.args.map.now).pending c.args.key) c.requires.there in
     let made = made_current_of c.requires.sound (c.make_current-current.ensures there.0 there.1) c.in-Some.ensures in
-    let same = c.write_retrieval_blocks-written.ensures.same in
-    let m = c.commit_puts.ensures.same.was_honest h in
-    committed_readers c.requires.sound made same (same.was_honest m)
-    (c.write_retrieval_blocks-written.ensures.modified m) (g.D.Disk.state c.commit_puts.new.disk)
-    (c.in-Ok.ensures.modified h)
+    published_sound c.requires.sound made (λ h d left. g.met.D.Disk.only_now c.args.disk.now d h left)
+    c.write_retrieval_blocks-written.ensures.same c.write_retrieval_blocks-written.ensures.modified
+    c.commit_edit.ensures.same (λ h. (with_words g c h).1.sound)
 
-pub returns-in-Ok-clause-writers : goal.returns-in-Ok-clause-writers
-returns-in-Ok-clause-writers g c h served k q other =
-    let there = some_of (pending_at (core_of c.args.map.now).pending c.args.key) c.requires.there in
-    let made = made_current_of c.requires.sound (c.make_current-current.ensures there.0 there.1) c.in-Some.ensures in
-    let same = c.write_retrieval_blocks-written.ensures.same in
-    let m = c.commit_puts.ensures.same.was_honest h in
-    committed_writers c.requires.sound made same (same.was_honest m)
-    (c.write_retrieval_blocks-written.ensures.modified m) (g.D.Disk.state c.commit_puts.new.disk)
-    (c.in-Ok.ensures.modified h) k q
+pub returns-clause-crash : goal.returns-clause-crash
+returns-clause-crash g c h f rests p is body long has = (changed g c p is body long (λ h. has)).crash h f rests
 
-pub returns-in-Err-clause-readers : goal.returns-in-Err-clause-readers
-returns-in-Err-clause-readers g c h served = absurd (served refl)
+pub returns-clause-done : goal.returns-clause-done
+returns-clause-done g c h f rests p is body long has = (changed g c p is body long (λ h. has)).done h f rests
 
-pub returns-in-Err-clause-writers : goal.returns-in-Err-clause-writers
-returns-in-Err-clause-writers g c h served = absurd (served refl)
+pub returns-clause-readers : goal.returns-clause-readers
+returns-clause-readers g c h = (with_words g c h).1.readers h
 
-pub returns-in-Err-clause-sound : goal.returns-in-Err-clause-sound
-returns-in-Err-clause-sound g c =
-    let there = some_of (pending_at (core_of c.args.map.now).pending c.args.key) c.requires.there in
-    let made = made_current_of c.requires.sound (c.make_current-current.ensures there.0 there.1) c.in-Some.ensures in
-    committed_failed c.requires.sound made c.write_retrieval_blocks-written.ensures.same c.commit_puts.ensures.same
+pub returns-clause-writers : goal.returns-clause-writers
+returns-clause-writers g c h served k q other = (with_words g c h).1.writers h served k q
 
--- The home copies.
+pub returns-clause-homes : goal.returns-clause-homes
+returns-clause-homes g c h = (with_words g c h).1.homes h
 
-pub returns-then-is_err-clause-homes : goal.returns-then-is_err-clause-homes
-returns-then-is_err-clause-homes g c h =
-    let there = some_of (pending_at (core_of c.args.map.now).pending c.args.key) c.requires.there in
-    let made = made_current_of c.requires.sound (c.make_current-current.ensures there.0 there.1) c.in-Some.ensures in
-    written_homes c.requires.sound made (c.write_retrieval_blocks-written.ensures.modified h)
-    (λ d left. g.met.D.Disk.only_now c.args.disk.now d (c.write_retrieval_blocks-written.ensures.same.was_honest h)
-    left)
-
-pub returns-then-is_err-clause-home_blocks : goal.returns-then-is_err-clause-home_blocks
-returns-then-is_err-clause-home_blocks g c h served = absurd (served refl)
-
-pub returns-in-Ok-clause-homes : goal.returns-in-Ok-clause-homes
-returns-in-Ok-clause-homes g c h =
-    let there = some_of (pending_at (core_of c.args.map.now).pending c.args.key) c.requires.there in
-    let made = made_current_of c.requires.sound (c.make_current-current.ensures there.0 there.1) c.in-Some.ensures in
-    let m = c.commit_puts.ensures.same.was_honest h in
-    committed_homes c.requires.sound made (c.write_retrieval_blocks-written.ensures.modified m)
-    (g.D.Disk.state c.commit_puts.new.disk)
-    (λ d left. g.met.D.Disk.only_now c.args.disk.now d (c.write_retrieval_blocks-written.ensures.same.was_honest m)
-    left) (c.commit_puts.ensures.near h)
-
-pub returns-in-Ok-clause-home_blocks : goal.returns-in-Ok-clause-home_blocks
-returns-in-Ok-clause-home_blocks g c h served =
-    let there = some_of (pending_at (core_of c.args.map.now).pending c.args.key) c.requires.there in
-    let made = made_current_of c.requires.sound (c.make_current-current.ensures there.0 there.1) c.in-Some.ensures in
-    committed_blocks c.requires.sound made
-    (c.write_retrieval_blocks-written.ensures.modified (c.commit_puts.ensures.same.was_honest h))
-    (g.D.Disk.state c.commit_puts.new.disk) (c.in-Ok.ensures.modified h)
-
-pub returns-in-Err-clause-homes : goal.returns-in-Err-clause-homes
-returns-in-Err-clause-homes g c h =
-    let there = some_of (pending_at (core_of c.args.map.now).pending c.args.key) c.requires.there in
-    let made = made_current_of c.requires.sound (c.make_current-current.ensures there.0 there.1) c.in-Some.ensures in
-    let m = c.commit_puts.ensures.same.was_honest h in
-    committed_homes c.requires.sound made (c.write_retrieval_blocks-written.ensures.modified m)
-    (g.D.Disk.state c.commit_puts.new.disk)
-    (λ d left. g.met.D.Disk.only_now c.args.disk.now d (c.write_retrieval_blocks-written.ensures.same.was_honest m)
-    left) (c.commit_puts.ensures.near h)
-
-pub returns-in-Err-clause-home_blocks : goal.returns-in-Err-clause-home_blocks
-returns-in-Err-clause-home_blocks g c h served = absurd (served refl)
+pub returns-clause-home_blocks : goal.returns-clause-home_blocks
+returns-clause-home_blocks g c h = (with_words g c h).1.home_blocks h

@@ -17,7 +17,7 @@ use Rattle.volume.proofs.Publications.{unchanged_leaves, quiet_leaves_either, bo
 use Rattle.volume.proofs.Publications.{ribs_on}
 use Rattle.volume.proofs.PublishingSlots.{made_current_readers}
 use Rattle.volume.proofs.HomesKept.{homes_start, homes_on}
-use Rattle.volume.proofs.PublishingHomes.{ok_anyway}
+use Rattle.volume.proofs.Edits.{ok_anyway}
 use Rattle.volume.proofs.SoundVolumes.{not_both, volume_goes_on}
 use Rattle.volume.proofs.map.Volume.publish.Goals as goal
 

@@ -10,8 +10,8 @@ use Rattle.volume.proofs.MovingAnswers.{target_exists, target_no_room, target_la
 use Rattle.volume.proofs.MovingAnswers.{moved_no_room, memory_plain}
 use Rattle.volume.proofs.Publications.{unchanged_leaves}
 use Rattle.volume.proofs.RenamingAnswers.{not_refused}
+use Rattle.volume.proofs.Edits.{edited_volume}
 use Rattle.volume.proofs.HomesKept.{homes_start}
-use Rattle.volume.proofs.SoundVolumes.{no_device, volume_goes_on}
 use Rattle.volume.proofs.map.Volume.rename_across.Goals as goal
 
 pub returns-then-self-clause-held : goal.returns-then-self-clause-held
@@ -128,7 +128,7 @@ move_across-requires-clause-may_arrive g c =
     }
 
 pub returns-clause-crash : goal.returns-clause-crash
-returns-clause-crash g c = rw (← c.self.view_is) (λ h f rests. c.move_across.ensures.crash h f rests)
+returns-clause-crash g c = rw (← c.self.view_is) c.move_across.ensures.edited.crash
 
 pub returns-clause-moved : goal.returns-clause-moved
 returns-clause-moved g c = rw (← c.self.view_is)
@@ -213,18 +213,7 @@ pub returns-in_default-clause-homes : goal.returns-in_default-clause-homes
 returns-in_default-clause-homes g c = rw (← c.self.view_is) (λ h.
     homes_start (g.D.Disk.state c.self.inside.disk) (λ d left. g.met.D.Disk.only_now c.self.inside.disk d h left))
 
-pub returns-clause-homes : goal.returns-clause-homes
-returns-clause-homes g c = rw (← c.self.view_is) c.move_across.ensures.homes
-
-pub returns-clause-home_blocks : goal.returns-clause-home_blocks
-returns-clause-home_blocks g c = rw (← c.self.view_is) c.move_across.ensures.home_blocks
-
 -- The layout stays.
 
 pub invariant_of-self : goal.invariant_of-self
-invariant_of-self g c =
-    let ensures = c.move_across.ensures in
-    volume_goes_on (g.D.Disk.state c.self.inside.disk) (g.D.Disk.state c.move_across.new.disk) (core_of c.self.inside.map)
-    (core_of c.move_across.new.core) c.self.inside.failed c.move_across.new.failed c.self.inside.layout c.self.invariant
-    ensures.sound ensures.same.size ensures.same.was_honest (λ ok. c.if-self.false)
-    (λ h ok. ensures.home_blocks h (no_device c.move_across.result c.move_across.new.failed ensures.ended ok))
+invariant_of-self g c = edited_volume c.self.invariant c.if-self.false c.move_across.ensures.edited

@@ -7,8 +7,8 @@ use Rattle.volume.proofs.Publications.{unchanged_leaves}
 use Rattle.volume.proofs.RenamedPlaces.{moved_before, moved_here, moved_gone, moved_elsewhere}
 use Rattle.volume.proofs.RenamingAnswers.{refused_not_found, refused_exists, refused_no_directory, refused_codes}
 use Rattle.volume.proofs.RenamingAnswers.{refused_plain, key_there, not_refused}
+use Rattle.volume.proofs.Edits.{edited_volume}
 use Rattle.volume.proofs.HomesKept.{homes_start}
-use Rattle.volume.proofs.SoundVolumes.{no_device, volume_goes_on}
 use Rattle.volume.proofs.map.Volume.rename_within.Goals as goal
 
 pub returns-then-self-clause-held : goal.returns-then-self-clause-held
@@ -75,8 +75,7 @@ returns-in-Err-clause-ended g c = rw (← c.self.view_is) (λ is.
     c.in-Err.ensures.refused).2 is))
 
 pub returns-clause-crash : goal.returns-clause-crash
-returns-clause-crash g c = rw (← c.self.view_is) (λ h f rests.
-    c.move_within.ensures.crash h f rests)
+returns-clause-crash g c = rw (← c.self.view_is) c.move_within.ensures.edited.crash
 
 pub returns-clause-moved : goal.returns-clause-moved
 returns-clause-moved g c = rw (← c.self.view_is)
@@ -136,18 +135,7 @@ pub returns-in-Err-clause-homes : goal.returns-in-Err-clause-homes
 returns-in-Err-clause-homes g c = rw (← c.self.view_is) (λ h.
     homes_start (g.D.Disk.state c.self.inside.disk) (λ d left. g.met.D.Disk.only_now c.self.inside.disk d h left))
 
-pub returns-clause-homes : goal.returns-clause-homes
-returns-clause-homes g c = rw (← c.self.view_is) c.move_within.ensures.homes
-
-pub returns-clause-home_blocks : goal.returns-clause-home_blocks
-returns-clause-home_blocks g c = rw (← c.self.view_is) c.move_within.ensures.home_blocks
-
 -- The layout stays.
 
 pub invariant_of-self : goal.invariant_of-self
-invariant_of-self g c =
-    let ensures = c.move_within.ensures in
-    volume_goes_on (g.D.Disk.state c.self.inside.disk) (g.D.Disk.state c.move_within.new.disk) (core_of c.self.inside.map)
-    (core_of c.move_within.new.map) c.self.inside.failed c.move_within.new.failed c.self.inside.layout c.self.invariant
-    ensures.sound ensures.same.size ensures.same.was_honest (λ ok. c.if-self.false)
-    (λ h ok. ensures.home_blocks h (no_device c.move_within.result c.move_within.new.failed ensures.ended ok))
+invariant_of-self g c = edited_volume c.self.invariant c.if-self.false c.move_within.ensures.edited

@@ -1,0 +1,55 @@
+-- One change of a volume on its disk: its puts are committed, all or none. What the commit says, and what follows for
+-- files, versions and home copies, whichever call makes the change.
+use Rattle.std.specs.Prelude.{◌≡◌, ◌⊎◌, ℕ, Bool, true, List, Result, OnOk, IfErr, IsErrOf}
+use Rattle.blockdisk.specs.Disk.{DiskState, NoneOpen, SameDisk, SameOutside, Near, Modifies, LeavesOnly, one_more}
+use Rattle.changeset.specs.Crashes.{IsGateOrLog, IsShut, AllOrNone}
+use Rattle.changeset.specs.Puts.{IsPutIn}
+use Rattle.meaning.specs.declared.put.Put.{Put}
+use Rattle.meaning.specs.Files.{File, Files}
+use Rattle.meaning.specs.Layouts.{pack_of}
+use Rattle.meaning.specs.Log.{with_puts}
+use Rattle.volume.specs.HomeBlocks.{HasHomesFrom, KeepsHomes}
+use Rattle.volume.specs.Live.{VolumeCore}
+use Rattle.volume.specs.Rest.{IsSoundCore, RestsAt, StandsForOneOf, KeepsRead, KeepsEachWritten}
+use Rattle.volume.specs.declared.error.CallError.{CallError}
+use Rattle.volume.specs.declared.error.CallError.TheVariants.{Device}
+
+-- the blocks that a commit of these puts writes
+abbrev pub IsWrittenBy : ℕ → List Put → ℕ → Type 0
+IsWrittenBy size puts n = IsGateOrLog size n ⊎ IsPutIn puts n
+
+-- The puts were committed, or the device failed, and the volume with it.
+pub record IsCommitted (s s' : DiskState) (puts : List Put) (was failed : Bool) (result : Result (Unit {0}) CallError)
+    : Type 0 where
+  -- what a crash leaves, and what there is at Ok
+  pub crash : s'.honest → IsShut s → LeavesOnly s s' (AllOrNone puts s)
+  pub all : s'.honest → OnOk result (SameOutside (IsGateOrLog s.size) (with_puts puts s.contents) s'.contents)
+  pub settled : s'.honest → OnOk result (NoneOpen s')
+  pub shut : s'.honest → IsShut s → OnOk result (IsShut s')
+  -- which blocks are written, whatever is answered
+  pub modified : s'.honest → OnOk result (Modifies (IsWrittenBy s.size puts) s s')
+  pub near : s'.honest → LeavesOnly s s' (Near (IsWrittenBy s.size puts) s)
+  pub same : SameDisk s s'
+  -- what failed, and how often
+  pub only : IfErr result (λ error. error ≡ Device)
+  pub device : IsErrOf result Device → failed ≡ true
+  pub still : OnOk result (failed ≡ was)
+  pub counted : IsErrOf result Device → s'.failures ≡ one_more s.failures
+  pub served : OnOk result (s'.failures ≡ s.failures)
+
+-- A volume was changed, or the device failed meanwhile: what became of its disk, where `become` is what the change
+-- makes of the files.
+pub record IsEdited (s s' : DiskState) (c c' : VolumeCore) (become : Files File → Files File) (failed : Bool)
+    (result : Result (Unit {0}) CallError) : Type 0 where
+  pub sound : IsSoundCore s' c' failed
+  -- a crash finds the files from before, or the new ones, and at Ok the latter
+  pub crash : s'.honest → (f : Files File) → RestsAt s f
+      → LeavesOnly s s' (StandsForOneOf (pack_of s) f (become f))
+  pub done : s'.honest → (f : Files File) → RestsAt s f → OnOk result (RestsAt s' (become f))
+  -- the words of all versions stay, and so do the home copies, but where the device failed
+  pub readers : s'.honest → (IsErrOf result Device → ⊥) → KeepsRead s.contents s'.contents c
+  pub writers : s'.honest → (IsErrOf result Device → ⊥) → KeepsEachWritten s.contents s'.contents c
+  pub homes : s'.honest → LeavesOnly s s' (HasHomesFrom s)
+  pub home_blocks : s'.honest → (IsErrOf result Device → ⊥) → KeepsHomes s.contents s'.contents
+  pub device : IsErrOf result Device → failed ≡ true
+  pub same : SameDisk s s'
