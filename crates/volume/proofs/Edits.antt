@@ -1,15 +1,15 @@
 -- One change of a volume, whichever call makes it: blocks that nothing looks at are written, and then its puts are
 -- committed. All that its call says of the disk follows from what the change is, over values.
-use Rattle.std.proofs.Common.{◌≡◌, inl, ⊎_elim, ℕ, ◌≤◌, Bool, true, false, List, length, Result, Ok, Err, OnOk}
+use Rattle.std.proofs.Common.{◌≡◌, ⊎_elim, ℕ, ◌≤◌, Bool, true, false, List, length, Result, Ok, Err, OnOk}
 use Rattle.std.proofs.Common.{IfErr, IsErrOf, refl, sym, ap, ◌∙◌, subst, arith}
 use Rattle.std.proofs.lemmas.Result.{on_ok_weaker}
 use Rattle.std.specs.List.{AllByRecursion}
 use Rattle.blockdisk.specs.Disk.{Contents, DiskState, MayLeave, Keeps, Near, Modifies, SameDisk, LeavesOnly}
-use Rattle.blockdisk.specs.Laws.{leaves_weaker, modifies_start, keeps_still, still_modifies, same_disk_start}
+use Rattle.blockdisk.specs.Laws.{modifies_start, keeps_still, still_modifies, same_disk_start}
 use Rattle.blockdisk.specs.Laws.{same_disk_on}
 use Rattle.changeset.specs.Crashes.{IsGateOrLog}
 use Rattle.changeset.specs.Puts.{IsPutIn}
-use Rattle.changeset.specs.Rest.{Ignores, AtRest, SettlesTo, quiet_rest, quiet_leaves, quiet_stands, transaction_leaves}
+use Rattle.changeset.specs.Rest.{Ignores, AtRest, transaction_leaves}
 use Rattle.changeset.specs.Rest.{commit_rest}
 use Rattle.meaning.specs.declared.layout.Layout.{Layout}
 use Rattle.meaning.specs.declared.put.Put.{Put}

@@ -10,7 +10,7 @@ use Rattle.std.specs.Cmp.{nat_cmp_total}
 use Rattle.std.specs.FinMap.{nat_cmp-IsAntisymmetric}
 use Rattle.blockdisk.specs.Disk.{Contents}
 use Rattle.meaning.specs.declared.put.Put.{Put}
-use Rattle.meaning.specs.Maps.{times, get, insert, map_values, from_entries}
+use Rattle.meaning.specs.Maps.{FinMap, times, get, insert, map_values, from_entries}
 use Rattle.meaning.specs.Blocks.{head_or_zero}
 use Rattle.meaning.specs.Files.{name_cmp}
 use Rattle.meaning.specs.Regions.{table_blocks, table_start, space_start}
@@ -30,7 +30,7 @@ use Rattle.meaning.proofs.DirectoryChanges.{directory_made}
 use Rattle.changeset.specs.PutLaws.{times_head, times_tail, some_or_none}
 use Rattle.alloctab.specs.Lists.{flag_at}
 use Rattle.alloctab.specs.TableState.{TableState, bit}
-use Rattle.directory.specs.Chains.{IsChain, IsOn}
+use Rattle.directory.specs.Chains.{ChainState, IsChain, IsOn}
 use Rattle.directory.specs.ChainLaws.{chain_stands, on_kept, bare_on}
 use Rattle.volume.specs.Known.{KnownDirectory, Known, IsKnownDirectory, IsHeld, IsWholeMap}
 use Rattle.volume.specs.Making.{bare_known, entry_made, map_made, IsMade}
@@ -70,6 +70,22 @@ bits_same size old new same n = by_case (ltb n (4608 * table_blocks size)) refl
     by_case true e = ap (λ o. bit_in o n) (same (n / 4608) (let h = ltb-true n (4608 * table_blocks size) e in
         omega arith))
     by_case false e = refl
+
+-- the chain of the master directory, where it stands
+pub master_stands : (contents : Contents) (chain : ChainState MasterEntry) (entries : FinMap nat_cmp (ℕ × ℕ))
+    → IsChain nat_cmp (IsMasterEntryOf 2) chain → IsOn master_words contents chain
+    → from_entries chain.entries ≡ entries → IsMasterChain contents chain.blocks entries
+master_stands contents chain entries is on names =
+    let dir = chain_stands {R = nat_cmp} master_words (IsMasterEntryOf 2) contents chain is on in
+    record {
+      nodes = dir.nodes;
+      spelled = dir.spelled;
+      filled = dir.filled;
+      blocks_are = dir.blocks_are;
+      are_entries = all_each (IsMasterEntryOf 2) IsMasterEntry (items dir.nodes) (λ e good. good.ppn) dir.are_entries;
+      each_once = dir.each_once;
+      map_is = dir.map_is ∙ names;
+    }
 
 -- An empty directory.
 
@@ -186,18 +202,7 @@ module _ (size : ℕ) (k k' : Known) (m : DiskMap) (ppn protection first : ℕ) 
 
   new_master : IsMasterChain (with_puts puts c) k'.master.blocks
       (insert (entries_of m) ppn (entry_of (bare_directory protection 0 (first ∷ []))))
-  new_master =
-      let dir = chain_stands {R = nat_cmp} master_words (IsMasterEntryOf 2)
-      (with_puts puts c) k'.master made.entered.chain new_on in
-      record {
-        nodes = dir.nodes;
-        spelled = dir.spelled;
-        filled = dir.filled;
-        blocks_are = dir.blocks_are;
-        are_entries = all_each (IsMasterEntryOf 2) IsMasterEntry (items dir.nodes) (λ e good. good.ppn) dir.are_entries;
-        each_once = dir.each_once;
-        map_is = dir.map_is ∙ names;
-      }
+  new_master = master_stands (with_puts puts c) k'.master _ made.entered.chain new_on names
 
   first_block : head_or_zero k'.master.blocks ≡ head_or_zero m.chain
   first_block = ap head_or_zero made.entered.blocks

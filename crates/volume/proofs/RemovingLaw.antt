@@ -1,29 +1,26 @@
 -- A file is deleted: what the puts make of what is held.
 use Rattle.std.proofs.Common.{◌≡◌, ℕ, ◌+◌, ◌<◌, ◌≤◌, ◌⊎◌, inl, inr, ⊎_elim, List, ◌++◌, length, Some, option_map}
 use Rattle.std.proofs.Common.{slice_get, refl, sym, ◌∙◌, ap, subst, arith}
-use Rattle.std.proofs.lemmas.Option.{slice_get_within}
 use Rattle.std.specs.List.{AllByRecursion}
 use Rattle.std.specs.Option.{IsSome}
 use Rattle.std.specs.Cmp.{nat_cmp_total}
-use Rattle.std.specs.FinMap.{nat_cmp-IsAntisymmetric}
 use Rattle.words36.specs.declared.names.FileName.{FileName}
 use Rattle.blockdisk.specs.Disk.{Contents}
 use Rattle.meaning.specs.declared.put.Put.{Put}
-use Rattle.meaning.specs.Maps.{times, get, insert, remove, map_values, from_entries}
+use Rattle.meaning.specs.Maps.{times, get, remove, from_entries}
 use Rattle.meaning.specs.Blocks.{head_or_zero}
 use Rattle.meaning.specs.Regions.{table_blocks, table_start, space_start, log_images}
 use Rattle.meaning.specs.Log.{IsTarget, targets, with_puts}
 use Rattle.meaning.specs.Table.{table_bit}
-use Rattle.meaning.specs.Directories.{MasterEntry, master_words, master_word, FileEntry, file_words, IsFileEntry}
+use Rattle.meaning.specs.Directories.{master_word, FileEntry, file_words, IsFileEntry}
 use Rattle.meaning.specs.Stands.{StoredFile, StoredDirectory, DiskMap, HasMap, directory_of, files_of}
-use Rattle.meaning.specs.Stands.{entry_of, reaches_in_file, reaches_in_directory, reaches}
-use Rattle.meaning.specs.Changes.{TableFollows, IsFileChain, entries_of, primes_of, with_directory, without_file}
+use Rattle.meaning.specs.Stands.{reaches_in_file, reaches}
+use Rattle.meaning.specs.Changes.{TableFollows, IsFileChain, primes_of, with_directory, without_file}
 use Rattle.meaning.specs.Faults.{InSpace}
 use Rattle.meaning.proofs.Names.{name_total, name_exact}
-use Rattle.meaning.proofs.MapLaws.{some_same, get-insert_same, get-insert_other, get-remove_other, insert_same}
-use Rattle.meaning.proofs.MapLists.{get-map_values, map_values-insert, map_values-remove}
-use Rattle.meaning.proofs.MapSums.{times-append, at-le-sum, two-le-sum}
-use Rattle.meaning.proofs.DiskMaps.{once}
+use Rattle.meaning.proofs.MapLaws.{some_same, get-remove_other}
+use Rattle.meaning.proofs.MapLists.{get-map_values, map_values-remove}
+use Rattle.meaning.proofs.MapSums.{times-append}
 use Rattle.meaning.proofs.QuietLaws.{each_times}
 use Rattle.meaning.proofs.Walking.{all_front}
 use Rattle.meaning.proofs.FileChanges.{removed}
@@ -31,16 +28,17 @@ use Rattle.meaning.proofs.ChangedFiles.{files_removed as files_of_removed}
 use Rattle.alloctab.specs.TableState.{bit}
 use Rattle.changeset.specs.Puts.{IsPutIn}
 use Rattle.changeset.specs.PutLaws.{some_or_none}
-use Rattle.directory.specs.Chains.{ChainState, IsOn}
+use Rattle.directory.specs.Chains.{IsOn}
 use Rattle.directory.specs.ChainLaws.{chain_stands, on_kept}
-use Rattle.volume.specs.Known.{KnownVersion, KnownDirectory, Known, IsKnownFile, IsKnownDirectory, IsHeld}
+use Rattle.volume.specs.Known.{KnownVersion, Known, IsKnownFile, IsKnownDirectory, IsHeld}
 use Rattle.volume.specs.Known.{IsWholeDirectory, IsWholeMap, blocks_reached}
 use Rattle.volume.specs.Removing.{files_without, files_removed, IsRemoved}
 use Rattle.volume.proofs.FoundDirectories.{all_at}
 use Rattle.volume.proofs.MakingDirectories.{not_put}
-use Rattle.volume.proofs.MakingHeld.{reached_in_space, element_at}
+use Rattle.volume.proofs.MakingHeld.{reached_in_space}
 use Rattle.volume.proofs.MakingLaw.{head_front, bits_same}
-use Rattle.volume.proofs.PublishingPuts.{set_cases, other_key, file_times}
+use Rattle.volume.proofs.OneDirectory.{directory_leads}
+use Rattle.volume.proofs.PublishingPuts.{file_times}
 
 -- The map without the file.
 
@@ -126,14 +124,6 @@ module _ (size : ℕ) (k k' : Known) (ppn : ℕ) (name : FileName) (old : ℕ ×
     gone_times n = times-append n is.left (blocks_reached old.0 old.1.version)
         ∙ ap (λ (r : ℕ). times n is.left + r) (sym (file_is n))
 
-    -- the chain with that of the master directory
-    in_map : (n : ℕ) → times n m.chain + times n is.directory.chain.blocks ≤ reaches n m
-    in_map n =
-        let all = at-le-sum nat_cmp_total nat_cmp-IsAntisymmetric (reaches_in_directory n) m.directories ppn stored
-        stored_at in
-        let s = stored_times n in
-        omega arith
-
     -- what stays
 
     mid_table : (i : ℕ) → i < table_blocks size → with_puts is.chain_puts c (table_start size + i)
@@ -209,104 +199,9 @@ module _ (size : ℕ) (k k' : Known) (ppn : ℕ) (name : FileName) (old : ℕ ×
       each = each_file;
     }
 
-    changed : (i : ℕ) (x : KnownDirectory) → slice_get k'.directories i ≡ Some x
-        → ((i ≡ is.place) × (x ≡ is.directory'))
-        ⊎ ((i ≡ is.place → ⊥) × (slice_get k.directories i ≡ Some x))
-    changed i x also = set_cases k.directories is.place i is.directory' x (ap (λ ds. slice_get ds i)
-        (sym is.directories) ∙ also)
-
-    -- an entry in another place has another key
-    apart : (i : ℕ) (e : MasterEntry) → slice_get k.master.entries i ≡ Some e → (i ≡ is.place → ⊥) → e.0 ≡ ppn → ⊥
-    apart i e here other = other_key k.master.entries i is.place ppn e is.word whole.chain.each_once here
-        is.there.is other
-
-    each_known : (i : ℕ) (e : MasterEntry) (x : KnownDirectory) → slice_get k'.master.entries i ≡ Some e
-        → slice_get k'.directories i ≡ Some x
-        → (s : StoredDirectory)
-        × (get (insert m.directories ppn (without_file stored is.directory'.chain.blocks name)) e.0 ≡ Some s)
-        × IsKnownDirectory x s
-    each_known i e x here also = by_place (changed i x also)
-      where
-        was : slice_get k.master.entries i ≡ Some e
-        was = ap (λ (z : ChainState MasterEntry). slice_get z.entries i) (sym is.master) ∙ here
-
-        by_place : ((i ≡ is.place) × (x ≡ is.directory')) ⊎ ((i ≡ is.place → ⊥) × (slice_get k.directories i ≡ Some x))
-            → (s : StoredDirectory)
-            × (get (insert m.directories ppn (without_file stored is.directory'.chain.blocks name)) e.0 ≡ Some s)
-            × IsKnownDirectory x s
-        by_place (inl new) =
-            let entry : e ≡ (ppn, is.word) = some_same (sym was ∙ ap (slice_get k.master.entries) new.0 ∙ is.there.is)
-            in (
-              without_file stored is.directory'.chain.blocks name,
-              ap (λ (z : MasterEntry). get (insert m.directories ppn
-                  (without_file stored is.directory'.chain.blocks name)) z.0) entry
-                  ∙ get-insert_same nat_cmp_total m.directories ppn
-                  (without_file stored is.directory'.chain.blocks name),
-              subst (λ (z : KnownDirectory). IsKnownDirectory z (without_file stored is.directory'.chain.blocks name))
-                  (sym new.1) new_known,
-            )
-        by_place (inr kept) =
-            let found = held.known.each i e x was kept.1 in (
-              found.0,
-              get-insert_other nat_cmp_total nat_cmp-IsAntisymmetric m.directories ppn
-                  (without_file stored is.directory'.chain.blocks name) e.0 (apart i e was kept.0) ∙ found.1,
-              found.2,
-            )
-
-    names : map_values entry_of (insert m.directories ppn (without_file stored is.directory'.chain.blocks name))
-        ≡ from_entries k'.master.entries
-    names =
-        map_values-insert nat_cmp_total nat_cmp-IsAntisymmetric entry_of m.directories ppn
-        (without_file stored is.directory'.chain.blocks name)
-        ∙ ap (λ (n : ℕ). insert (entries_of m) ppn (master_word stored.protection stored.quota, n)) first_block
-        ∙ insert_same nat_cmp_total nat_cmp-IsAntisymmetric (entries_of m) ppn (entry_of stored)
-        (get-map_values nat_cmp_total entry_of m.directories ppn ∙ ap (option_map entry_of) stored_at)
-        ∙ held.known.names ∙ ap (λ (z : ChainState MasterEntry). from_entries z.entries) (sym is.master)
-
-    master_times : (n : ℕ) → times n m.chain ≡ times n k.master.blocks
-    master_times n = ap (times n) held.known.chain
-
-    new_master : IsOn master_words (with_puts puts c) k'.master
-    new_master = subst (IsOn master_words (with_puts puts c)) (sym is.master)
-        (on_kept master_words c (with_puts puts c) k.master held.master (λ n there.
-        let most = in_map n in
-        let few = once size c m held.stands.marked n in
-        let e = master_times n in
-        reached_stays n (omega arith) (omega arith)))
-
-    -- the chains of two directories have no block in common
-    two_chains : (i : ℕ) (x : KnownDirectory) → (i ≡ is.place → ⊥) → slice_get k.directories i ≡ Some x → (n : ℕ)
-        → times n x.chain.blocks + times n is.directory.chain.blocks ≤ reaches n m
-    two_chains i x other also n =
-        let within = slice_get_within k.directories i x also in
-        let e = element_at k.master.entries i (omega (arith, within, whole.aligned)) in
-        let found = held.known.each i e.0 x e.1 also in
-        let both = two-le-sum nat_cmp_total nat_cmp-IsAntisymmetric (reaches_in_directory n) m.directories
-        e.0.0 ppn found.0 stored found.1 stored_at (λ same. apart i e.0 e.1 other (sym same)) in
-        let same = ap (times n) found.2.chain in
-        let s = stored_times n in
-        omega arith
-
-    new_chains : (i : ℕ) (x : KnownDirectory) → slice_get k'.directories i ≡ Some x
-        → IsOn file_words (with_puts puts c) x.chain
-    new_chains i x also = ⊎_elim
-        (λ new. subst (λ (z : KnownDirectory). IsOn file_words (with_puts puts c) z.chain) (sym new.1) new_on)
-        (λ kept. on_kept file_words c (with_puts puts c) x.chain (held.chains i x kept.1) (λ n there.
-        let most = two_chains i x kept.0 kept.1 n in
-        let few = once size c m held.stands.marked n in
-        reached_stays n (omega arith) (omega arith)))
-        (changed i x also)
-
     pub removing_leads_in : IsHeld size k' (map_removed m ppn stored is.directory'.chain.blocks name)
         (with_puts puts c)
-    removing_leads_in = record {
-      known = record {
-        chain = held.known.chain ∙ ap (λ (z : ChainState MasterEntry). z.blocks) (sym is.master);
-        names = names;
-        each = each_known;
-      };
-      stands = new_map;
-      master = new_master;
-      chains = new_chains;
-      bits = new_bits;
-    }
+    removing_leads_in = directory_leads size k k' m ppn is.place is.word is.directory is.directory' whole is.there
+        is.directory_at is.master is.directories stored (without_file stored is.directory'.chain.blocks name) stored_at
+        c held puts (λ n there none. reached_stays n there (let s = stored_times n in omega arith)) new_known
+        (λ i. (master_word stored.protection stored.quota, first_block i)) new_on new_map new_bits

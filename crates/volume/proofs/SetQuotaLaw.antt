@@ -2,14 +2,13 @@
 use Rattle.std.proofs.Common.{◌≡◌, ◌⊎◌, inl, inr, ⊎_elim, ℕ, ◌+◌, ◌*◌, ◌/◌, ◌^◌, ◌<◌, ◌≤◌, List, slice_get, option_map}
 use Rattle.std.proofs.Common.{Some, IsSome, refl, sym, ap, subst, ◌∙◌, arith}
 use Rattle.std.specs.Cmp.{nat_cmp_total}
-use Rattle.std.specs.Ordering.{nat_cmp}
 use Rattle.std.specs.FinMap.{nat_cmp-IsAntisymmetric}
 use Rattle.blockdisk.specs.Disk.{Contents}
 use Rattle.meaning.specs.declared.put.Put.{Put}
 use Rattle.meaning.specs.Blocks.{head_or_zero}
 use Rattle.meaning.specs.Changes.{TableFollows, IsMasterChain, entries_of, with_directory, with_protection}
-use Rattle.meaning.specs.Directories.{MasterEntry, master_word, master_words, IsMasterEntry, file_words, items}
-use Rattle.meaning.specs.Faults.{InSpace, IsMasterEntryOf}
+use Rattle.meaning.specs.Directories.{MasterEntry, master_word, master_words, file_words}
+use Rattle.meaning.specs.Faults.{InSpace}
 use Rattle.meaning.specs.Log.{with_puts}
 use Rattle.meaning.specs.Making.{with_quota, files_limited}
 use Rattle.meaning.specs.Maps.{get, insert, times, map_values, from_entries}
@@ -26,14 +25,13 @@ use Rattle.meaning.proofs.QuietLaws.{each_times}
 use Rattle.changeset.specs.PutLaws.{some_or_none}
 use Rattle.alloctab.specs.TableState.{bit}
 use Rattle.directory.specs.Chains.{IsOn}
-use Rattle.directory.specs.ChainLaws.{chain_stands, on_kept}
+use Rattle.directory.specs.ChainLaws.{on_kept}
 use Rattle.volume.specs.Charging.{word_limited, LimitsDirectory}
 use Rattle.volume.specs.Known.{KnownDirectory, IsKnownDirectory, IsHeld}
 use Rattle.volume.specs.Live.{VolumeCore, IsWholeCore}
 use Rattle.volume.proofs.LayoutLimits.{few_quotas}
-use Rattle.volume.proofs.Lookups.{all_each}
 use Rattle.volume.proofs.MakingHeld.{element_at, chain_reached}
-use Rattle.volume.proofs.MakingLaw.{bits_same}
+use Rattle.volume.proofs.MakingLaw.{bits_same, master_stands}
 use Rattle.volume.proofs.PublishingPuts.{set_cases, other_key}
 use Rattle.volume.proofs.SetQuotaCore.{next, word_with, limited_chain, put_chain}
 use Rattle.volume.proofs.SetQuotaEntries.{inserted_place, names_inserted}
@@ -121,18 +119,8 @@ module _ (size : ℕ) (c c' : VolumeCore) (m : DiskMap) (ppn quota : ℕ) (puts 
 
   new_master : IsMasterChain (with_puts puts d) c.known.master.blocks
       (insert (entries_of m) ppn (entry_of changed))
-  new_master =
-      let dir = chain_stands {R = nat_cmp} master_words (IsMasterEntryOf 2) (with_puts puts d) after.known.master
-      (limited_chain size c c' ppn quota core limits.limited (few_quotas m.layout quota fits)) new_on in
-      record {
-        nodes = dir.nodes;
-        spelled = dir.spelled;
-        filled = dir.filled;
-        blocks_are = dir.blocks_are;
-        are_entries = all_each (IsMasterEntryOf 2) IsMasterEntry (items dir.nodes) (λ e good. good.ppn) dir.are_entries;
-        each_once = dir.each_once;
-        map_is = dir.map_is ∙ names;
-      }
+  new_master = master_stands (with_puts puts d) after.known.master _
+      (limited_chain size c c' ppn quota core limits.limited (few_quotas m.layout quota fits)) new_on names
 
   -- the table
 

@@ -2,14 +2,13 @@
 use Rattle.std.proofs.Common.{◌≡◌, ◌⊎◌, inl, inr, ⊎_elim, ℕ, ◌+◌, ◌<◌, ◌≤◌, List, slice_get}
 use Rattle.std.proofs.Common.{Some, IsSome, refl, sym, ap, subst, ◌∙◌, arith}
 use Rattle.std.specs.Cmp.{nat_cmp_total}
-use Rattle.std.specs.Ordering.{nat_cmp}
 use Rattle.std.specs.FinMap.{nat_cmp-IsAntisymmetric}
 use Rattle.blockdisk.specs.Disk.{Contents}
 use Rattle.meaning.specs.declared.put.Put.{Put}
 use Rattle.meaning.specs.Blocks.{head_or_zero}
 use Rattle.meaning.specs.Changes.{TableFollows, IsMasterChain, entries_of, without_directory}
-use Rattle.meaning.specs.Directories.{MasterEntry, master_words, IsMasterEntry, file_words, items}
-use Rattle.meaning.specs.Faults.{InSpace, IsMasterEntryOf}
+use Rattle.meaning.specs.Directories.{MasterEntry, master_words, file_words}
+use Rattle.meaning.specs.Faults.{InSpace}
 use Rattle.meaning.specs.Files.{name_cmp}
 use Rattle.meaning.specs.Log.{with_puts}
 use Rattle.meaning.specs.Maps.{FinMap, get, empty, remove, times, map_values, from_entries}
@@ -25,12 +24,11 @@ use Rattle.meaning.proofs.QuietLaws.{each_times}
 use Rattle.changeset.specs.PutLaws.{some_or_none}
 use Rattle.alloctab.specs.TableState.{bit}
 use Rattle.directory.specs.Chains.{IsOn}
-use Rattle.directory.specs.ChainLaws.{chain_stands, on_kept}
+use Rattle.directory.specs.ChainLaws.{on_kept}
 use Rattle.volume.specs.Known.{KnownDirectory, Known, IsKnownDirectory, IsHeld, IsWholeMap}
 use Rattle.volume.specs.RemovingDirectories.{IsDirectoryRemoved}
-use Rattle.volume.proofs.Lookups.{all_each}
 use Rattle.volume.proofs.MakingHeld.{reached_in_space, chain_reached}
-use Rattle.volume.proofs.MakingLaw.{head_front, none_mapped, bits_same}
+use Rattle.volume.proofs.MakingLaw.{head_front, none_mapped, bits_same, master_stands}
 use Rattle.volume.proofs.UnmakingCore.{removed_inside, chain_times, freed_times}
 use Rattle.volume.proofs.UnmakingPlaces.{stood_at, was_directory}
 
@@ -98,18 +96,7 @@ module _ (size : ℕ) (k k' : Known) (m : DiskMap) (ppn : ℕ) (puts : List Put)
   names = removed.names ∙ ap (λ f. remove f ppn) (sym held.known.names)
 
   new_master : IsMasterChain (with_puts puts c) k'.master.blocks (remove (entries_of m) ppn)
-  new_master =
-      let dir = chain_stands {R = nat_cmp} master_words (IsMasterEntryOf 2)
-      (with_puts puts c) k'.master removed.chain new_on in
-      record {
-        nodes = dir.nodes;
-        spelled = dir.spelled;
-        filled = dir.filled;
-        blocks_are = dir.blocks_are;
-        are_entries = all_each (IsMasterEntryOf 2) IsMasterEntry (items dir.nodes) (λ e good. good.ppn) dir.are_entries;
-        each_once = dir.each_once;
-        map_is = dir.map_is ∙ names;
-      }
+  new_master = master_stands (with_puts puts c) k'.master _ removed.chain new_on names
 
   first_block : head_or_zero k'.master.blocks ≡ head_or_zero m.chain
   first_block = sym (ap head_or_zero (held.known.chain ∙ removed.blocks)
