@@ -3,3 +3,4 @@ mod NamingLaws
 mod Moving
 mod EachLaws
 mod SavingLaws
+mod ClockLaws

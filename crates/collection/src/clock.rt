@@ -1,4 +1,4 @@
-ghost use Rattle.std.specs.Prelude.{◌≡◌, ◌≤◌, ◌+◌, ◌*◌, IfSome, IfNone, ℕ, pos, ◌*ℤ◌};
+ghost use Rattle.std.specs.Prelude.{◌≡◌, ◌≤◌, ◌+◌, ◌*◌, IfSome, IfNone, ℕ, ℤ, pos, ◌*ℤ◌};
 ghost use Rattle.jiff_core.specs.Timestamp.{IsTimestampNanos};
 ghost use Rattle.collection.specs.Clock.{IsAtSecond, IsDayAt, IsShownAt, IsUndated, at_first};
 
@@ -23,9 +23,11 @@ fn shown_at(second: i64) -> Option<DateTime>
     }
 }
 
-/// The second at which the calendar shows this, if it is the beginning of one.
+/// The second at which the calendar shows this, if it is the beginning of one, and near enough.
 fn second_at(shown: DateTime) -> Option<i64>
-    ensures { IfSome result (λ second. IsShownAt second shown) }
+    ensures some { IfSome result (λ second. IsShownAt second shown) }
+    ensures none { IfNone result ((second : ℤ) → IsShownAt second shown
+        → IsTimestampNanos (second *ℤ pos 1_000_000_000) → ⊥) }
 {
     let instant = Offset::UTC.to_timestamp(shown).ok()?;
     let second = i64::try_from(instant.nanosecond / NANOSECONDS).ok()?;
@@ -52,10 +54,14 @@ fn number_of(day: Date) -> Option<u32>
 
 /// The day of the calendar that has this number, if there is one.
 fn calendar_day(number: u32) -> Option<Date>
-    ensures { IfSome result (λ day. IsDayAt day number) }
+    ensures some { IfSome result (λ day. IsDayAt day number) }
+    ensures none { IfNone result ((day : Date) → IsDayAt day number → ⊥) }
 {
     let day = day_of(number).ok()?;
-    Date::new(day.year as i16, day.month as i8, day.day as i8).ok()
+    match Date::new(day.year as i16, day.month as i8, day.day as i8) {
+        Ok(day) => Some(day),
+        Err(_) => None,
+    }
 }
 
 /// The minute of a time of day.
@@ -89,19 +95,21 @@ pub fn moment_of(second: i64) -> Option<Moment>
 }
 
 /// The time of day at the beginning of a minute.
-fn time_of(minute: u32) -> Option<Time>
+fn time_of(minute: u32) -> Time
     requires { minute ≤ 1439 }
-    ensures { IfSome result (λ time. minute ≡ 60 * time.hour + time.minute) }
+    ensures minute { minute ≡ 60 * result.hour + result.minute }
+    ensures begins { (result.second ≡ 0) × (result.subsec_nanosecond ≡ 0) }
 {
-    Time::new((minute / HOUR) as i8, (minute % HOUR) as i8, 0, 0).ok()
+    Time::new((minute / HOUR) as i8, (minute % HOUR) as i8, 0, 0).unwrap()
 }
 
 /// The first second of a moment, counted from the beginning of 1970 in UTC, if its date is a day of the calendar.
 pub fn second_of(moment: Moment) -> Option<i64>
-    ensures { IfSome result (λ second. IsAtSecond second moment) }
+    ensures some { IfSome result (λ second. IsAtSecond second moment) }
+    ensures none { IfNone result ((second : ℤ) → IsAtSecond second moment → ⊥) }
 {
     let date = calendar_day(moment.date)?;
-    let time = time_of(moment.minute)?;
+    let time = time_of(moment.minute);
     let second = second_at(DateTime { date, time })?;
     Some(second)
 }

@@ -4,8 +4,8 @@
 //! 1. `name_for` answers the name of a file exactly where its path gives one: its own name in upper case or, if that is
 //!    wanted and its own is no name, a shorter one. (`IsNameFor`)
 //! 2. `moment_of` answers the date and the minute that the calendar shows at a second in UTC, and none exactly where no
-//!    file can have the date. A second that `second_of` answers is in the minute that it was asked for; no clause says
-//!    when it answers none. (`IsAtSecond`)
+//!    file can have the date. `second_of` answers a second of the minute that it was asked for, and none exactly where
+//!    the calendar has no such day. (`IsAtSecond`)
 //! 3. `import_files` makes the directory first, and then takes the files in the order that they are given: each has one
 //!    line, and is either put as a file of its name that wasn't there, or refused for the cause that its line tells. A
 //!    refused file asks no call, and the files after it are done. A fault of the writer and want of memory end the run.
