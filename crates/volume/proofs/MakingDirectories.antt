@@ -1,4 +1,4 @@
--- What a call that makes a directory says of the disk, from what is known of core and of its calls.
+-- What any event says of the disk, from what is known of it; and a directory that is made: what is in core stays whole.
 use Rattle.std.proofs.Common.{◌≡◌, ℕ, ◌+◌, ◌<◌, ◌≤◌, ◌⊎◌, inl, inr, ⊎_elim, Bool, true, false, List, [], ◌∷◌, ◌++◌}
 use Rattle.std.proofs.Common.{length, replicate, slice_index, ◌-◌, Option, Some, None, Err, IsErrOf, refl, sym, ◌∙◌, ap}
 use Rattle.std.proofs.Common.{subst, arith}
