@@ -1,5 +1,5 @@
 -- Runs on an image that save what is whole on it.
-use Rattle.std.proofs.Common.{◌≡◌, ◌*◌, ◌∙◌, ap, ⊎_elim, inl, inr, ℕ, Bool, List, Option, sym, subst}
+use Rattle.std.proofs.Common.{◌≡◌, ◌⊎◌, ◌*◌, ◌∙◌, ap, ⊎_elim, inl, inr, ℕ, Bool, List, Option, refl, sym, subst}
 use Rattle.blockdisk.specs.Disk.{Contents, DiskState, SameDisk}
 use Rattle.blockdisk.specs.Laws.{still_on}
 use Rattle.blockdisk.specs.Memory.{Memory}
@@ -9,6 +9,8 @@ use Rattle.imagefile.specs.Unseen.{Unseen}
 use Rattle.imagefile.specs.declared.form.Form.{Form}
 use Rattle.meaning.specs.Stands.{Stands}
 use Rattle.salvage.specs.Copies.{AreCopies, IsCopyOf, failed_by}
+use Rattle.salvage.specs.declared.error.SalvageError.{SalvageError}
+use Rattle.salvage.specs.declared.error.SalvageError.TheVariants.{NotVolume, Device, NoMemory}
 use Rattle.collection.specs.HostFacts.{FileFacts}
 use Rattle.collection.specs.declared.task.ExportTask.{ExportTask}
 use Rattle.filser.specs.Hosts.{HostFacts, IsOpened}
@@ -16,6 +18,14 @@ use Rattle.filser.specs.Images.{IsWhole}
 use Rattle.filser.specs.Salvaging.{IsCopied, IsSalvagedFrom, IsUncopied}
 use Rattle.filser.specs.declared.status.Status.{Status}
 use Rattle.filser.proofs.Since.{same}
+
+-- why a disk wasn't copied
+pub uncopied_cause : (error : SalvageError) (X : Type 0) (now before : ℕ) → (error ≡ NotVolume → X)
+    → (error ≡ NotVolume → now ≡ before) → (error ≡ Device → ⊥)
+    → ((error ≡ NotVolume) × X × (now ≡ before)) ⊎ (error ≡ NoMemory)
+uncopied_cause NotVolume X now before range same device = inl (refl, range refl, same refl)
+uncopied_cause Device X now before range same device = absurd (device refl)
+uncopied_cause NoMemory X now before range same device = inr refl
 
 module _ (form : Form) (u : Unseen) (d : DiskState) (began : BeganAs form u d) (sound : d.failures ≡ 0) where
   abbrev begun : DiskState
