@@ -277,17 +277,19 @@ fn block_of(form: Form, bytes: &[u8]) -> Option<Block>
 {
     match form {
         Form::Wide => {
-            let mut own = [0; BLOCK_BYTES];
-            own.copy_from_slice(bytes);
-            match block_from_bytes(&own) {
+            let Ok(own) = <&[u8; BLOCK_BYTES]>::try_from(bytes) else {
+                unreachable!() // it has as many bytes
+            };
+            match block_from_bytes(own) {
                 Ok(block) => Some(block),
                 Err(_) => None,
             }
         }
         Form::Packed => {
-            let mut own = [0; PACKED_BYTES];
-            own.copy_from_slice(bytes);
-            Some(block_from_nine(&own))
+            let Ok(own) = <&[u8; PACKED_BYTES]>::try_from(bytes) else {
+                unreachable!() // it has as many bytes
+            };
+            Some(block_from_nine(own))
         }
     }
 }
