@@ -10,9 +10,10 @@ the program's as a multiple of the other's. The folder is below /dev/shm if ther
 The runs are:
 
   a start     on a volume of 8192 blocks with 1,000 files of 500 characters
+  60 MiB      a start on a volume of 131,072 blocks with 60 MiB of files
   get         of one of these files
   import      of 100 more of them
-  COPY        of a file of 1 MiB to one that is there, on a volume of 131,072 blocks with 60 MiB of files
+  COPY        of a file of 1 MiB to one that is there, on the large volume
   put         of 1 MiB of words to a file that is there, on the same
   get 10 MiB  of a file of as many words, on the same
 
@@ -128,6 +129,7 @@ def main():
         words = make_images(program, folder)
         runs = [
             Run("a start", "SMALL.IMG", ["check", "RUN.IMG"]),
+            Run("60 MiB", "LARGE.IMG", ["check", "RUN.IMG"]),
             Run("get", "SMALL.IMG", ["get", "RUN.IMG", "10,20", "F0500.TXT"]),
             Run("import", "SMALL.IMG", ["import", "RUN.IMG", "10,20", *(f"G{number:04}.TXT" for number in range(100))]),
             Run("COPY", "LARGE.IMG", ["run", "RUN.IMG"], b"LOGIN [10,20]\nCOPY F1.DAT=F2.DAT\n"),

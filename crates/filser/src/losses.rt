@@ -93,7 +93,9 @@ fn search<D: Disk>(alloc: Global, disk: &mut D) -> Result<Survey, SalvageError>
 {
     let size = disk.blocks();
     let Copied {
-        disk: copy, unread, ..
+        disk: copy,
+        unread,
+        ..
     } = Copied::of(alloc, disk)?;
     if unread > 0 {
         return Err(SalvageError::Device); // a disk that keeps blocks doesn't give the neighbours either
