@@ -33,6 +33,7 @@ use Rattle.meaning.proofs.SlotLaws.{slot-set_other}
 use Rattle.volume.specs.Beginning.{IsDirectoryOf}
 use Rattle.volume.specs.Claims.{claims}
 use Rattle.volume.specs.Known.{KnownDirectory}
+use Rattle.volume.specs.Edits.{ChangesFiles, DeviceAnswer}
 use Rattle.volume.specs.Live.{VolumeCore}
 use Rattle.volume.specs.Removing.{files_removed, RemovesFile}
 use Rattle.volume.specs.Rest.{IsSoundCore, RestsAt, StandsForOneOf, KeepsRead, KeepsEachWritten}
@@ -70,13 +71,9 @@ use Rattle.monitor.proofs.RenameRows.{row_done}
 -- What a volume says of a deletion; `Same` is that disk and core are as they were.
 pub record Deletes (d d' : DiskState) (c b : VolumeCore) (Same : Type 0) (failed failed' : Bool) (ppn : ℕ)
     (name : FileName) (result : Result (Unit {0}) CallError) : Type 0 where
-  pub crash : d'.honest → (f : Files File) → RestsAt d f
-      → LeavesOnly d d' (StandsForOneOf (pack_of d) f (files_removed f ppn name))
-  pub done : d'.honest → (f : Files File) → RestsAt d f → OnOk result (RestsAt d' (files_removed f ppn name))
+  pub files : ChangesFiles d d' c (λ f. files_removed f ppn name) result
   pub removed : OnOk result ((key : ℕ) × (v : LiveVersion) × (puts : List Put)
       × RemovesFile d.size c b ppn name key v puts)
-  pub readers : d'.honest → (IsErrOf result Device → ⊥) → KeepsRead d.contents d'.contents c
-  pub writers : d'.honest → (IsErrOf result Device → ⊥) → KeepsEachWritten d.contents d'.contents c
   pub refused : (IsErrOf result Device → ⊥) → OnErr result Same
   pub given_up : IsErrOf result Failed → failed ≡ true
   pub no_directory : failed ≡ false
@@ -85,11 +82,7 @@ pub record Deletes (d d' : DiskState) (c b : VolumeCore) (Same : Type 0) (failed
       × (find name_cmp name x.chain.entries ≡ None)))
   pub codes : (code : ErrorCode) → IsErrOf result (Refused code) → (code ≡ NoDirectory) ⊎ (code ≡ NotFound)
   pub memory : IsErrOf result NoMemory → ⊥
-  pub device : IsErrOf result Device → failed' ≡ true
-  pub counted : IsErrOf result Device → d'.failures ≡ one_more d.failures
-  pub served : (IsErrOf result Device → ⊥) → d'.failures ≡ d.failures
-  pub still : (IsErrOf result Device → ⊥) → failed' ≡ failed
-  pub same : SameDisk d d'
+  pub answer : DeviceAnswer d d' failed failed' result
 
 -- A file that is there is not refused.
 not_refused : (d : DiskState) (c : VolumeCore) (s : State) → IsSoundCore d c false
@@ -190,13 +183,13 @@ module _ {D : Type 0} (state : D → DiskState) (only_now : (disk : D) (contents
   crashes : CallCrashes d d' c jobs n (Rename number e) moment
   crashes honest s state_s =
       leaves_weaker d d' (StandsForOneOf (pack_of d) (without_serials s.files) _) _
-      (is.crash honest (without_serials s.files) state_s.files)
+      (is.files.crash honest (without_serials s.files) state_s.files)
       (λ contents. ⊎_elim (λ was. inl was)
       (λ new. inr (
         0,
         subst (StandsOn (pack_of d) contents) (sym (files_left s.files place)
             ∙ ap (λ (r : Reply × State). without_serials r.1.files)
-            (sym (step_done (is.same.was_honest honest) s state_s 0))) new,
+            (sym (step_done (is.answer.same.was_honest honest) s state_s 0))) new,
       )))
 
   abbrev ServesAfter : Result (Unit {0}) CallError → Type 0
@@ -213,7 +206,7 @@ module _ {D : Type 0} (state : D → DiskState) (only_now : (disk : D) (contents
       let puts = removed.2 in
       let removes : RemovesFile d.size c b input.ppn input.file key v puts = removed.3 in
       let fine : IsErrOf result Device → ⊥ = λ error. let wrong = sym ok ∙ error in cc in
-      let serves' : failed' ≡ false = is.still fine ∙ alive in
+      let serves' : failed' ≡ false = is.answer.still fine (λ error. let wrong = sym ok ∙ error in cc) ∙ alive in
       let behind = input_behind job number channel is_open input side c b c' removes.pending
       (readers_left c.live b.live key v removes.there removes.ended removes.others) closes pending in
       record {
@@ -228,7 +221,7 @@ module _ {D : Type 0} (state : D → DiskState) (only_now : (disk : D) (contents
             × Serves d' c' failed' (slice_set jobs n (Some closed)) new
             × Answers (pack_of d) old (Calls n (Rename number e) moment) replies.Done new) refl
             (λ s state_s.
-            let was = is.same.was_honest honest in
+            let was = is.answer.same.was_honest honest in
             let x = there was s state_s in
             goes_on d' c' failed' (slice_set jobs n (Some closed)) (pack_of d) (Calls n (Rename number e) moment)
             replies.Done s (state_of (without_file s.files place) state_s.under (slice_set jobs n (Some closed)))
@@ -236,8 +229,8 @@ module _ {D : Type 0} (state : D → DiskState) (only_now : (disk : D) (contents
             (deleted_state d d' c b c' jobs n job closed among.there input.ppn input.file key v puts removes behind s
             state_s sound.whole x.0 x.1 unclaimed
             (subst (λ r. OnOk r (RestsAt d' (files_removed (without_serials s.files) input.ppn input.file))) ok
-            (is.done honest (without_serials s.files) state_s.files))
-            (is.readers honest fine) (is.writers honest fine) closes.leaves));
+            (is.files.done honest (without_serials s.files) state_s.files))
+            (is.files.readers honest fine) (is.files.writers honest fine) closes.leaves));
         crash = crashes;
         idle = λ idle. absurd idle;
         light = λ light. absurd light;
@@ -248,8 +241,8 @@ module _ {D : Type 0} (state : D → DiskState) (only_now : (disk : D) (contents
         failed = (λ broken. absurd (contrary serves' broken), ⊎_elim (λ error. cc error) (λ error. cc error));
         blamed = λ honest error. cc error;
         counted = λ error. cc error;
-        served = λ serves. is.served fine;
-        same = is.same;
+        served = λ serves. is.answer.served fine;
+        same = is.answer.same;
       }
 
   -- It is refused, which happens to no file that is there: so this is no honest disk.
@@ -260,7 +253,7 @@ module _ {D : Type 0} (state : D → DiskState) (only_now : (disk : D) (contents
       let core = sym (same ∙ still.1) in
       let job' = with_code job e (number_of code) in
       quiet_serves state only_now disk disk' c c' failed failed' job job' (Rename number e) moment
-      (replies.Refused (number_of code)) alive (still.0, is.still fine) (λ x. cc x, λ x. cc x)
+      (replies.Refused (number_of code)) alive (still.0, is.answer.still fine (λ broke. let wrong = sym error ∙ broke in cc)) (λ x. cc x, λ x. cc x)
       (subst ArePlaced core placed) (λ light. absurd light) (λ kept. absurd kept) (λ none. cc none)
       (λ k at. ap (with_code job e) (same_code at)) (λ is. absurd is) jobs n among
       (subst (λ (x : VolumeCore). AreKeyed x.pending (slice_set jobs n (Some job'))) core
@@ -270,19 +263,19 @@ module _ {D : Type 0} (state : D → DiskState) (only_now : (disk : D) (contents
       (λ honest. in_state d c false jobs (λ old. (new : Service)
       × Serves d c' false (slice_set jobs n (Some job')) new
       × Answers (pack_of d) old (Calls n (Rename number e) moment) (replies.Refused (number_of code)) new) refl
-      (λ s state_s. absurd (never_refused (is.same.was_honest honest) s state_s code error)))
+      (λ s state_s. absurd (never_refused (is.answer.same.was_honest honest) s state_s code error)))
 
   -- The device failed.
   broken : IsErrOf result Device → ServesAfter (Err Device)
   broken error = record {
-    keyed = λ serves. absurd (contrary serves (is.device error));
-    placed = λ serves. absurd (contrary serves (is.device error));
-    reading = λ serves. absurd (contrary serves (is.device error));
+    keyed = λ serves. absurd (contrary serves (is.answer.device error));
+    placed = λ serves. absurd (contrary serves (is.answer.device error));
+    reading = λ serves. absurd (contrary serves (is.answer.device error));
     others = λ m other. slot-set_other jobs n m (Some job) other;
     answered = λ honest. in_state d c false jobs (λ old. (new : Service)
         × Serves d' c' failed' (slice_set jobs n (Some job)) new
         × Answers (pack_of d) old (Calls n (Rename number e) moment) replies.Device new) refl
-        (λ s state_s. (Broken, is.device error, (refl, undecided (is.same.was_honest honest) s state_s, refl)));
+        (λ s state_s. (Broken, is.answer.device error, (refl, undecided (is.answer.same.was_honest honest) s state_s, refl)));
     crash = crashes;
     idle = λ idle. absurd idle;
     light = λ light. absurd light;
@@ -290,11 +283,11 @@ module _ {D : Type 0} (state : D → DiskState) (only_now : (disk : D) (contents
     memory = λ none. cc none;
     decided = λ is. absurd is;
     refused = λ code at. cc at;
-    failed = (λ t. inl refl, λ t. is.device error);
+    failed = (λ t. inl refl, λ t. is.answer.device error);
     blamed = λ honest at. cc at;
-    counted = λ at. is.counted error;
+    counted = λ at. is.answer.counted error;
     served = λ serves. absurd (serves refl);
-    same = is.same;
+    same = is.answer.same;
   }
 
   by_result : (r : Result (Unit {0}) CallError) → result ≡ r → CloseAfter r b c' input → ServesAfter r

@@ -96,7 +96,7 @@ pub mod DeleteDirs
 pub mod DeleteDirAnswers
 pub mod QuotaCalls
 pub mod QuotaStates
-pub mod QuotaAnswers
+pub mod QuotaServing
 pub mod MovedFiles
 pub mod MovedCore
 pub mod ReadsMoved
@@ -109,6 +109,7 @@ pub mod Moves
 pub mod DeletedFiles
 pub mod ReadsDeleted
 pub mod ChangeAnswers
+pub mod ChangeServing
 pub mod InputsClosed
 pub mod RenameRows
 pub mod DeletedStates

@@ -31,6 +31,7 @@ use Rattle.meaning.specs.declared.call.Reply.TheVariants as replies
 use Rattle.meaning.proofs.SlotLaws.{slot-set_other}
 use Rattle.retrieval.specs.declared.prime.Prime.{Prime}
 use Rattle.volume.specs.Claims.{claims}
+use Rattle.volume.specs.Edits.{ChangesFiles, DeviceAnswer}
 use Rattle.volume.specs.Live.{VolumeCore}
 use Rattle.volume.specs.Live.{slot as version_at}
 use Rattle.volume.specs.Moving as volume
@@ -70,27 +71,17 @@ use Rattle.monitor.proofs.RenameWanting.{wanting_serves, rename_serves, rename_u
 -- What a volume that serves says of a move; `Same` is that disk and core are as they were.
 pub record Moves (d d' : DiskState) (c b : VolumeCore) (Same : Type 0) (failed' : Bool) (ppn : ℕ) (name : FileName)
     (to_ppn : ℕ) (to : FileName) (protection : ℕ) (answer : Result (Unit {0}) CallError) : Type 0 where
-  pub crash : d'.honest → (f : Files File) → RestsAt d f
-      → LeavesOnly d d' (StandsForOneOf (pack_of d) f (volume.files_moved f ppn name to_ppn to protection))
-  pub done : d'.honest → (f : Files File) → RestsAt d f
-      → OnOk answer (RestsAt d' (volume.files_moved f ppn name to_ppn to protection))
+  pub files : ChangesFiles d d' c (λ f. volume.files_moved f ppn name to_ppn to protection) answer
   pub within : to_ppn ≡ ppn → OnOk answer ((key : ℕ) × (v : LiveVersion) × (words : List ℕ) × (puts : List Put)
       × MovesWithin d.size c b ppn name to protection key v words puts × (d'.honest → d.contents v.at ≡ Some words))
   pub across : (to_ppn ≡ ppn → ⊥) → OnOk answer ((key : ℕ) × (v : LiveVersion) × (words : List ℕ) × (puts : List Put)
       × MovesAcross d.size c b ppn name to_ppn to protection key v words puts
       × (d'.honest → d.contents v.at ≡ Some words))
-  pub readers : d'.honest → (IsErrOf answer Device → ⊥) → KeepsRead d.contents d'.contents c
-  pub writers : d'.honest → (IsErrOf answer Device → ⊥) → KeepsEachWritten d.contents d'.contents c
   pub answers : IsMoveAnswer d.size c ppn name to_ppn to answer
   pub refused : (code : ErrorCode) → IsErrOf answer (Refused code) → Same
   pub memory : IsErrOf answer NoMemory → Same
   pub given_up : IsErrOf answer Failed → d'.honest → ⊥
-  pub device : IsErrOf answer Device → failed' ≡ true
-  pub ended : IsErrOf answer Failed → failed' ≡ true
-  pub still : (IsErrOf answer Device → ⊥) → (IsErrOf answer Failed → ⊥) → failed' ≡ false
-  pub counted : IsErrOf answer Device → d'.failures ≡ one_more d.failures
-  pub served : (IsErrOf answer Device → ⊥) → d'.failures ≡ d.failures
-  pub same : SameDisk d d'
+  pub answer : DeviceAnswer d d' false failed' answer
 
 -- A version that is read stays so over a move.
 pub read_on : (live live' : List (Option LiveVersion)) (key : ℕ) → ((v : LiveVersion) → version_at live key ≡ Some v
@@ -211,9 +202,9 @@ module _ {D : Type 0} (state : D → DiskState) (only_now : (disk : D) (contents
     crashes : (answer : Result (Unit {0}) CallError) → Says answer → (answer ≡ Err (Refused NoRoom) → ⊥)
         → CallCrashes d d' core jobs n (Rename number e) moment
     crashes answer says fits honest' s is =
-        let honest = says.same.was_honest honest' in
+        let honest = says.answer.same.was_honest honest' in
         leaves_weaker d d' (StandsForOneOf (pack_of d) (without_serials s.files) _) _
-        (says.crash honest' (without_serials s.files) is.files)
+        (says.files.crash honest' (without_serials s.files) is.files)
         (λ contents. ⊎_elim (λ was. inl was)
         (λ put. inr (
           0,
@@ -236,7 +227,7 @@ module _ {D : Type 0} (state : D → DiskState) (only_now : (disk : D) (contents
           (readers_moved core b input.ppn input.file to_ppn to protection made) closed pending
 
       works : failed' ≡ false
-      works = says.still (λ e. cc e) (λ e. cc e)
+      works = says.answer.still (λ e. cc e) (λ e. cc e)
 
       done_answered : d'.honest → (old' : Service) → Serves d core false jobs old' → (new' : Service)
           × Serves d' core' failed' moved_jobs new'
@@ -245,7 +236,7 @@ module _ {D : Type 0} (state : D → DiskState) (only_now : (disk : D) (contents
           (λ old'. (new' : Service) × Serves d' core' failed' moved_jobs new'
           × Answers (pack_of d) old' (Calls n (Rename number e) moment) replies.Done new') refl
           (λ s is.
-          let honest = says.same.was_honest honest' in
+          let honest = says.answer.same.was_honest honest' in
           let w' = with_protected is.under made.key protection in
           let moved = files' honest s is in
           let t' = state_of moved w' moved_jobs in
@@ -258,8 +249,8 @@ module _ {D : Type 0} (state : D → DiskState) (only_now : (disk : D) (contents
           (moved_state core b core' jobs n job job' among.there input.ppn input.file to_ppn to protection made behind
           unclaimed vacant d d' s is sound.whole moved_from.0 moved_from.1 moved_home.0 moved_home.1
           (absent honest s is)
-          (says.done honest' (without_serials s.files) is.files) (says.readers honest' (λ e. cc e))
-          (says.writers honest' (λ e. cc e)) closed.leaves))
+          (says.files.done honest' (without_serials s.files) is.files) (says.files.readers honest' (λ e. cc e))
+          (says.files.writers honest' (λ e. cc e)) closed.leaves))
 
       pub done_serves : IsServing state disk disk' core core' failed' jobs moved_jobs n (Rename number e) moment
           replies.Done
@@ -282,8 +273,8 @@ module _ {D : Type 0} (state : D → DiskState) (only_now : (disk : D) (contents
         failed = quiet_failed false failed' replies.Done refl works (λ e. cc e, λ e. cc e);
         blamed = λ honest' e. cc e;
         counted = λ e. cc e;
-        served = λ device. says.served (λ e. cc e);
-        same = says.same;
+        served = λ device. says.answer.served (λ e. cc e);
+        same = says.answer.same;
       }
 
     -- The device failed.
@@ -294,7 +285,7 @@ module _ {D : Type 0} (state : D → DiskState) (only_now : (disk : D) (contents
         → IsServing state disk disk' core b failed' jobs (slice_set jobs n (Some job)) n (Rename number e) moment
         replies.Device
     device_serves says =
-        let is = says.device refl in
+        let is = says.answer.device refl in
         record {
           keyed = broken is _;
           placed = broken is _;
@@ -309,7 +300,7 @@ module _ {D : Type 0} (state : D → DiskState) (only_now : (disk : D) (contents
                 (
                   refl,
                   rename_undecided d core jobs s at n job among.there number e moment
-                      (timely (says.same.was_honest honest')) channel is_open input
+                      (timely (says.answer.same.was_honest honest')) channel is_open input
                       side free
                       inside,
                   refl,
@@ -324,9 +315,9 @@ module _ {D : Type 0} (state : D → DiskState) (only_now : (disk : D) (contents
           refused = λ code refused. cc refused;
           failed = (λ t. inl refl, λ e. is);
           blamed = λ honest' e. cc e;
-          counted = λ e. says.counted refl;
+          counted = λ e. says.answer.counted refl;
           served = λ device. absurd (device refl);
-          same = says.same;
+          same = says.answer.same;
         }
 
     -- Its prime block was damaged, which no honest disk shows.
@@ -334,7 +325,7 @@ module _ {D : Type 0} (state : D → DiskState) (only_now : (disk : D) (contents
         → IsServing state disk disk' core b failed' jobs (slice_set jobs n (Some job)) n (Rename number e) moment
         replies.Failed
     failed_serves says =
-        let is = says.ended refl in
+        let is = says.answer.ended refl in
         record {
           keyed = broken is _;
           placed = broken is _;
@@ -351,8 +342,8 @@ module _ {D : Type 0} (state : D → DiskState) (only_now : (disk : D) (contents
           failed = (λ t. inr refl, λ e. is);
           blamed = λ honest' e. says.given_up refl honest';
           counted = λ e. cc e;
-          served = λ device. says.served (λ e. cc e);
-          same = says.same;
+          served = λ device. says.answer.served (λ e. cc e);
+          same = says.answer.same;
         }
 
   pub move_serves : (answer : Result (Unit {0}) CallError) → Says answer → (core' : VolumeCore)
@@ -364,7 +355,7 @@ module _ {D : Type 0} (state : D → DiskState) (only_now : (disk : D) (contents
   move_serves (Err (Refused code)) says core' closes =
       let same = says.refused code refl in
       rename_serves state disk disk disk' core core core' false failed' job _ _ (Rename number e) _ _ (sym same.0)
-      (sym same.1 ∙ sym closes) (sym (says.still (λ e. cc e) (λ e. cc e))) refl refl
+      (sym same.1 ∙ sym closes) (sym (says.answer.still (λ e. cc e) (λ e. cc e))) refl refl
       (λ moment timely jobs n among. refusing_serves state only_now disk core false refl job number e channel input
       is_open side free inside sound placed code
       (λ honest s at w. moves_refused d core s at sound honest (job_of w job) e input.ppn input.file to_ppn to (place w)
@@ -373,7 +364,7 @@ module _ {D : Type 0} (state : D → DiskState) (only_now : (disk : D) (contents
   move_serves (Err NoMemory) says core' closes =
       let same = says.memory refl in
       rename_serves state disk disk disk' core core core' false failed' job _ _ (Rename number e) _ _ (sym same.0)
-      (sym same.1 ∙ sym closes) (sym (says.still (λ e. cc e) (λ e. cc e))) refl refl
+      (sym same.1 ∙ sym closes) (sym (says.answer.still (λ e. cc e) (λ e. cc e))) refl refl
       (wanting_serves state only_now disk core job number e channel is_open input side free inside sound placed)
   move_serves (Err Device) says core' closes = λ moment timely jobs n among.
       subst (λ (c : VolumeCore). IsServing state disk disk' core c failed' jobs (slice_set jobs n (Some job)) n

@@ -64,8 +64,8 @@ module _ (d : DiskState) (files : Files Version) (w : UnderKeys) (jobs : List (O
       abbrev gone : Bool
       gone = is_none (get files owner)
 
-      pub checked : outside ≡ true → answer ≡ AddressCheck
-      checked is i = pick (is i) first gone (job.ppn == system)
+      pub answer_checked : outside ≡ true → answer ≡ AddressCheck
+      answer_checked is i = pick (is i) first gone (job.ppn == system)
 
       pub denied_by : (code : ℕ) → outside ≡ false → IsDenied d layout job.ppn owner code → answer ≡ Refused code
       denied_by code inside (inl (five, one)) =
@@ -85,14 +85,3 @@ module _ (d : DiskState) (files : Files Version) (w : UnderKeys) (jobs : List (O
           let is = layout_is false two in
           let found = one_of there in
           (λ i. pick (inside i) (is i) (found i) (own i))
-
--- The directory is the one asked for, and so is its quota.
-module _ (d d' : DiskState) (owner asked : ℕ) (whose : owner ≡ asked) (quota wanted : ℕ) (many : quota ≡ wanted)
-    (f : Files File) where
-  pub crash_asked : LeavesOnly d d' (StandsForOneOf (pack_of d) f (files_limited f owner quota))
-      → LeavesOnly d d' (StandsForOneOf (pack_of d) f (files_limited f asked wanted))
-  crash_asked leaves = subst (λ (g : Files File). LeavesOnly d d' (StandsForOneOf (pack_of d) f g))
-      (λ i. files_limited f (whose i) (many i)) leaves
-
-  pub done_asked : RestsAt d' (files_limited f owner quota) → RestsAt d' (files_limited f asked wanted)
-  done_asked rests = subst (RestsAt d') (λ i. files_limited f (whose i) (many i)) rests

@@ -5,7 +5,6 @@ use Rattle.meaning.specs.declared.call.Reply.{Reply}
 use Rattle.meaning.specs.declared.call.Reply.TheVariants.{Refused}
 use Rattle.volume.specs.Live.{VolumeCore}
 use Rattle.monitor.specs.DeleteDirRows.{IsDeleteDir}
-use Rattle.monitor.specs.QuotaRows.{IsQuota}
 use Rattle.monitor.specs.DirectoryRows.{IsMakeDir}
 use Rattle.monitor.specs.Events.{IsDecided}
 use Rattle.monitor.specs.Publishing.{IsPublishing}
@@ -52,12 +51,6 @@ pub delete_dir_decided : (d : DiskState) (c : VolumeCore) (same : Type 0) (job j
     → IsDeleteDir d c same job job' e reply → IsDecided reply → (job' ≡ job) × same
 delete_dir_decided d c same job job' e reply is decided =
     by_decided (λ r. IsDeleteDir d c same job job' e r → (job' ≡ job) × same) reply decided
-    (λ x. absurd x) (λ x. (x.0, x.1)) (λ x. absurd x) (λ x. absurd x) is
-
-pub quota_decided : (d : DiskState) (layout : ℕ) (same : Type 0) (job job' : Job) (e : ℕ) (reply : Reply)
-    → IsQuota d layout same job job' e reply → IsDecided reply → (job' ≡ job) × same
-quota_decided d layout same job job' e reply is decided =
-    by_decided (λ r. IsQuota d layout same job job' e r → (job' ≡ job) × same) reply decided
     (λ x. absurd x) (λ x. (x.0, x.1)) (λ x. absurd x) (λ x. absurd x) is
 
 pub publishing_refused : (d d' : DiskState) (c c' : VolumeCore) (failed failed' : Bool) (channel : Channel) (o : Output)

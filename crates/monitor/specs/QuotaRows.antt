@@ -33,21 +33,3 @@ IsDenied d layout ppn owner code = ((code ≡ 5) × ((layout == 1) ≡ true))
 -- The layout has quotas, the directory is there, and the job may give it one.
 abbrev pub IsLimitable : DiskState → ℕ → ℕ → ℕ → Type 0
 IsLimitable d layout ppn owner = ((layout == 1) ≡ false) × IsThere d owner × ((ppn == system) ≡ true)
-
--- What Quota does to its job, by its answer; `same` says that disk and volume are as they were.
-abbrev pub IsQuota : DiskState → ℕ → Type 0 → Job → Job → ℕ → Reply → Type 0
-IsQuota d layout same job job' e Done =
-    (job' ≡ job) × (lies_outside job.core e 2 ≡ false) × IsLimitable d layout job.ppn (asked_owner job.core e)
-IsQuota d layout same job job' e (Refused code) =
-    (job' ≡ with_code job e code) × same × (lies_outside job.core e 2 ≡ false)
-    × IsDenied d layout job.ppn (asked_owner job.core e) code
-IsQuota d layout same job job' e AddressCheck = (job' ≡ job) × same × (lies_outside job.core e 2 ≡ true)
-IsQuota d layout same job job' e Device =
-    (job' ≡ job) × (lies_outside job.core e 2 ≡ false) × IsLimitable d layout job.ppn (asked_owner job.core e)
-IsQuota d layout same job job' e NoMemory = ⊥
-IsQuota d layout same job job' e (Value word) = ⊥
-IsQuota d layout same job job' e (Stopped status) = ⊥
-IsQuota d layout same job job' e NoChannel = ⊥
-IsQuota d layout same job job' e NoJob = ⊥
-IsQuota d layout same job job' e Failed = ⊥
-IsQuota d layout same job job' e DateRange = ⊥

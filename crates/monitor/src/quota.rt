@@ -1,19 +1,7 @@
-ghost use Rattle.std.specs.Prelude.{◌≡◌, ◌↔◌, ◌==◌, ℕ, false, IsTrue};
-ghost use Rattle.words36.specs.declared.names.FileName.{FileName};
-ghost use Rattle.blockdisk.specs.Disk.{LeavesOnly, SameDisk, one_more};
-ghost use Rattle.meaning.specs.Files.{File, Files};
-ghost use Rattle.meaning.specs.Layouts.{layout_number, pack_of};
-ghost use Rattle.meaning.specs.Making.{files_limited};
+ghost use Rattle.std.specs.Prelude.{◌≡◌, ◌==◌};
+ghost use Rattle.meaning.specs.Layouts.{layout_number};
 ghost use Rattle.meaning.specs.declared.call.Call.TheVariants.{Quota};
-ghost use Rattle.meaning.specs.declared.call.Reply.TheVariants.{Done, Device};
-ghost use Rattle.volume.specs.Beginning.{IsDirectoryOf};
-ghost use Rattle.volume.specs.Known.{KnownDirectory};
-ghost use Rattle.volume.specs.Places.{prime_at};
-ghost use Rattle.volume.specs.Rest.{IsSoundCore, RestsAt, StandsForOneOf, KeepsRead, KeepsEachWritten};
-ghost use Rattle.monitor.specs.DirectoryRows.{asked_owner};
 ghost use Rattle.monitor.specs.Promises.{IsCallReady, ServesAlways};
-ghost use Rattle.monitor.specs.QuotaRows.{asked_quota, IsQuota};
-ghost use Rattle.monitor.specs.Rows.{KeepsSides, KeepsReading};
 
 use crate::job::Job;
 use crate::makedir::is_system;
@@ -24,7 +12,9 @@ use meaning::{ErrorCode, Reply};
 use volume::{CallError, Layout, Volume};
 use words36::Ppn;
 
-/// Quota: gives a directory another quota, by the two words at an address. Its row is `limits`.
+/// Quota: gives a directory the quota that the left half of the second of the two words at an address has, whose it is by
+/// the first. It is refused in a layout without quotas, then where there is no such directory, then to anybody but
+/// [1,2]. Its row is `limits`.
 pub fn serve_quota<D: Disk>(volume: &mut Volume<D>, job: &mut Job, address: u32) -> Reply
     requires ready { IsCallReady (D.state volume.old.disk) volume.old.core volume.old.failed job.old }
     ensures serving { ServesAlways D.state volume.old.disk volume.new.disk volume.old.core volume.new.core
@@ -32,57 +22,6 @@ pub fn serve_quota<D: Disk>(volume: &mut Volume<D>, job: &mut Job, address: u32)
     ensures layout { volume.new.layout ≡ volume.old.layout }
 {
     let _layout = volume.layout(); // which says that it is the disk's
-    give_quota(volume, job, address)
-}
-
-/// Whether a volume's layout has no quotas.
-fn has_no_quotas<D: Disk>(volume: &Volume<D>) -> bool
-    ensures { result ≡ (layout_number volume.now.layout == 1) }
-{
-    match volume.layout() {
-        Layout::One => true,
-        Layout::Two => false,
-    }
-}
-
-/// Quota: gives a directory the quota that the left half of the second of the two words at an address has, whose it is by
-/// the first. It is refused in a layout without quotas, then where there is no such directory, then to anybody but
-/// [1,2].
-fn give_quota<D: Disk>(volume: &mut Volume<D>, job: &mut Job, address: u32) -> Reply
-    requires serves { volume.old.failed ≡ false }
-    requires sound { IsSoundCore (D.state volume.old.disk) volume.old.core volume.old.failed }
-    ensures outcome { IsQuota (D.state volume.old.disk) (layout_number volume.old.layout)
-        ((volume.new.disk ≡ volume.old.disk) × (volume.new.core ≡ volume.old.core)) job.old job.new address result }
-    ensures keeps { KeepsSides volume.old.core.pending volume.new.core.pending job.old job.new }
-    ensures reads { KeepsReading volume.old.core.live volume.new.core.live job.old job.new }
-    // A crash finds the files as they were, or with the quota.
-    ensures crash { (D.state volume.new.disk).honest → (f : Files File) → RestsAt (D.state volume.old.disk) f
-        → LeavesOnly (D.state volume.old.disk) (D.state volume.new.disk)
-        (StandsForOneOf (pack_of (D.state volume.old.disk)) f (files_limited f
-        (asked_owner job.old.core address) (asked_quota job.old.core address))) }
-    ensures done { (D.state volume.new.disk).honest → (f : Files File) → RestsAt (D.state volume.old.disk) f
-        → result ≡ Done
-        → RestsAt (D.state volume.new.disk) (files_limited f (asked_owner job.old.core address)
-        (asked_quota job.old.core address)) }
-    // The versions in use stay, and so do the directories, and the prime blocks of all files.
-    ensures live { volume.new.core.live ≡ volume.old.core.live }
-    ensures pending { volume.new.core.pending ≡ volume.old.core.pending }
-    ensures directories { (owner : ℕ) (d : KnownDirectory) → IsDirectoryOf volume.old.core owner d
-        → IsDirectoryOf volume.new.core owner d }
-    ensures primes { (owner : ℕ) (name : FileName)
-        → prime_at volume.new.core owner name ≡ prime_at volume.old.core owner name }
-    ensures readers { (D.state volume.new.disk).honest → volume.new.failed ≡ false
-        → KeepsRead (D.state volume.old.disk).contents (D.state volume.new.disk).contents volume.old.core }
-    ensures writers { (D.state volume.new.disk).honest → volume.new.failed ≡ false
-        → KeepsEachWritten (D.state volume.old.disk).contents (D.state volume.new.disk).contents volume.old.core }
-    // It blames the device where that failed.
-    ensures failed { IsTrue volume.new.failed ↔ (result ≡ Device) }
-    ensures counted { result ≡ Device → (D.state volume.new.disk).failures
-        ≡ one_more (D.state volume.old.disk).failures }
-    ensures served { (result ≡ Device → ⊥) → (D.state volume.new.disk).failures ≡ (D.state volume.old.disk).failures }
-    ensures same { SameDisk (D.state volume.old.disk) (D.state volume.new.disk) }
-    ensures layout { volume.new.layout ≡ volume.old.layout }
-{
     if lies_outside(&job.core, address, 2) {
         return Reply::AddressCheck;
     }
@@ -102,8 +41,17 @@ fn give_quota<D: Disk>(volume: &mut Volume<D>, job: &mut Job, address: u32) -> R
     match volume.set_quota(owner, quota.bits()) {
         Ok(()) => Reply::Done,
         Err(CallError::Refused(code)) => refuse(&mut job.core, address, code),
-        Err(CallError::NoMemory) => Reply::NoMemory,
         Err(CallError::Device) => Reply::Device,
-        Err(CallError::Failed) => Reply::Failed,
+        Err(CallError::NoMemory | CallError::Failed) => unreachable!(), // it takes no memory, and the volume serves
+    }
+}
+
+/// Whether a volume's layout has no quotas.
+fn has_no_quotas<D: Disk>(volume: &Volume<D>) -> bool
+    ensures { result ≡ (layout_number volume.now.layout == 1) }
+{
+    match volume.layout() {
+        Layout::One => true,
+        Layout::Two => false,
     }
 }

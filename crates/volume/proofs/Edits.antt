@@ -19,19 +19,19 @@ use Rattle.meaning.specs.Log.{IsTarget, targets, with_puts}
 use Rattle.meaning.specs.Regions.{log_images}
 use Rattle.meaning.specs.Stands.{DiskMap, files_of}
 use Rattle.alloctab.specs.TableState.{IsFree, bit}
-use Rattle.volume.specs.Edits.{IsWrittenBy, IsCommitted, IsEdited}
+use Rattle.volume.specs.Edits.{IsWrittenBy, IsCommitted, IsEdited, ChangesFiles, KeepsHomeCopies}
 use Rattle.volume.specs.Known.{IsHeld}
 use Rattle.volume.specs.Live.{VolumeCore, IsWholeCore}
 use Rattle.volume.specs.Rest.{AreDated, IsAtRest, IsSoundCore, IsSoundVolume, RestsAt, StandsForOneOf}
 use Rattle.volume.specs.declared.error.CallError.{CallError}
 use Rattle.volume.specs.declared.error.CallError.TheVariants.{Device}
-use Rattle.volume.proofs.HomesKept.{homes_modified, homes_written, homes_stay, past_homes, clear_past}
+use Rattle.volume.proofs.HomesKept.{homes_start, homes_modified, homes_written, homes_stay, past_homes, clear_past}
 use Rattle.volume.proofs.KeptBlocks.{IsKept, read_kept, written_kept}
 use Rattle.volume.proofs.LiveBodies.{HaveBodies, body_stays}
 use Rattle.volume.proofs.MakingDirectories.{err_of, files_are, crash_for, rest_for, sound_for, sound_failed, whole_fixed}
 use Rattle.volume.proofs.MakingHeld.{ignores_log}
 use Rattle.volume.proofs.Packs.{pack_held}
-use Rattle.volume.proofs.Publications.{quiet_leaves_either}
+use Rattle.volume.proofs.Publications.{quiet_leaves_either, unchanged_leaves}
 use Rattle.volume.proofs.PuttingDisk.{ignores_clear, quiet_at_rest, quiet_finds}
 use Rattle.volume.proofs.SoundVolumes.{not_both, volume_goes_on}
 
@@ -135,13 +135,18 @@ module _ {s mid : DiskState} {c : VolumeCore} {Quiet : ℕ → Type 0} {alive : 
       → (mid.honest → Modifies Quiet s mid) → (e : CallError) → IsEdited s mid c c' become true (Err e)
   interrupted {c'} {become} whole written e = record {
     sound = sound_failed s mid c' true same.size whole refl;
-    crash = λ m f. written_crash (same.was_honest m) (written m) f (become f);
-    done = λ m f rests. tt;
-    readers = λ m served k v is some n there.
-        quiet_stays (written m) n (read_kept s.size c sound.whole k v is some n there);
-    writers = λ m served k q is n there. quiet_stays (written m) n (written_kept s.size c sound.whole k q is n there);
-    homes = λ m. homes_modified Quiet s mid quiet_past (only_now (same.was_honest m)) (written m);
-    home_blocks = λ m served. homes_stay Quiet s mid quiet_past (written m);
+    files = record {
+      crash = λ m f. written_crash (same.was_honest m) (written m) f (become f);
+      done = λ m f rests. tt;
+      readers = λ m served k v is some n there.
+          quiet_stays (written m) n (read_kept s.size c sound.whole k v is some n there);
+      writers = λ m served k q is n there.
+          quiet_stays (written m) n (written_kept s.size c sound.whole k q is n there);
+      homes = record {
+        crash = λ m. homes_modified Quiet s mid quiet_past (only_now (same.was_honest m)) (written m);
+        stay = λ m served. homes_stay Quiet s mid quiet_past (written m);
+      };
+    };
     device = λ failed. refl;
     same = same;
   }
@@ -223,17 +228,21 @@ module _ {s mid : DiskState} {c : VolumeCore} {Quiet : ℕ → Type 0} {alive : 
             unless_device result _ committed.only (served good) (rest h'),
             (led h').3 ∙ pack_held s c.known (now h').map (now h').rest,
           ));
-      crash = crash;
-      done = λ h' f rests. on_ok_weaker result (rest_for s s' c'.known (led h').0 (become f) both.size
-          (names h' f rests)) (rest h');
-      readers = λ h' good k v is some n there. stays h' good n (read_kept s.size c sound.whole k v is some n there);
-      writers = λ h' good k q is n there. stays h' good n (written_kept s.size c sound.whole k q is n there);
-      homes = λ h'. homes_written Quiet (IsWrittenBy mid.size puts) s mid s' quiet_past past (only_now (h h'))
-          (written (m h')) (committed.near h');
-      home_blocks = λ h' good n low.
-          homes_stay (IsWrittenBy mid.size puts) mid s' past
-          (unless_device result _ committed.only good (committed.modified h')) n low
-          ∙ homes_stay Quiet s mid quiet_past (written (m h')) n low;
+      files = record {
+        crash = crash;
+        done = λ h' f rests. on_ok_weaker result (rest_for s s' c'.known (led h').0 (become f) both.size
+            (names h' f rests)) (rest h');
+        readers = λ h' good k v is some n there. stays h' good n (read_kept s.size c sound.whole k v is some n there);
+        writers = λ h' good k q is n there. stays h' good n (written_kept s.size c sound.whole k q is n there);
+        homes = record {
+          crash = λ h'. homes_written Quiet (IsWrittenBy mid.size puts) s mid s' quiet_past past (only_now (h h'))
+              (written (m h')) (committed.near h');
+          stay = λ h' good n low.
+              homes_stay (IsWrittenBy mid.size puts) mid s' past
+              (unless_device result _ committed.only good (committed.modified h')) n low
+              ∙ homes_stay Quiet s mid quiet_past (written (m h')) n low;
+        };
+      };
       device = committed.device;
       same = both;
     }
@@ -254,7 +263,7 @@ pub edited_volume : {s s' : DiskState} {c c' : VolumeCore} {become : Files File 
     → IsEdited s s' c c' become failed result → IsSoundVolume s' c' failed layout
 edited_volume {s} {s'} {c} {c'} {become} {alive} {failed} {result} {layout} was ok edited =
     volume_goes_on s s' c c' alive failed layout was edited.sound edited.same.size edited.same.was_honest (λ good. ok)
-    (λ h good. edited.home_blocks h (λ is. not_both failed (edited.device is) good))
+    (λ h good. edited.files.homes.stay h (λ is. not_both failed (edited.device is) good))
 
 -- a closed block that wasn't written is as it was
 near_closed : (In : ℕ → Type 0) (s s' : DiskState) → LeavesOnly s s' (Near In s) → (n : ℕ) → (In n → ⊥)
@@ -277,3 +286,21 @@ not_written_stays {s} {s'} {puts} {was} {failed} {result} committed h n out clos
     by (Ok x) only modified shut = modified.contents n out
     by (Err e) only modified shut = near_closed (IsWrittenBy s.size puts) s s' (committed.near h) n out
         (shut (err_of e Device only))
+
+-- Nothing was done.
+pub copies_stay : {T : Type 0} {s : DiskState} {result : Result T CallError}
+    → (s.honest → (d : Contents) → s.left_since s.clock d → MayLeave s d) → KeepsHomeCopies s s result
+copies_stay {T} {s} only_now = record {
+  crash = λ h. homes_start s (only_now h);
+  stay = λ h served n low. refl;
+}
+
+pub files_stay : {s : DiskState} {c : VolumeCore} {become : Files File → Files File} {e : CallError}
+    → (s.honest → (d : Contents) → s.left_since s.clock d → MayLeave s d) → ChangesFiles s s c become (Err e)
+files_stay {s} {c} {become} only_now = record {
+  crash = λ h f rests. unchanged_leaves s f (become f) rests (only_now h);
+  done = λ h f rests. tt;
+  readers = λ h served k v is some n there. refl;
+  writers = λ h served k q is n there. refl;
+  homes = copies_stay only_now;
+}

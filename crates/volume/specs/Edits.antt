@@ -12,7 +12,7 @@ use Rattle.volume.specs.HomeBlocks.{HasHomesFrom, KeepsHomes}
 use Rattle.volume.specs.Live.{VolumeCore}
 use Rattle.volume.specs.Rest.{IsSoundCore, RestsAt, StandsForOneOf, KeepsRead, KeepsEachWritten}
 use Rattle.volume.specs.declared.error.CallError.{CallError}
-use Rattle.volume.specs.declared.error.CallError.TheVariants.{Device}
+use Rattle.volume.specs.declared.error.CallError.TheVariants.{Device, Failed}
 
 -- the blocks that a commit of these puts writes
 abbrev pub IsWrittenBy : ℕ → List Put → ℕ → Type 0
@@ -37,19 +37,37 @@ pub record IsCommitted (s s' : DiskState) (puts : List Put) (was failed : Bool) 
   pub counted : IsErrOf result Device → s'.failures ≡ one_more s.failures
   pub served : OnOk result (s'.failures ≡ s.failures)
 
--- A volume was changed, or the device failed meanwhile: what became of its disk, where `become` is what the change
--- makes of the files.
-pub record IsEdited (s s' : DiskState) (c c' : VolumeCore) (become : Files File → Files File) (failed : Bool)
+-- What a call says of the device, whatever it is for: it failed once and the volume with it, or not at all.
+pub record DeviceAnswer {T : Type 0} (s s' : DiskState) (was failed : Bool) (result : Result T CallError) : Type 0 where
+  pub device : IsErrOf result Device → failed ≡ true
+  pub ended : IsErrOf result Failed → failed ≡ true
+  pub still : (IsErrOf result Device → ⊥) → (IsErrOf result Failed → ⊥) → failed ≡ was
+  pub counted : IsErrOf result Device → s'.failures ≡ one_more s.failures
+  pub served : (IsErrOf result Device → ⊥) → s'.failures ≡ s.failures
+  pub same : SameDisk s s'
+
+-- The home copies stay, but where the device failed; a crash at any moment leaves there what one could before.
+pub record KeepsHomeCopies {T : Type 0} (s s' : DiskState) (result : Result T CallError) : Type 0 where
+  pub crash : s'.honest → LeavesOnly s s' (HasHomesFrom s)
+  pub stay : s'.honest → (IsErrOf result Device → ⊥) → KeepsHomes s.contents s'.contents
+
+-- What a change makes of the files is `become`; c is core before it.
+pub record ChangesFiles (s s' : DiskState) (c : VolumeCore) (become : Files File → Files File)
     (result : Result (Unit {0}) CallError) : Type 0 where
-  pub sound : IsSoundCore s' c' failed
-  -- a crash finds the files from before, or the new ones, and at Ok the latter
+  -- let all that a crash may leave stand for f: a crash at any moment leaves what stands for f or for what f becomes,
+  -- and at Ok for the latter
   pub crash : s'.honest → (f : Files File) → RestsAt s f
       → LeavesOnly s s' (StandsForOneOf (pack_of s) f (become f))
   pub done : s'.honest → (f : Files File) → RestsAt s f → OnOk result (RestsAt s' (become f))
-  -- the words of all versions stay, and so do the home copies, but where the device failed
+  -- the words of all versions in use stay, but where the device failed
   pub readers : s'.honest → (IsErrOf result Device → ⊥) → KeepsRead s.contents s'.contents c
   pub writers : s'.honest → (IsErrOf result Device → ⊥) → KeepsEachWritten s.contents s'.contents c
-  pub homes : s'.honest → LeavesOnly s s' (HasHomesFrom s)
-  pub home_blocks : s'.honest → (IsErrOf result Device → ⊥) → KeepsHomes s.contents s'.contents
+  pub homes : KeepsHomeCopies s s' result
+
+-- A volume was changed, or the device failed meanwhile.
+pub record IsEdited (s s' : DiskState) (c c' : VolumeCore) (become : Files File → Files File) (failed : Bool)
+    (result : Result (Unit {0}) CallError) : Type 0 where
+  pub sound : IsSoundCore s' c' failed
+  pub files : ChangesFiles s s' c become result
   pub device : IsErrOf result Device → failed ≡ true
   pub same : SameDisk s s'

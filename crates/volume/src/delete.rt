@@ -3,21 +3,19 @@ ghost use Rattle.std.specs.Prelude.{slice_get, option_to_list, take, drop, suc, 
 ghost use Rattle.std.specs.Prelude.{IsErrOf};
 ghost use Rattle.std.specs.Ordering.{nat_cmp};
 ghost use Rattle.std.specs.FinMap.Entries.{find};
-ghost use Rattle.blockdisk.specs.Disk.{LeavesOnly, SameDisk, one_more};
 ghost use Rattle.words36.specs.declared.names.FileName.{FileName};
-ghost use Rattle.meaning.specs.Layouts.{pack_of};
 ghost use Rattle.meaning.specs.declared.code.ErrorCode.{ErrorCode};
 ghost use Rattle.meaning.specs.declared.code.ErrorCode.TheVariants.{NoDirectory, NotFound};
 ghost use Rattle.meaning.specs.declared.put.Put.{Put};
 ghost use Rattle.meaning.specs.Directories.{file_words, IsFileEntry};
-ghost use Rattle.meaning.specs.Files.{File, Files, name_cmp};
+ghost use Rattle.meaning.specs.Files.{name_cmp};
 ghost use Rattle.meaning.specs.Maps.{remove, from_entries, times};
 ghost use Rattle.alloctab.specs.TableState.{IsTable, bit};
 ghost use Rattle.directory.specs.Chains.{IsChain, viewed};
 ghost use Rattle.directory.specs.Edits.{StandsAt, PutsChain, removed, last_first};
 ghost use Rattle.volume.specs.Beginning.{IsDirectoryOf};
 ghost use Rattle.volume.specs.Cores.{file_view};
-ghost use Rattle.volume.specs.HomeBlocks.{HasHomesFrom, KeepsHomes};
+ghost use Rattle.volume.specs.Edits.{ChangesFiles, DeviceAnswer};
 ghost use Rattle.volume.specs.Known.{KnownDirectory};
 ghost use Rattle.volume.specs.Live.{slot, IsWholeCore};
 ghost use Rattle.volume.specs.LiveCores.{core_of};
@@ -25,7 +23,6 @@ ghost use Rattle.volume.specs.Pins.{IsKeyOf};
 ghost use Rattle.volume.specs.Places.{prime_at};
 ghost use Rattle.volume.specs.Publishing.{ClearsBits};
 ghost use Rattle.volume.specs.Removing.{files_removed, RemovesFile};
-ghost use Rattle.volume.specs.Rest.{RestsAt, StandsForOneOf, KeepsRead, KeepsEachWritten};
 ghost use Rattle.volume.specs.declared.error.CallError.TheVariants.{Refused, Device, Failed, NoMemory};
 ghost use Rattle.volume.specs.declared.live.LiveVersion.{LiveVersion};
 
@@ -127,14 +124,9 @@ impl<D: Disk> Volume<D> {
     /// with `NotFound` where it has no such file. All is as before then. `Device` where the device failed, and the
     /// volume with it: a later start finds the files without it, or those from before.
     pub fn delete(&mut self, ppn: Ppn, name: &FileName) -> Result<(), CallError>
-        // Let all that a crash may leave stand for f. Then a crash at any moment leaves what stands for f, or for
-        // f without the file.
-        ensures crash { (D.state self.new.disk).honest → (f : Files File) → RestsAt (D.state self.old.disk) f
-            → LeavesOnly (D.state self.old.disk) (D.state self.new.disk)
-            (StandsForOneOf (pack_of (D.state self.old.disk)) f (files_removed f ppn name.now)) }
-        // At Ok all that a crash may leave stands for the latter.
-        ensures done { (D.state self.new.disk).honest → (f : Files File) → RestsAt (D.state self.old.disk) f
-            → OnOk result (RestsAt (D.state self.new.disk) (files_removed f ppn name.now)) }
+        // What it does to the files, and what stays meanwhile.
+        ensures files { ChangesFiles (D.state self.old.disk) (D.state self.new.disk) self.old.core
+            (λ f. files_removed f ppn name.now) result }
         // What it does to core.
         ensures removed { OnOk result ((key : ℕ) × (v : LiveVersion) × (puts : List Put)
             × RemovesFile (D.state self.old.disk).size self.old.core self.new.core ppn name.now key v puts) }
@@ -143,15 +135,6 @@ impl<D: Disk> Volume<D> {
         ensures pending { self.new.core.pending ≡ self.old.core.pending }
         ensures held { (k : ℕ) (v : LiveVersion) → slot self.old.core.live k ≡ Some v → 0 < v.readers
             → (b : Bool) × (slot self.new.core.live k ≡ Some (record v { is_current = b })) }
-        ensures readers { (D.state self.new.disk).honest → (IsErrOf result Device → ⊥)
-            → KeepsRead (D.state self.old.disk).contents (D.state self.new.disk).contents self.old.core }
-        ensures writers { (D.state self.new.disk).honest → (IsErrOf result Device → ⊥)
-            → KeepsEachWritten (D.state self.old.disk).contents (D.state self.new.disk).contents self.old.core }
-        // The home copies stay, but where the device failed; a crash at any moment leaves there what one could before.
-        ensures homes { (D.state self.new.disk).honest
-            → LeavesOnly (D.state self.old.disk) (D.state self.new.disk) (HasHomesFrom (D.state self.old.disk)) }
-        ensures home_blocks { (D.state self.new.disk).honest → (IsErrOf result Device → ⊥)
-            → KeepsHomes (D.state self.old.disk).contents (D.state self.new.disk).contents }
         // Each other place keeps its prime block, and this one has none.
         ensures primes { OnOk result ((q : ℕ) (n : FileName) → ((q ≡ ppn) × (n ≡ name.now) → ⊥)
             → prime_at self.new.core q n ≡ prime_at self.old.core q n) }
@@ -170,13 +153,8 @@ impl<D: Disk> Volume<D> {
         ensures codes { (code : ErrorCode) → IsErrOf result (Refused code)
             → (code ≡ NoDirectory) ⊎ (code ≡ NotFound) }
         ensures memory { IsErrOf result NoMemory → ⊥ }
-        ensures device { IsErrOf result Device → self.new.failed ≡ true }
-        ensures counted { IsErrOf result Device → (D.state self.new.disk).failures
-            ≡ one_more (D.state self.old.disk).failures }
-        ensures served { (IsErrOf result Device → ⊥) → (D.state self.new.disk).failures
-            ≡ (D.state self.old.disk).failures }
-        ensures still { (IsErrOf result Device → ⊥) → self.new.failed ≡ self.old.failed }
-        ensures same { SameDisk (D.state self.old.disk) (D.state self.new.disk) }
+        ensures answer { DeviceAnswer (D.state self.old.disk) (D.state self.new.disk) self.old.failed self.new.failed
+            result }
         ensures layout { self.new.layout ≡ self.old.layout }
     {
         if self.failed {

@@ -4,26 +4,22 @@ ghost use Rattle.std.specs.Prelude.{length, false};
 ghost use Rattle.std.specs.List.{AllByRecursion};
 ghost use Rattle.std.specs.Ordering.{nat_cmp};
 ghost use Rattle.std.specs.FinMap.Entries.{find};
-ghost use Rattle.blockdisk.specs.Disk.{LeavesOnly, SameDisk, one_more};
 ghost use Rattle.words36.specs.declared.names.FileName.{FileName};
-ghost use Rattle.meaning.specs.Layouts.{pack_of};
 ghost use Rattle.meaning.specs.declared.code.ErrorCode.{ErrorCode};
 ghost use Rattle.meaning.specs.declared.code.ErrorCode.TheVariants.{NameExists, NoRoom};
-ghost use Rattle.meaning.specs.Files.{File, Files};
 ghost use Rattle.meaning.specs.Maps.{times};
 ghost use Rattle.meaning.specs.Regions.{IsVolumeSize, space_start};
 ghost use Rattle.meaning.specs.Faults.{InSpace};
 ghost use Rattle.alloctab.specs.TableState.{TableState, IsTable, IsFree, bit, holds, space, used_in_space, with_held};
 ghost use Rattle.retrieval.specs.Writing.{Takes, IsFixed};
 ghost use Rattle.volume.specs.Beginning.{IsDirectoryOf};
-ghost use Rattle.volume.specs.HomeBlocks.{HasHomesFrom, KeepsHomes};
+ghost use Rattle.volume.specs.Edits.{ChangesFiles, DeviceAnswer};
 ghost use Rattle.volume.specs.Known.{KnownDirectory};
 ghost use Rattle.volume.specs.Live.{IsWholeCore};
 ghost use Rattle.volume.specs.LiveCores.{core_of};
 ghost use Rattle.volume.specs.Making.{put_in_use, Uses, TakesBlocks, PutsTable, chain_growth, fresh_list, files_made};
 ghost use Rattle.volume.specs.Making.{IsEntered, IsMade};
 ghost use Rattle.volume.specs.Places.{prime_at};
-ghost use Rattle.volume.specs.Rest.{RestsAt, StandsForOneOf, KeepsRead, KeepsEachWritten};
 ghost use Rattle.volume.specs.declared.error.CallError.TheVariants.{Refused, Device, Failed};
 
 use crate::CallError;
@@ -232,15 +228,10 @@ impl<D: Disk> Volume<D> {
     /// volume with it: a later start finds the directory, or all as before.
     pub fn make_dir(&mut self, alloc: Global, ppn: Ppn, protection: u16) -> Result<(), CallError>
         requires protection { protection < 512 }
+        // What it does to the files, and what stays meanwhile.
+        ensures files { ChangesFiles (D.state self.old.disk) (D.state self.new.disk) self.old.core
+            (λ f. files_made f ppn protection) result }
 
-        // Let all that a crash may leave stand for f. Then a crash at any moment leaves what stands for f, or for
-        // f with the directory.
-        ensures crash { (D.state self.new.disk).honest → (f : Files File) → RestsAt (D.state self.old.disk) f
-            → LeavesOnly (D.state self.old.disk) (D.state self.new.disk)
-            (StandsForOneOf (pack_of (D.state self.old.disk)) f (files_made f ppn protection)) }
-        // At Ok all that a crash may leave stands for f with the directory.
-        ensures done { (D.state self.new.disk).honest → (f : Files File) → RestsAt (D.state self.old.disk) f
-            → OnOk result (RestsAt (D.state self.new.disk) (files_made f ppn protection)) }
         // The versions in use stay, and no block in use changes, but those of the master directory; where the device
         // failed, no closed one does.
         ensures live { self.new.core.live ≡ self.old.core.live }
@@ -249,15 +240,6 @@ impl<D: Disk> Volume<D> {
             → times n self.old.core.known.master.blocks ≡ 0 → (IsFree self.old.core.known.table n → ⊥)
             → (IsErrOf result Device → (D.state self.old.disk).is_open n ≡ false)
             → (D.state self.new.disk).contents n ≡ (D.state self.old.disk).contents n }
-        ensures readers { (D.state self.new.disk).honest → (IsErrOf result Device → ⊥)
-            → KeepsRead (D.state self.old.disk).contents (D.state self.new.disk).contents self.old.core }
-        ensures writers { (D.state self.new.disk).honest → (IsErrOf result Device → ⊥)
-            → KeepsEachWritten (D.state self.old.disk).contents (D.state self.new.disk).contents self.old.core }
-        // The home copies stay, but where the device failed; a crash at any moment leaves there what one could before.
-        ensures homes { (D.state self.new.disk).honest
-            → LeavesOnly (D.state self.old.disk) (D.state self.new.disk) (HasHomesFrom (D.state self.old.disk)) }
-        ensures home_blocks { (D.state self.new.disk).honest → (IsErrOf result Device → ⊥)
-            → KeepsHomes (D.state self.old.disk).contents (D.state self.new.disk).contents }
         // So does each directory in its place.
         ensures directories { (owner : ℕ) (d : KnownDirectory) → IsDirectoryOf self.old.core owner d
             → IsDirectoryOf self.new.core owner d }
@@ -277,13 +259,8 @@ impl<D: Disk> Volume<D> {
             ↔ (space (D.state self.old.disk).size < self.old.core.known.table.booked + 1
             + chain_growth self.old.core.known.master)) }
         ensures codes { (code : ErrorCode) → IsErrOf result (Refused code) → (code ≡ NameExists) ⊎ (code ≡ NoRoom) }
-        ensures device { IsErrOf result Device → self.new.failed ≡ true }
-        ensures counted { IsErrOf result Device → (D.state self.new.disk).failures
-            ≡ one_more (D.state self.old.disk).failures }
-        ensures served { (IsErrOf result Device → ⊥) → (D.state self.new.disk).failures
-            ≡ (D.state self.old.disk).failures }
-        ensures still { (IsErrOf result Device → ⊥) → self.new.failed ≡ self.old.failed }
-        ensures same { SameDisk (D.state self.old.disk) (D.state self.new.disk) }
+        ensures answer { DeviceAnswer (D.state self.old.disk) (D.state self.new.disk) self.old.failed self.new.failed
+            result }
         ensures layout { self.new.layout ≡ self.old.layout }
     {
         if self.failed {

@@ -1,6 +1,6 @@
 ghost use Rattle.std.specs.Prelude.{◌≡◌, ◌⊎◌, ◌↔◌, ◌-◌, ◌<◌, ◌≤◌, ℕ, Bool, List, false, true, length, OnOk};
 ghost use Rattle.std.specs.Prelude.{OnErr, IfOk, IfErr, IsErrOf, IsSome, Some, None};
-ghost use Rattle.blockdisk.specs.Disk.{LeavesOnly, SameDisk, one_more};
+ghost use Rattle.blockdisk.specs.Disk.{LeavesOnly};
 ghost use Rattle.meaning.specs.Layouts.{pack_of};
 ghost use Rattle.meaning.specs.declared.code.ErrorCode.{ErrorCode};
 ghost use Rattle.meaning.specs.declared.code.ErrorCode.TheVariants.{NoRoom};
@@ -16,7 +16,7 @@ ghost use Rattle.retrieval.specs.Versions.{VersionState};
 ghost use Rattle.retrieval.specs.Writing.{rib_count};
 ghost use Rattle.slab.specs.Slab.{HasRoomFor};
 ghost use Rattle.volume.specs.Cores.{file_view};
-ghost use Rattle.volume.specs.HomeBlocks.{HasHomesFrom, KeepsHomes};
+ghost use Rattle.volume.specs.Edits.{DeviceAnswer, KeepsHomeCopies};
 ghost use Rattle.volume.specs.Live.{VolumeCore, slot, pending_at, IsWholeCore};
 ghost use Rattle.volume.specs.LiveCores.{core_of};
 ghost use Rattle.volume.specs.Publishing.{MakesCurrent, IsPlaced, IsPublishedCore, IsSupplied, file_of};
@@ -121,18 +121,11 @@ fn publish_written<D: Disk>(
     ensures writers { (D.state disk.new).honest → (IsErrOf result Device → ⊥) → (k : ℕ) (q : PendingVersion)
         → (k ≡ key → ⊥) → pending_at (core_of map.old).pending k ≡ Some q
         → (n : ℕ) → 0 < times n q.version.blocks → (D.state disk.new).contents n ≡ (D.state disk.old).contents n }
-    ensures homes { (D.state disk.new).honest
-        → LeavesOnly (D.state disk.old) (D.state disk.new) (HasHomesFrom (D.state disk.old)) }
-    ensures home_blocks { (D.state disk.new).honest → (IsErrOf result Device → ⊥)
-        → KeepsHomes (D.state disk.old).contents (D.state disk.new).contents }
+    ensures homes { KeepsHomeCopies (D.state disk.old) (D.state disk.new) result }
 
     // Which refusal comes when, and what it leaves.
     ensures only { IfErr result (λ error. error ≡ Device) }
-    ensures device { IsErrOf result Device → failed.new ≡ true }
-    ensures still { OnOk result (failed.new ≡ false) }
-    ensures counted { IsErrOf result Device → (D.state disk.new).failures ≡ one_more (D.state disk.old).failures }
-    ensures served { OnOk result ((D.state disk.new).failures ≡ (D.state disk.old).failures) }
-    ensures same { SameDisk (D.state disk.old) (D.state disk.new) }
+    ensures answer { DeviceAnswer (D.state disk.old) (D.state disk.new) failed.old failed.new result }
 {
     let mut set = ChangeSet::new();
     let current = make_current(map, key, supplies, &mut set);
@@ -203,11 +196,8 @@ impl<D: Disk> Volume<D> {
             → KeepsRead (D.state self.old.disk).contents (D.state self.new.disk).contents self.old.core }
         ensures writers { (D.state self.new.disk).honest → (IsErrOf result Device → ⊥)
             → KeepsWritten (D.state self.old.disk).contents (D.state self.new.disk).contents self.old.core pending.key }
-        // The home copies stay, but where the device failed; a crash at any moment leaves there what one could before.
-        ensures homes { (D.state self.new.disk).honest
-            → LeavesOnly (D.state self.old.disk) (D.state self.new.disk) (HasHomesFrom (D.state self.old.disk)) }
-        ensures home_blocks { (D.state self.new.disk).honest → (IsErrOf result Device → ⊥)
-            → KeepsHomes (D.state self.old.disk).contents (D.state self.new.disk).contents }
+        // The home copies stay.
+        ensures homes { KeepsHomeCopies (D.state self.old.disk) (D.state self.new.disk) result }
         // A damaged block is never taken for words that stay before the last ones.
         ensures whole { (D.state self.new.disk).honest → 0 < length words.now → (p : PendingVersion)
             → pending_at self.old.core.pending pending.key ≡ Some p
@@ -227,14 +217,8 @@ impl<D: Disk> Volume<D> {
         ensures refused { (code : ErrorCode) → IsErrOf result (Refused code) → (self.new.disk ≡ self.old.disk)
             × (self.new.core ≡ self.old.core) }
         ensures memory { IsErrOf result NoMemory → (self.new.disk ≡ self.old.disk) × (self.new.core ≡ self.old.core) }
-        ensures device { IsErrOf result Device → self.new.failed ≡ true }
-        ensures ended { IsErrOf result Failed → self.new.failed ≡ true }
-        ensures still { (IsErrOf result Device → ⊥) → (IsErrOf result Failed → ⊥) → self.new.failed ≡ self.old.failed }
-        ensures counted { IsErrOf result Device → (D.state self.new.disk).failures
-            ≡ one_more (D.state self.old.disk).failures }
-        ensures served { (IsErrOf result Device → ⊥) → (D.state self.new.disk).failures
-            ≡ (D.state self.old.disk).failures }
-        ensures same { SameDisk (D.state self.old.disk) (D.state self.new.disk) }
+        ensures answer { DeviceAnswer (D.state self.old.disk) (D.state self.new.disk) self.old.failed self.new.failed
+            result }
         ensures layout { self.new.layout ≡ self.old.layout }
     {
         if self.failed {

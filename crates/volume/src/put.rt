@@ -18,6 +18,7 @@ ghost use Rattle.retrieval.specs.Placing.{IsEdgeBlock};
 ghost use Rattle.retrieval.specs.Versions.{VersionState};
 ghost use Rattle.retrieval.specs.Writing.{IsFixed};
 ghost use Rattle.retrieval.specs.declared.error.BodyError.TheVariants as body;
+ghost use Rattle.volume.specs.Edits.{DeviceAnswer};
 ghost use Rattle.volume.specs.HomeBlocks.{HasHomesFrom, KeepsHomes};
 ghost use Rattle.volume.specs.Live.{IsWholeCore, pending_at};
 ghost use Rattle.volume.specs.LiveCores.{core_of};
@@ -293,12 +294,7 @@ pub(crate) fn put_in_core<D: Disk>(
     ensures refused { (code : ErrorCode) → IsErrOf result (Refused code) → (disk.new ≡ disk.old)
         × (core_of map.new ≡ core_of map.old) }
     ensures memory { IsErrOf result NoMemory → (disk.new ≡ disk.old) × (core_of map.new ≡ core_of map.old) }
-    ensures device { IsErrOf result Device → failed.new ≡ true }
-    ensures gone { IsErrOf result Failed → failed.new ≡ true }
-    ensures still { (IsErrOf result Device → ⊥) → (IsErrOf result Failed → ⊥) → failed.new ≡ failed.old }
-    ensures counted { IsErrOf result Device → (D.state disk.new).failures ≡ one_more (D.state disk.old).failures }
-    ensures served { (IsErrOf result Device → ⊥) → (D.state disk.new).failures ≡ (D.state disk.old).failures }
-    ensures same { SameDisk (D.state disk.old) (D.state disk.new) }
+    ensures answer { DeviceAnswer (D.state disk.old) (D.state disk.new) failed.old failed.new result }
 {
     if *failed {
         return Err(CallError::Failed);
@@ -392,14 +388,8 @@ impl<D: Disk> Volume<D> {
         ensures refused { (code : ErrorCode) → IsErrOf result (Refused code) → (self.new.disk ≡ self.old.disk)
             × (self.new.core ≡ self.old.core) }
         ensures memory { IsErrOf result NoMemory → (self.new.disk ≡ self.old.disk) × (self.new.core ≡ self.old.core) }
-        ensures device { IsErrOf result Device → self.new.failed ≡ true }
-        ensures gone { IsErrOf result Failed → self.new.failed ≡ true }
-        ensures still { (IsErrOf result Device → ⊥) → (IsErrOf result Failed → ⊥) → self.new.failed ≡ self.old.failed }
-        ensures counted { IsErrOf result Device → (D.state self.new.disk).failures
-            ≡ one_more (D.state self.old.disk).failures }
-        ensures served { (IsErrOf result Device → ⊥) → (D.state self.new.disk).failures
-            ≡ (D.state self.old.disk).failures }
-        ensures same { SameDisk (D.state self.old.disk) (D.state self.new.disk) }
+        ensures answer { DeviceAnswer (D.state self.old.disk) (D.state self.new.disk) self.old.failed self.new.failed
+            result }
         ensures layout { self.new.layout ≡ self.old.layout }
     {
         put_in_core(

@@ -2,15 +2,14 @@ ghost use Rattle.std.specs.Prelude.{◌≡◌, ◌↔◌, ◌⊎◌, ◌<◌, �
 ghost use Rattle.std.specs.Prelude.{IsSome, IfOk, IfErr, OnOk, IsErrOf};
 ghost use Rattle.std.specs.Ordering.{nat_cmp};
 ghost use Rattle.std.specs.FinMap.Entries.{find};
-ghost use Rattle.blockdisk.specs.Disk.{Keeps, LeavesOnly, SameDisk, one_more};
+ghost use Rattle.blockdisk.specs.Disk.{Keeps, SameDisk, one_more};
 ghost use Rattle.words36.specs.declared.names.FileName.{FileName};
 ghost use Rattle.changeset.specs.Puts.{replaced};
-ghost use Rattle.meaning.specs.Layouts.{pack_of};
 ghost use Rattle.meaning.specs.declared.code.ErrorCode.{ErrorCode};
 ghost use Rattle.meaning.specs.declared.code.ErrorCode.TheVariants.{NameExists, NoDirectory, NotFound};
 ghost use Rattle.meaning.specs.declared.put.Put.{Put};
 ghost use Rattle.meaning.specs.Directories.{file_words, IsFileEntry};
-ghost use Rattle.meaning.specs.Files.{File, Files, name_cmp};
+ghost use Rattle.meaning.specs.Files.{name_cmp};
 ghost use Rattle.meaning.specs.Maps.{insert, remove, from_entries};
 ghost use Rattle.meaning.specs.Stands.{place_of};
 ghost use Rattle.directory.specs.Chains.{IsChain, viewed};
@@ -20,8 +19,7 @@ ghost use Rattle.retrieval.specs.declared.prime.Prime.{Prime as PrimeValue};
 ghost use Rattle.volume.specs.Beginning.{IsDirectoryOf};
 ghost use Rattle.volume.specs.Claims.{claims};
 ghost use Rattle.volume.specs.Cores.{file_view};
-ghost use Rattle.volume.specs.Edits.{IsEdited};
-ghost use Rattle.volume.specs.HomeBlocks.{HasHomesFrom, KeepsHomes};
+ghost use Rattle.volume.specs.Edits.{ChangesFiles, DeviceAnswer, IsEdited};
 ghost use Rattle.volume.specs.Known.{KnownDirectory};
 ghost use Rattle.volume.specs.Live.{slot, IsWholeCore};
 ghost use Rattle.volume.specs.LiveCores.{core_of};
@@ -29,7 +27,7 @@ ghost use Rattle.volume.specs.Moving.{files_moved, IsFreeFor, IsPrimeMoved, IsMo
 ghost use Rattle.volume.specs.Pins.{IsKeyOf};
 ghost use Rattle.volume.specs.Places.{prime_at};
 ghost use Rattle.volume.specs.PrimeBlocks.{IsFilePrime};
-ghost use Rattle.volume.specs.Rest.{IsSoundCore, RestsAt, StandsForOneOf, KeepsRead, KeepsEachWritten};
+ghost use Rattle.volume.specs.Rest.{IsSoundCore};
 ghost use Rattle.volume.specs.declared.error.CallError.{CallError};
 ghost use Rattle.volume.specs.declared.error.CallError.TheVariants.{Refused, Device, Failed, NoMemory};
 ghost use Rattle.volume.specs.declared.live.LiveVersion.{LiveVersion};
@@ -332,10 +330,7 @@ fn move_within<D: Disk>(
     // Which refusal comes when, and what it leaves.
     ensures only { IfErr result (λ error. (error ≡ Device) ⊎ (error ≡ Failed)) }
     ensures given_up { IsErrOf result Failed → (D.state disk.new).honest → ⊥ }
-    ensures ended { IfErr result (λ error. failed.new ≡ true) }
-    ensures still { OnOk result (failed.new ≡ false) }
-    ensures counted { IsErrOf result Device → (D.state disk.new).failures ≡ one_more (D.state disk.old).failures }
-    ensures served { (IsErrOf result Device → ⊥) → (D.state disk.new).failures ≡ (D.state disk.old).failures }
+    ensures answer { DeviceAnswer (D.state disk.old) (D.state disk.new) failed.old failed.new result }
 {
     let _booked = map.table.booked(); // any table is one as it should be
     let at = prime_of(&map.versions, key);
@@ -374,15 +369,10 @@ impl<D: Disk> Volume<D> {
         requires protection { protection < 512 }
         // No version is being written for its place, as claims see to: it may have blocks of the file.
         requires unclaimed { claims self.old.core.pending (place_of ppn name.now) ≡ false }
+        // What it does to the files, and what stays meanwhile.
+        ensures files { ChangesFiles (D.state self.old.disk) (D.state self.new.disk) self.old.core
+            (λ f. files_moved f ppn name.now ppn to.now protection) result }
 
-        // Let all that a crash may leave stand for f. Then a crash at any moment leaves what stands for f, or for
-        // f with the file so.
-        ensures crash { (D.state self.new.disk).honest → (f : Files File) → RestsAt (D.state self.old.disk) f
-            → LeavesOnly (D.state self.old.disk) (D.state self.new.disk)
-            (StandsForOneOf (pack_of (D.state self.old.disk)) f (files_moved f ppn name.now ppn to.now protection)) }
-        // At Ok all that a crash may leave stands for the latter.
-        ensures done { (D.state self.new.disk).honest → (f : Files File) → RestsAt (D.state self.old.disk) f
-            → OnOk result (RestsAt (D.state self.new.disk) (files_moved f ppn name.now ppn to.now protection)) }
         // What it does to core, and what it puts, where the prime block had these words.
         ensures moved { OnOk result ((key : ℕ) × (v : LiveVersion) × (words : List ℕ) × (puts : List Put)
             × MovesWithin (D.state self.old.disk).size self.old.core self.new.core ppn name.now to.now protection key v
@@ -393,15 +383,6 @@ impl<D: Disk> Volume<D> {
         ensures pending { self.new.core.pending ≡ self.old.core.pending }
         ensures held { (k : ℕ) (v : LiveVersion) → slot self.old.core.live k ≡ Some v → 0 < v.readers
             → (prime : PrimeValue) × (slot self.new.core.live k ≡ Some (record v { prime = prime })) }
-        ensures readers { (D.state self.new.disk).honest → (IsErrOf result Device → ⊥)
-            → KeepsRead (D.state self.old.disk).contents (D.state self.new.disk).contents self.old.core }
-        ensures writers { (D.state self.new.disk).honest → (IsErrOf result Device → ⊥)
-            → KeepsEachWritten (D.state self.old.disk).contents (D.state self.new.disk).contents self.old.core }
-        // The home copies stay, but where the device failed; a crash at any moment leaves there what one could before.
-        ensures homes { (D.state self.new.disk).honest
-            → LeavesOnly (D.state self.old.disk) (D.state self.new.disk) (HasHomesFrom (D.state self.old.disk)) }
-        ensures home_blocks { (D.state self.new.disk).honest → (IsErrOf result Device → ⊥)
-            → KeepsHomes (D.state self.old.disk).contents (D.state self.new.disk).contents }
         // The new place has the prime block that the old one had, which has none then; each other place keeps its own.
         ensures here { OnOk result (prime_at self.new.core ppn to.now ≡ prime_at self.old.core ppn name.now) }
         ensures gone { OnOk result ((to.now ≡ name.now → ⊥) → prime_at self.new.core ppn name.now ≡ None) }
@@ -426,14 +407,8 @@ impl<D: Disk> Volume<D> {
         ensures refused { (code : ErrorCode) → IsErrOf result (Refused code) → (self.new.disk ≡ self.old.disk)
             × (self.new.core ≡ self.old.core) }
         ensures memory { IsErrOf result NoMemory → ⊥ }
-        ensures device { IsErrOf result Device → self.new.failed ≡ true }
-        ensures ended { IsErrOf result Failed → self.new.failed ≡ true }
-        ensures still { (IsErrOf result Device → ⊥) → (IsErrOf result Failed → ⊥) → self.new.failed ≡ self.old.failed }
-        ensures counted { IsErrOf result Device → (D.state self.new.disk).failures
-            ≡ one_more (D.state self.old.disk).failures }
-        ensures served { (IsErrOf result Device → ⊥) → (D.state self.new.disk).failures
-            ≡ (D.state self.old.disk).failures }
-        ensures same { SameDisk (D.state self.old.disk) (D.state self.new.disk) }
+        ensures answer { DeviceAnswer (D.state self.old.disk) (D.state self.new.disk) self.old.failed self.new.failed
+            result }
         ensures layout { self.new.layout ≡ self.old.layout }
     {
         if self.failed {

@@ -2,7 +2,6 @@ ghost use Rattle.std.specs.Prelude.{◌≡◌, ◌↔◌, ◌<◌, ◌≤◌, []
 ghost use Rattle.std.specs.Ordering.{nat_cmp};
 ghost use Rattle.std.specs.FinMap.Entries.{find};
 ghost use Rattle.words36.specs.declared.names.FileName.{FileName};
-ghost use Rattle.blockdisk.specs.Disk.{LeavesOnly, SameDisk, one_more};
 ghost use Rattle.meaning.specs.declared.code.ErrorCode.{ErrorCode};
 ghost use Rattle.meaning.specs.declared.code.ErrorCode.TheVariants.{NoDirectory};
 ghost use Rattle.meaning.specs.Files.{File, Files};
@@ -14,11 +13,10 @@ ghost use Rattle.meaning.specs.Stands.{quota_limit};
 ghost use Rattle.directory.specs.Edits.{StandsAt};
 ghost use Rattle.volume.specs.Beginning.{IsDirectoryOf};
 ghost use Rattle.volume.specs.Charging.{IsLimited, LimitsDirectory};
-ghost use Rattle.volume.specs.HomeBlocks.{HasHomesFrom, KeepsHomes};
+ghost use Rattle.volume.specs.Edits.{ChangesFiles, DeviceAnswer};
 ghost use Rattle.volume.specs.Known.{KnownDirectory};
 ghost use Rattle.volume.specs.LiveCores.{core_of};
 ghost use Rattle.volume.specs.Places.{prime_at};
-ghost use Rattle.volume.specs.Rest.{RestsAt, StandsForOneOf, KeepsRead, KeepsEachWritten};
 ghost use Rattle.volume.specs.declared.error.CallError.TheVariants.{Refused, Device, Failed, NoMemory};
 
 use crate::CallError;
@@ -64,14 +62,9 @@ impl<D: Disk> Volume<D> {
     /// quota, or all as before.
     pub fn set_quota(&mut self, ppn: Ppn, quota: u32) -> Result<(), CallError>
         requires fits { quota < quota_limit (layout_number self.old.layout) }
-        // Let all that a crash may leave stand for f. Then a crash at any moment leaves what stands for f, or for
-        // f with the quota.
-        ensures crash { (D.state self.new.disk).honest → (f : Files File) → RestsAt (D.state self.old.disk) f
-            → LeavesOnly (D.state self.old.disk) (D.state self.new.disk)
-            (StandsForOneOf (pack_of (D.state self.old.disk)) f (files_limited f ppn quota)) }
-        // At Ok all that a crash may leave stands for f with the quota, and core has it.
-        ensures done { (D.state self.new.disk).honest → (f : Files File) → RestsAt (D.state self.old.disk) f
-            → OnOk result (RestsAt (D.state self.new.disk) (files_limited f ppn quota)) }
+        // What it does to the files, and to core at Ok.
+        ensures files { ChangesFiles (D.state self.old.disk) (D.state self.new.disk) self.old.core
+            (λ f. files_limited f ppn quota) result }
         ensures limited { OnOk result (IsLimited self.old.core self.new.core ppn quota) }
         // The versions in use stay, and no block of the free space changes, but those of the master directory; where
         // the device failed, no closed one does.
@@ -81,15 +74,6 @@ impl<D: Disk> Volume<D> {
             → times n self.old.core.known.master.blocks ≡ 0
             → (IsErrOf result Device → (D.state self.old.disk).is_open n ≡ false)
             → (D.state self.new.disk).contents n ≡ (D.state self.old.disk).contents n }
-        ensures readers { (D.state self.new.disk).honest → (IsErrOf result Device → ⊥)
-            → KeepsRead (D.state self.old.disk).contents (D.state self.new.disk).contents self.old.core }
-        ensures writers { (D.state self.new.disk).honest → (IsErrOf result Device → ⊥)
-            → KeepsEachWritten (D.state self.old.disk).contents (D.state self.new.disk).contents self.old.core }
-        // The home copies stay, but where the device failed; a crash at any moment leaves there what one could before.
-        ensures homes { (D.state self.new.disk).honest
-            → LeavesOnly (D.state self.old.disk) (D.state self.new.disk) (HasHomesFrom (D.state self.old.disk)) }
-        ensures home_blocks { (D.state self.new.disk).honest → (IsErrOf result Device → ⊥)
-            → KeepsHomes (D.state self.old.disk).contents (D.state self.new.disk).contents }
         // Each directory is there with what it has, and each name has the prime block that it had.
         ensures directories { (owner : ℕ) (d : KnownDirectory) → IsDirectoryOf self.old.core owner d
             → IsDirectoryOf self.new.core owner d }
@@ -105,13 +89,8 @@ impl<D: Disk> Volume<D> {
             → (IsErrOf result (Refused NoDirectory) ↔ (find nat_cmp ppn self.old.core.known.master.entries ≡ None)) }
         ensures codes { (code : ErrorCode) → IsErrOf result (Refused code) → code ≡ NoDirectory }
         ensures memory { IsErrOf result NoMemory → ⊥ }
-        ensures device { IsErrOf result Device → self.new.failed ≡ true }
-        ensures counted { IsErrOf result Device → (D.state self.new.disk).failures
-            ≡ one_more (D.state self.old.disk).failures }
-        ensures served { (IsErrOf result Device → ⊥) → (D.state self.new.disk).failures
-            ≡ (D.state self.old.disk).failures }
-        ensures still { (IsErrOf result Device → ⊥) → self.new.failed ≡ self.old.failed }
-        ensures same { SameDisk (D.state self.old.disk) (D.state self.new.disk) }
+        ensures answer { DeviceAnswer (D.state self.old.disk) (D.state self.new.disk) self.old.failed self.new.failed
+            result }
         ensures layout { self.new.layout ≡ self.old.layout }
     {
         if self.failed {

@@ -1,7 +1,6 @@
 ghost use Rattle.std.specs.Prelude.{◌≡◌, ◌↔◌, ◌⊎◌, ◌+◌, ◌-◌, ◌*◌, ◌<◌, ℕ, List, true, false, Some, None, IfOk, IsErrOf};
 ghost use Rattle.std.specs.Prelude.{length, min, slice_index, take};
 ghost use Rattle.std.specs.List.{AllByRecursion};
-ghost use Rattle.blockdisk.specs.Disk.{Keeps, SameDisk, one_more};
 ghost use Rattle.changeset.specs.Reads.{OnlyReads};
 ghost use Rattle.meaning.specs.declared.code.ErrorCode.{ErrorCode};
 ghost use Rattle.meaning.specs.Costs.{blocks_of};
@@ -11,6 +10,7 @@ ghost use Rattle.meaning.specs.Retrieval.{HasBody};
 ghost use Rattle.meaning.specs.Splices.{block_start, words_from};
 ghost use Rattle.alloctab.specs.TableState.{IsTable};
 ghost use Rattle.retrieval.specs.Versions.{VersionState};
+ghost use Rattle.volume.specs.Edits.{DeviceAnswer};
 ghost use Rattle.volume.specs.Live.{IsWholeCore};
 ghost use Rattle.volume.specs.LiveCores.{core_of};
 ghost use Rattle.volume.specs.Pins.{version_under, IsReadable};
@@ -87,14 +87,8 @@ impl<D: Disk> Volume<D> {
         ensures failed { self.old.failed ≡ true → IsErrOf result Failed }
         ensures broken { self.old.failed ≡ true → (self.new.disk ≡ self.old.disk) × (self.new.core ≡ self.old.core) }
         ensures given_up { IsErrOf result Failed → (self.old.failed ≡ true) ⊎ ((D.state self.new.disk).honest → ⊥) }
-        ensures gone { IsErrOf result Failed → self.new.failed ≡ true }
-        ensures device { IsErrOf result Device → self.new.failed ≡ true }
-        ensures still { (IsErrOf result Device → ⊥) → (IsErrOf result Failed → ⊥) → self.new.failed ≡ self.old.failed }
-        ensures counted { IsErrOf result Device → (D.state self.new.disk).failures
-            ≡ one_more (D.state self.old.disk).failures }
-        ensures served { (IsErrOf result Device → ⊥) → (D.state self.new.disk).failures
-            ≡ (D.state self.old.disk).failures }
-        ensures same { SameDisk (D.state self.old.disk) (D.state self.new.disk) }
+        ensures answer { DeviceAnswer (D.state self.old.disk) (D.state self.new.disk) self.old.failed self.new.failed
+            result }
         ensures layout { self.new.layout ≡ self.old.layout }
     {
         if self.failed {

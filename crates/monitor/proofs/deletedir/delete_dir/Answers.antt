@@ -60,7 +60,7 @@ pub returns-in-Ok-clause-crash : goal.returns-in-Ok-clause-crash
 returns-in-Ok-clause-crash g c h f rests =
     crash_asked (g.D.Disk.state c.args.volume.now.disk) (g.D.Disk.state c.delete_dir.new.self.disk) c.in-Some.owner
     (asked_owner c.args.job.now.core c.args.address) (c.in-Some.ensures.value ∙ c.word_at.ensures.value) f
-    (c.delete_dir.ensures.crash h f rests)
+    (c.delete_dir.ensures.files.crash h f rests)
 
 pub returns-in-Ok-clause-done : goal.returns-in-Ok-clause-done
 returns-in-Ok-clause-done g c h f rests done =
@@ -103,7 +103,7 @@ pub returns-in-Err-Refused-clause-crash : goal.returns-in-Err-Refused-clause-cra
 returns-in-Err-Refused-clause-crash g c h f rests =
     crash_asked (g.D.Disk.state c.args.volume.now.disk) (g.D.Disk.state c.delete_dir.new.self.disk) c.in-Some.owner
     (asked_owner c.args.job.now.core c.args.address) (c.in-Some.ensures.value ∙ c.word_at.ensures.value) f
-    (c.delete_dir.ensures.crash h f rests)
+    (c.delete_dir.ensures.files.crash h f rests)
 
 pub returns-in-Err-Device-clause-outcome : goal.returns-in-Err-Device-clause-outcome
 returns-in-Err-Device-clause-outcome g c =
@@ -129,4 +129,4 @@ pub returns-in-Err-Device-clause-crash : goal.returns-in-Err-Device-clause-crash
 returns-in-Err-Device-clause-crash g c h f rests =
     crash_asked (g.D.Disk.state c.args.volume.now.disk) (g.D.Disk.state c.delete_dir.new.self.disk) c.in-Some.owner
     (asked_owner c.args.job.now.core c.args.address) (c.in-Some.ensures.value ∙ c.word_at.ensures.value) f
-    (c.delete_dir.ensures.crash h f rests)
+    (c.delete_dir.ensures.files.crash h f rests)

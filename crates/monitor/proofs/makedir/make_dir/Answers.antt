@@ -48,7 +48,7 @@ returns-in-Ok-clause-crash g c h f rests =
     crash_asked (g.D.Disk.state c.args.volume.now.disk) (g.D.Disk.state c.make_dir.new.self.disk) c.args.job.now.core
     c.args.address c.in-Some.owner c.protection_or-protection.result
     (c.in-Some.ensures.value ∙ c.word_at.ensures.value) (c.protection_or-protection.ensures.value
-    ∙ ap (λ w. protection_or w 0o775) c.word_at-2.ensures.value) f (c.make_dir.ensures.crash h f rests)
+    ∙ ap (λ w. protection_or w 0o775) c.word_at-2.ensures.value) f (c.make_dir.ensures.files.crash h f rests)
 
 pub returns-in-Ok-clause-done : goal.returns-in-Ok-clause-done
 returns-in-Ok-clause-done g c h f rests done =
@@ -66,7 +66,7 @@ returns-in-Err-Refused-clause-crash g c h f rests =
     crash_asked (g.D.Disk.state c.args.volume.now.disk) (g.D.Disk.state c.make_dir.new.self.disk) c.args.job.now.core
     c.args.address c.in-Some.owner c.protection_or-protection.result
     (c.in-Some.ensures.value ∙ c.word_at.ensures.value) (c.protection_or-protection.ensures.value
-    ∙ ap (λ w. protection_or w 0o775) c.word_at-2.ensures.value) f (c.make_dir.ensures.crash h f rests)
+    ∙ ap (λ w. protection_or w 0o775) c.word_at-2.ensures.value) f (c.make_dir.ensures.files.crash h f rests)
 
 pub returns-in-Err-NoMemory-clause-keeps : goal.returns-in-Err-NoMemory-clause-keeps
 returns-in-Err-NoMemory-clause-keeps g c = keeps_core c.args.volume.now.core.pending c.make_dir.new.self.core.pending
@@ -77,7 +77,7 @@ returns-in-Err-NoMemory-clause-crash g c h f rests =
     crash_asked (g.D.Disk.state c.args.volume.now.disk) (g.D.Disk.state c.make_dir.new.self.disk) c.args.job.now.core
     c.args.address c.in-Some.owner c.protection_or-protection.result
     (c.in-Some.ensures.value ∙ c.word_at.ensures.value) (c.protection_or-protection.ensures.value
-    ∙ ap (λ w. protection_or w 0o775) c.word_at-2.ensures.value) f (c.make_dir.ensures.crash h f rests)
+    ∙ ap (λ w. protection_or w 0o775) c.word_at-2.ensures.value) f (c.make_dir.ensures.files.crash h f rests)
 
 pub returns-in-Err-Device-clause-keeps : goal.returns-in-Err-Device-clause-keeps
 returns-in-Err-Device-clause-keeps g c = keeps_core c.args.volume.now.core.pending c.make_dir.new.self.core.pending
@@ -88,4 +88,4 @@ returns-in-Err-Device-clause-crash g c h f rests =
     crash_asked (g.D.Disk.state c.args.volume.now.disk) (g.D.Disk.state c.make_dir.new.self.disk) c.args.job.now.core
     c.args.address c.in-Some.owner c.protection_or-protection.result
     (c.in-Some.ensures.value ∙ c.word_at.ensures.value) (c.protection_or-protection.ensures.value
-    ∙ ap (λ w. protection_or w 0o775) c.word_at-2.ensures.value) f (c.make_dir.ensures.crash h f rests)
+    ∙ ap (λ w. protection_or w 0o775) c.word_at-2.ensures.value) f (c.make_dir.ensures.files.crash h f rests)

@@ -38,7 +38,7 @@ returns-in-Ok-publish-clause-answered g c =
     answered_done (g.D.Disk.state c.args.volume.now.disk) (g.D.Disk.state c.publish.new.self.disk)
     c.args.volume.now.core c.publish.new.self.core c.args.volume.now.failed c.publish.new.self.failed
     c.args.channel.now c.args.output _ c.in-Ok.words.now c.in-Ok.ensures.words c.publish.result c.requires.serves
-    c.publish.ensures.still c.publish.ensures.served _ c.in-Ok-publish.is
+    c.publish.ensures.answer.still c.publish.ensures.answer.served _ c.in-Ok-publish.is
     (record {
       fits = λ p at. finds_place size core p c.args.output n
           (λ lacks. let none = (c.publish.ensures.room c.requires.serves p at).1 lacks in
@@ -59,13 +59,13 @@ returns-in-Err-clause-answered g c =
     answered_error (g.D.Disk.state c.args.volume.now.disk) (g.D.Disk.state c.publish.new.self.disk)
     c.args.volume.now.core c.publish.new.self.core c.args.volume.now.failed c.publish.new.self.failed
     c.args.channel.now c.args.output _ c.in-Ok.words.now c.in-Ok.ensures.words c.publish.result c.requires.serves
-    c.publish.ensures.still c.publish.ensures.served
+    c.publish.ensures.answer.still c.publish.ensures.answer.served
     (λ p at is. lacks_room size core p c.args.output n ((c.publish.ensures.room c.requires.serves p at).0 is))
     (λ p at other. finds_place size core p c.args.output n
     (λ lacks. other ((c.publish.ensures.room c.requires.serves p at).1 lacks))
     (λ barred. both_ways c.is_barred.result c.if-is_barred.false ((c.is_barred.ensures p at).1 barred)))
-    c.publish.ensures.codes c.publish.ensures.given_up c.publish.ensures.device c.publish.ensures.ended
-    c.publish.ensures.counted c.in-Err.error c.unpublished_by.result c.in-Err.is c.unpublished_by.ensures
+    c.publish.ensures.codes c.publish.ensures.given_up c.publish.ensures.answer.device
+    c.publish.ensures.answer.ended c.publish.ensures.answer.counted c.in-Err.error c.unpublished_by.result c.in-Err.is c.unpublished_by.ensures
 
 pub returns-then-is_barred-clause-answered : goal.returns-then-is_barred-clause-answered
 returns-then-is_barred-clause-answered g c =

@@ -1,73 +1,152 @@
-use Rattle.std.proofs.Common.{◌≡◌, false, Some, refl, sym, subst, ap, ◌∙◌, slice_set}
+use Rattle.std.proofs.Common.{◌≡◌, ◌==◌, false, None, refl, sym, ap, subst, ◌∙◌, inl, inr, rules}
+use Rattle.std.specs.Ordering.{nat_cmp}
+use Rattle.std.specs.FinMap.Entries.{find}
+use Rattle.words36.specs.Words.{IsPpn}
+use Rattle.meaning.specs.Codes.{number_of}
+use Rattle.meaning.specs.Files.{File, Files}
 use Rattle.meaning.specs.Layouts.{layout_number}
-use Rattle.meaning.proofs.SlotLaws.{slot-set_other}
+use Rattle.meaning.specs.Making.{files_limited}
+use Rattle.meaning.specs.declared.code.ErrorCode.TheVariants.{NoDirectory}
+use Rattle.volume.specs.Edits.{ChangesFiles}
 use Rattle.volume.specs.Rest.{IsSoundCore}
-use Rattle.monitor.proofs.Called.{decided_serves}
-use Rattle.monitor.proofs.QuotaAnswers.{never_failed, takes_none, refused_so, fails_by, idle_same, crashes_by}
-use Rattle.monitor.proofs.QuotaAnswers.{quota_answered}
-use Rattle.monitor.proofs.Dropped.{keeps_keyed}
-use Rattle.monitor.proofs.Placing.{placed_made}
-use Rattle.monitor.proofs.ReadingJobs.{keeps_reading}
-use Rattle.monitor.proofs.Refusals.{quota_decided}
-use Rattle.monitor.proofs.Slots.{unchanged}
+use Rattle.monitor.specs.DeleteDirRows.{IsNowhere, IsThere}
+use Rattle.monitor.specs.DirectoryRows.{asked_owner}
+use Rattle.monitor.specs.QuotaRows.{IsDenied, IsLimitable, asked_quota}
+use Rattle.monitor.proofs.DeleteDirs.{nowhere_numbered, nowhere_known, there_by}
+use Rattle.monitor.proofs.QuotaServing.{checked_serves, denied_serves, limit_broken, limit_done}
 use Rattle.monitor.proofs.quota.serve_quota.Goals as goal
 
-pub returns-clause-serving : goal.returns-clause-serving
-returns-clause-serving g c = λ moment timely jobs n among.
-    let state = g.D.Disk.state in
-    let old = c.args.volume.now in
-    let new = c.give_quota.new.volume in
-    let d = state old.disk in
+pub returns-then-lies_outside-clause-serving : goal.returns-then-lies_outside-clause-serving
+returns-then-lies_outside-clause-serving g c =
+    let volume = c.args.volume.now in
+    checked_serves g.D.Disk.state g.met.D.Disk.only_now volume.disk volume.core volume.failed c.args.job.now
+    c.requires.ready (layout_number volume.layout)
+    (λ h. ap layout_number (sym c.layout-layout.ensures.value) ∙ c.layout-layout.ensures.disk h c.requires.ready.alive)
+    c.args.address (sym c.lies_outside.ensures.value ∙ c.if-lies_outside.true)
+
+pub returns-then-has_no_quotas-clause-serving : goal.returns-then-has_no_quotas-clause-serving
+returns-then-has_no_quotas-clause-serving g c =
+    let volume = c.args.volume.now in
+    let d = g.D.Disk.state volume.disk in
     let job = c.args.job.now in
-    let job' = c.give_quota.new.job in
-    let jobs' = slice_set jobs n (Some job') in
-    let is = c.give_quota.ensures in
-    let reply = c.give_quota.result in
-    let layout = layout_number old.layout in
-    let layout_is = λ (h : d.honest). ap layout_number (sym c.layout-layout.ensures.value)
-    ∙ c.layout-layout.ensures.disk h c.requires.ready.alive in
-    let sound = subst (IsSoundCore d old.core) c.requires.ready.alive c.requires.ready.sound in
-    let keyed = keeps_keyed old.core.pending new.core.pending jobs n job job' among.keyed among.there is.keeps in
-    let reading = keeps_reading old.core.live new.core.live jobs n job job' among.reading among.there is.reads in
-    let fails = fails_by d layout (new.disk ≡ old.disk) (new.core ≡ old.core) job job' c.args.address reply
-    is.outcome new.failed is.failed in
-    record {
-      keyed = λ serves. keyed;
-      placed = λ serves. placed_made old.core new.core is.pending is.directories c.requires.ready.placed;
-      reading = λ serves. reading;
-      others = λ m other. slot-set_other jobs n m (Some job') other;
-      answered = λ h.
-          quota_answered state old.disk new.disk old.core new.core jobs jobs' n job job' c.args.address moment
-          among.there refl timely sound layout layout_is false new.failed refl keyed reading (is.same.was_honest h) is.live is.pending
-          is.primes (is.readers h) (is.writers h) reply is.outcome is.failed (is.done h);
-      crash = crashes_by state old.disk new.disk old.core new.core jobs jobs' n job job' c.args.address moment
-          among.there refl timely sound layout layout_is is.same.was_honest
-          (λ h x left. g.met.D.Disk.only_now old.disk x h left) is.crash reply is.outcome;
-      idle = idle_same d layout (new.disk ≡ old.disk) (new.core ≡ old.core) job job' c.args.address reply
-          is.outcome;
-      light = λ light. absurd light;
-      kept = λ kept. absurd kept;
-      memory = λ none. absurd (takes_none d layout (new.disk ≡ old.disk) (new.core ≡ old.core) job job'
-          c.args.address reply is.outcome none);
-      decided = λ decided.
-          let left = quota_decided d layout ((new.disk ≡ old.disk) × (new.core ≡ old.core)) job job'
-          c.args.address reply is.outcome decided in (
-            left.1.0,
-            left.1.1,
-            decided_serves false new.failed reply refl fails decided,
-            unchanged jobs jobs' n job job' among.there refl left.0,
-          );
-      refused = λ code refused. record {
-        job = job;
-        there = among.there;
-        jobs_are = ap (λ j. slice_set jobs n (Some j))
-            (refused_so d layout (new.disk ≡ old.disk) (new.core ≡ old.core) job job' c.args.address reply
-            is.outcome code refused);
-      };
-      failed = fails;
-      blamed = λ h. never_failed d layout (new.disk ≡ old.disk) (new.core ≡ old.core) job job' c.args.address
-          reply is.outcome;
-      counted = is.counted;
-      served = is.served;
-      same = is.same;
-    }
+    let layout = layout_number volume.layout in
+    let owner = asked_owner job.core c.args.address in
+    let why : IsDenied d layout job.ppn owner 5 = search rules in
+    denied_serves g.D.Disk.state g.met.D.Disk.only_now volume.disk volume.core volume.failed job c.requires.ready layout
+    (λ h. ap layout_number (sym c.layout-layout.ensures.value) ∙ c.layout-layout.ensures.disk h c.requires.ready.alive)
+    c.args.address 5 (sym c.lies_outside.ensures.value ∙ c.if-lies_outside.false) why volume.disk volume.core
+    volume.failed (refl, refl, refl) (record job { core = c.refuse.new.core }) c.refuse.result
+    (ap (λ core. record job { core = core }) c.refuse.ensures.kept) c.refuse.ensures.answered
+
+pub returns-in_default-clause-serving : goal.returns-in_default-clause-serving
+returns-in_default-clause-serving g c =
+    let volume = c.args.volume.now in
+    let d = g.D.Disk.state volume.disk in
+    let job = c.args.job.now in
+    let layout = layout_number volume.layout in
+    let owner = asked_owner job.core c.args.address in
+    let two : (layout == 1) ≡ false = sym c.has_no_quotas.ensures ∙ c.if-has_no_quotas.false in
+    let sound = subst (IsSoundCore d volume.core) c.requires.ready.alive c.requires.ready.sound in
+    let none : IsPpn c.word_at.result → ⊥ = search rules in
+    let nowhere : IsNowhere d owner = subst (IsNowhere d) c.word_at.ensures.value
+    (nowhere_numbered d volume.core false sound refl c.word_at.result none) in
+    let why : IsDenied d layout job.ppn owner 1 = inr (inl (refl, two, nowhere)) in
+    denied_serves g.D.Disk.state g.met.D.Disk.only_now volume.disk volume.core volume.failed job c.requires.ready layout
+    (λ h. ap layout_number (sym c.layout-layout.ensures.value) ∙ c.layout-layout.ensures.disk h c.requires.ready.alive)
+    c.args.address 1 (sym c.lies_outside.ensures.value ∙ c.if-lies_outside.false) why volume.disk volume.core
+    volume.failed (refl, refl, refl) (record job { core = c.refuse-in_default.new.core }) c.refuse-in_default.result
+    (ap (λ core. record job { core = core }) c.refuse-in_default.ensures.kept) c.refuse-in_default.ensures.answered
+
+pub returns-then-is_err-clause-serving : goal.returns-then-is_err-clause-serving
+returns-then-is_err-clause-serving g c =
+    let volume = c.args.volume.now in
+    let d = g.D.Disk.state volume.disk in
+    let job = c.args.job.now in
+    let layout = layout_number volume.layout in
+    let owner = asked_owner job.core c.args.address in
+    let two : (layout == 1) ≡ false = sym c.has_no_quotas.ensures ∙ c.if-has_no_quotas.false in
+    let why : IsDenied d layout job.ppn owner 1 = search rules in
+    denied_serves g.D.Disk.state g.met.D.Disk.only_now volume.disk volume.core volume.failed job c.requires.ready layout
+    (λ h. ap layout_number (sym c.layout-layout.ensures.value) ∙ c.layout-layout.ensures.disk h c.requires.ready.alive)
+    c.args.address 1 (sym c.lies_outside.ensures.value ∙ c.if-lies_outside.false) why volume.disk volume.core
+    volume.failed (refl, refl, refl) (record job { core = c.refuse-then-is_err.new.core }) c.refuse-then-is_err.result
+    (ap (λ core. record job { core = core }) c.refuse-then-is_err.ensures.kept) c.refuse-then-is_err.ensures.answered
+
+pub returns-then-not-is_system-clause-serving : goal.returns-then-not-is_system-clause-serving
+returns-then-not-is_system-clause-serving g c =
+    let volume = c.args.volume.now in
+    let d = g.D.Disk.state volume.disk in
+    let job = c.args.job.now in
+    let layout = layout_number volume.layout in
+    let owner = asked_owner job.core c.args.address in
+    let two : (layout == 1) ≡ false = sym c.has_no_quotas.ensures ∙ c.if-has_no_quotas.false in
+    let why : IsDenied d layout job.ppn owner 2 = search rules in
+    denied_serves g.D.Disk.state g.met.D.Disk.only_now volume.disk volume.core volume.failed job c.requires.ready layout
+    (λ h. ap layout_number (sym c.layout-layout.ensures.value) ∙ c.layout-layout.ensures.disk h c.requires.ready.alive)
+    c.args.address 2 (sym c.lies_outside.ensures.value ∙ c.if-lies_outside.false) why volume.disk volume.core
+    volume.failed (refl, refl, refl) (record job { core = c.refuse-then-not-is_system.new.core }) c.refuse-then-not-is_system.result
+    (ap (λ core. record job { core = core }) c.refuse-then-not-is_system.ensures.kept) c.refuse-then-not-is_system.ensures.answered
+
+pub returns-in-Err-Refused-clause-serving : goal.returns-in-Err-Refused-clause-serving
+returns-in-Err-Refused-clause-serving g c =
+    let volume = c.args.volume.now in
+    let d = g.D.Disk.state volume.disk in
+    let job = c.args.job.now in
+    let layout = layout_number volume.layout in
+    let owner = asked_owner job.core c.args.address in
+    let two : (layout == 1) ≡ false = sym c.has_no_quotas.ensures ∙ c.if-has_no_quotas.false in
+    let sound = subst (IsSoundCore d volume.core) c.requires.ready.alive c.requires.ready.sound in
+    let code = c.in-Err-Refused.code in
+    let same : (c.set_quota.new.self.disk ≡ volume.disk) × (c.set_quota.new.self.core ≡ volume.core)
+    × (c.set_quota.new.self.failed ≡ volume.failed) = search rules in
+    let is : code ≡ NoDirectory = search rules in
+    let none : find nat_cmp c.in-Some.owner volume.core.known.master.entries ≡ None = search rules in
+    let nowhere : IsNowhere d owner = subst (IsNowhere d) (c.in-Some.ensures.value ∙ c.word_at.ensures.value)
+    (nowhere_known d volume.core false sound refl c.in-Some.owner none) in
+    let why : IsDenied d layout job.ppn owner (number_of code) = inr (inl (ap number_of is, two, nowhere)) in
+    denied_serves g.D.Disk.state g.met.D.Disk.only_now volume.disk volume.core volume.failed job c.requires.ready layout
+    (λ h. ap layout_number (sym c.layout-layout.ensures.value) ∙ c.layout-layout.ensures.disk h c.requires.ready.alive)
+    c.args.address (number_of code) (sym c.lies_outside.ensures.value ∙ c.if-lies_outside.false) why c.set_quota.new.self.disk c.set_quota.new.self.core
+    c.set_quota.new.self.failed same (record job { core = c.refuse-in-Err-Refused.new.core }) c.refuse-in-Err-Refused.result
+    (ap (λ core. record job { core = core }) c.refuse-in-Err-Refused.ensures.kept) c.refuse-in-Err-Refused.ensures.answered
+
+pub returns-in-Ok-clause-serving : goal.returns-in-Ok-clause-serving
+returns-in-Ok-clause-serving g c =
+    let state = g.D.Disk.state in
+    let volume = c.args.volume.now in
+    let new = c.set_quota.new.self in
+    let job = c.args.job.now in
+    let layout = layout_number volume.layout in
+    let owner = asked_owner job.core c.args.address in
+    let asked : c.bits.result ≡ asked_quota job.core c.args.address = search rules in
+    let may : IsLimitable (state volume.disk) layout job.ppn owner = search rules in
+    limit_done state g.met.D.Disk.only_now volume.disk volume.core volume.failed job c.requires.ready layout
+    (λ h. ap layout_number (sym c.layout-layout.ensures.value) ∙ c.layout-layout.ensures.disk h c.requires.ready.alive)
+    c.args.address (sym c.lies_outside.ensures.value ∙ c.if-lies_outside.false) may new.disk new.core new.failed
+    c.set_quota.result
+    (subst (λ (f : Files File → Files File). ChangesFiles (state volume.disk) (state new.disk) volume.core f
+    c.set_quota.result)
+    (λ i f. files_limited f ((c.in-Some.ensures.value ∙ c.word_at.ensures.value) i) (asked i))
+    c.set_quota.ensures.files)
+    c.set_quota.ensures.answer (c.in-Ok.is) c.set_quota.ensures.live c.set_quota.ensures.pending
+    c.set_quota.ensures.directories c.set_quota.ensures.primes
+
+pub returns-in-Err-Device-clause-serving : goal.returns-in-Err-Device-clause-serving
+returns-in-Err-Device-clause-serving g c =
+    let state = g.D.Disk.state in
+    let volume = c.args.volume.now in
+    let new = c.set_quota.new.self in
+    let job = c.args.job.now in
+    let layout = layout_number volume.layout in
+    let owner = asked_owner job.core c.args.address in
+    let asked : c.bits.result ≡ asked_quota job.core c.args.address = search rules in
+    let may : IsLimitable (state volume.disk) layout job.ppn owner = search rules in
+    limit_broken state g.met.D.Disk.only_now volume.disk volume.core volume.failed job c.requires.ready layout
+    (λ h. ap layout_number (sym c.layout-layout.ensures.value) ∙ c.layout-layout.ensures.disk h c.requires.ready.alive)
+    c.args.address (sym c.lies_outside.ensures.value ∙ c.if-lies_outside.false) may new.disk new.core new.failed
+    c.set_quota.result
+    (subst (λ (f : Files File → Files File). ChangesFiles (state volume.disk) (state new.disk) volume.core f
+    c.set_quota.result)
+    (λ i f. files_limited f ((c.in-Some.ensures.value ∙ c.word_at.ensures.value) i) (asked i))
+    c.set_quota.ensures.files)
+    c.set_quota.ensures.answer (search rules)

@@ -8,6 +8,7 @@ use Rattle.meaning.specs.Stands.{place_of}
 use Rattle.meaning.specs.declared.code.ErrorCode.TheVariants.{NoDirectory, NoRoom}
 use Rattle.meaning.specs.declared.call.Call.TheVariants.{Rename}
 use Rattle.meaning.specs.declared.call.Reply.TheVariants as replies
+use Rattle.volume.specs.Edits.{DeviceAnswer}
 use Rattle.volume.specs.Rest.{IsSoundCore}
 use Rattle.monitor.specs.Changing.{changed_job, changed_reply}
 use Rattle.monitor.specs.Sides.{job_of}
@@ -171,14 +172,11 @@ returns-clause-serving g c =
     c.quota_allows_move.result (search rules) c.quota_allows_move.ensures.value
     c.rename-changed.result
     (record {
-      crash = facts.crash;
-      done = facts.done;
+      files = facts.files;
       within = λ same. on_ok c.rename-changed.result _ _
           (λ found. (found.0, found.1, found.2, found.3, found.4, found.5)) (facts.within same);
       across = λ other. on_ok c.rename-changed.result _ _
           (λ found. (found.0, found.1, found.2, found.3, found.4, found.5)) (facts.across other);
-      readers = facts.readers;
-      writers = facts.writers;
       answers = record {
         no_directory = facts.no_directory ready.alive;
         not_found = facts.not_found ready.alive;
@@ -189,12 +187,8 @@ returns-clause-serving g c =
       refused = facts.refused;
       memory = λ none. ((facts.memory none).1, (facts.memory none).2);
       given_up = λ is. ⊎_elim (λ was. absurd (contrary ready.alive was)) (λ lies. lies) (facts.given_up is);
-      device = facts.device;
-      ended = facts.ended;
-      still = λ device failed. facts.still device failed ∙ ready.alive;
-      counted = facts.counted;
-      served = facts.served;
-      same = facts.same;
+      answer = subst (λ (was : Bool). DeviceAnswer d (state moved.disk) was moved.failed c.rename-changed.result)
+          ready.alive facts.answer;
     })
     after.volume.core c.answer_change.ensures.closed)
 

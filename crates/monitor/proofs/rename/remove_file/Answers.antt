@@ -65,22 +65,15 @@ returns-clause-serving g c = λ moment timely jobs n among.
     (asks_none w job c.args.address c.requires.deletes))
     c.delete-changed.result
     (record {
-      crash = facts.crash;
-      done = facts.done;
+      files = facts.files;
       removed = facts.removed;
-      readers = facts.readers;
-      writers = facts.writers;
       refused = facts.refused;
       given_up = facts.given_up;
       no_directory = facts.no_directory;
       not_found = facts.not_found;
       codes = facts.codes;
       memory = facts.memory;
-      device = facts.device;
-      counted = facts.counted;
-      served = facts.served;
-      still = facts.still;
-      same = facts.same;
+      answer = facts.answer;
     })
     moment timely jobs n among after.volume.disk after.volume.failed after.job c.answer_change.result
     c.answer_change.ensures.untouched c.answer_change.ensures.closed c.answer_change.ensures.answered

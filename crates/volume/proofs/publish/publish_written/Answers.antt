@@ -74,10 +74,10 @@ returns-then-is_err-clause-sound g c = (ended g c (λ f. f)).sound
 
 pub returns-then-is_err-clause-crash : goal.returns-then-is_err-clause-crash
 returns-then-is_err-clause-crash g c h f rests p is body long has =
-    (ended g c (λ f. files_published f p.prime.ppn p.prime.file (file_of p.prime body))).crash h f rests
+    (ended g c (λ f. files_published f p.prime.ppn p.prime.file (file_of p.prime body))).files.crash h f rests
 
 pub returns-then-is_err-clause-homes : goal.returns-then-is_err-clause-homes
-returns-then-is_err-clause-homes g c = (ended g c (λ f. f)).homes
+returns-then-is_err-clause-homes g c = (ended g c (λ f. f)).files.homes
 
 -- The change.
 
@@ -128,19 +128,19 @@ returns-clause-sound g c =
     c.commit_edit.ensures.same (λ h. (with_words g c h).1.sound)
 
 pub returns-clause-crash : goal.returns-clause-crash
-returns-clause-crash g c h f rests p is body long has = (changed g c p is body long (λ h. has)).crash h f rests
+returns-clause-crash g c h f rests p is body long has = (changed g c p is body long (λ h. has)).files.crash h f rests
 
 pub returns-clause-done : goal.returns-clause-done
-returns-clause-done g c h f rests p is body long has = (changed g c p is body long (λ h. has)).done h f rests
+returns-clause-done g c h f rests p is body long has = (changed g c p is body long (λ h. has)).files.done h f rests
 
 pub returns-clause-readers : goal.returns-clause-readers
-returns-clause-readers g c h = (with_words g c h).1.readers h
+returns-clause-readers g c h = (with_words g c h).1.files.readers h
 
 pub returns-clause-writers : goal.returns-clause-writers
-returns-clause-writers g c h served k q other = (with_words g c h).1.writers h served k q
+returns-clause-writers g c h served k q other = (with_words g c h).1.files.writers h served k q
 
 pub returns-clause-homes : goal.returns-clause-homes
-returns-clause-homes g c h = (with_words g c h).1.homes h
-
-pub returns-clause-home_blocks : goal.returns-clause-home_blocks
-returns-clause-home_blocks g c h = (with_words g c h).1.home_blocks h
+returns-clause-homes g c = record {
+  crash = λ h. (with_words g c h).1.files.homes.crash h;
+  stay = λ h. (with_words g c h).1.files.homes.stay h;
+}

@@ -4,8 +4,7 @@ use Rattle.volume.specs.LiveCores.{core_of}
 use Rattle.volume.specs.Removing.{files_removed}
 use Rattle.meaning.specs.declared.code.ErrorCode.TheVariants.{NotFound}
 use Rattle.volume.specs.declared.error.CallError.TheVariants.{Refused}
-use Rattle.volume.proofs.Edits.{ok_anyway, only_device, edited_alone, edited_volume}
-use Rattle.volume.proofs.HomesKept.{homes_start}
+use Rattle.volume.proofs.Edits.{ok_anyway, only_device, edited_alone, edited_volume, files_stay}
 use Rattle.volume.proofs.RemovedPlaces.{is_named, primes_elsewhere, primes_gone}
 use Rattle.volume.proofs.RemovingTransactions.{removed_sized, removed_edit}
 use Rattle.volume.proofs.map.Volume.delete.Given
@@ -30,23 +29,8 @@ edited g c =
 pub invariant_of-self : goal.invariant_of-self
 invariant_of-self g c = edited_volume c.self.invariant c.if-self.false (edited g c)
 
-pub returns-clause-crash : goal.returns-clause-crash
-returns-clause-crash g c = rw (← c.self.view_is) (edited g c).crash
-
-pub returns-clause-done : goal.returns-clause-done
-returns-clause-done g c = rw (← c.self.view_is) (edited g c).done
-
-pub returns-clause-readers : goal.returns-clause-readers
-returns-clause-readers g c = rw (← c.self.view_is) (edited g c).readers
-
-pub returns-clause-writers : goal.returns-clause-writers
-returns-clause-writers g c = rw (← c.self.view_is) (edited g c).writers
-
-pub returns-clause-homes : goal.returns-clause-homes
-returns-clause-homes g c = rw (← c.self.view_is) (edited g c).homes
-
-pub returns-clause-home_blocks : goal.returns-clause-home_blocks
-returns-clause-home_blocks g c = rw (← c.self.view_is) (edited g c).home_blocks
+pub returns-clause-files : goal.returns-clause-files
+returns-clause-files g c = rw (← c.self.view_is) (edited g c).files
 
 -- What becomes of core.
 
@@ -81,10 +65,10 @@ returns-clause-not_found g c = rw (← c.self.view_is) (λ alive. (
 
 -- Where nothing was done.
 
-pub returns-then-self-clause-homes : goal.returns-then-self-clause-homes
-returns-then-self-clause-homes g c = rw (← c.self.view_is) (λ h.
-    homes_start (g.D.Disk.state c.self.inside.disk) (λ d left. g.met.D.Disk.only_now c.self.inside.disk d h left))
+pub returns-then-self-clause-files : goal.returns-then-self-clause-files
+returns-then-self-clause-files g c = rw (← c.self.view_is)
+    (files_stay (λ h d left. g.met.D.Disk.only_now c.self.inside.disk d h left))
 
-pub returns-in-Err-clause-homes : goal.returns-in-Err-clause-homes
-returns-in-Err-clause-homes g c = rw (← c.self.view_is) (λ h.
-    homes_start (g.D.Disk.state c.self.inside.disk) (λ d left. g.met.D.Disk.only_now c.self.inside.disk d h left))
+pub returns-in-Err-clause-files : goal.returns-in-Err-clause-files
+returns-in-Err-clause-files g c = rw (← c.self.view_is)
+    (files_stay (λ h d left. g.met.D.Disk.only_now c.self.inside.disk d h left))

@@ -4,8 +4,7 @@ use Rattle.volume.specs.Edits.{IsEdited}
 use Rattle.volume.specs.LiveCores.{core_of}
 use Rattle.volume.specs.RemovingDirectories.{directory_removed}
 use Rattle.volume.specs.declared.error.CallError.TheVariants.{Refused}
-use Rattle.volume.proofs.Edits.{ok_anyway, only_device, edited_alone, edited_volume, not_written_stays}
-use Rattle.volume.proofs.HomesKept.{homes_start}
+use Rattle.volume.proofs.Edits.{ok_anyway, only_device, edited_alone, edited_volume, files_stay, not_written_stays}
 use Rattle.volume.proofs.UnmakingCore.{not_written}
 use Rattle.volume.proofs.UnmakingPlaces.{gone, directory_stays, primes_stay}
 use Rattle.volume.proofs.UnmakingTransactions.{unmade_sized, unmade_edit}
@@ -29,29 +28,14 @@ edited g c = edited_alone (unmade_edit c.self.invariant.core.whole c.remove_dire
 pub invariant_of-self : goal.invariant_of-self
 invariant_of-self g c = edited_volume c.self.invariant c.if-self.false (edited g c)
 
-pub returns-clause-crash : goal.returns-clause-crash
-returns-clause-crash g c = rw (← c.self.view_is) (edited g c).crash
-
-pub returns-clause-done : goal.returns-clause-done
-returns-clause-done g c = rw (← c.self.view_is) (edited g c).done
-
 pub returns-clause-kept : goal.returns-clause-kept
 returns-clause-kept g c = rw (← c.self.view_is) (λ h n from none closed.
     let is = unmade_sized c.self.invariant.core.whole c.remove_directory.ensures in
     not_written_stays c.commit_edit.ensures h n
     (not_written _ _ _ _ _ c.self.invariant.core.whole.map is.removed n from none) closed)
 
-pub returns-clause-readers : goal.returns-clause-readers
-returns-clause-readers g c = rw (← c.self.view_is) (edited g c).readers
-
-pub returns-clause-writers : goal.returns-clause-writers
-returns-clause-writers g c = rw (← c.self.view_is) (edited g c).writers
-
-pub returns-clause-homes : goal.returns-clause-homes
-returns-clause-homes g c = rw (← c.self.view_is) (edited g c).homes
-
-pub returns-clause-home_blocks : goal.returns-clause-home_blocks
-returns-clause-home_blocks g c = rw (← c.self.view_is) (edited g c).home_blocks
+pub returns-clause-files : goal.returns-clause-files
+returns-clause-files g c = rw (← c.self.view_is) (edited g c).files
 
 -- What becomes of core.
 
@@ -79,10 +63,10 @@ returns-clause-not_empty g c = rw (← c.self.view_is) (λ alive. (
 
 -- Where nothing was done.
 
-pub returns-then-self-clause-homes : goal.returns-then-self-clause-homes
-returns-then-self-clause-homes g c = rw (← c.self.view_is) (λ h.
-    homes_start (g.D.Disk.state c.self.inside.disk) (λ d left. g.met.D.Disk.only_now c.self.inside.disk d h left))
+pub returns-then-self-clause-files : goal.returns-then-self-clause-files
+returns-then-self-clause-files g c = rw (← c.self.view_is)
+    (files_stay (λ h d left. g.met.D.Disk.only_now c.self.inside.disk d h left))
 
-pub returns-in-Err-clause-homes : goal.returns-in-Err-clause-homes
-returns-in-Err-clause-homes g c = rw (← c.self.view_is) (λ h.
-    homes_start (g.D.Disk.state c.self.inside.disk) (λ d left. g.met.D.Disk.only_now c.self.inside.disk d h left))
+pub returns-in-Err-clause-files : goal.returns-in-Err-clause-files
+returns-in-Err-clause-files g c = rw (← c.self.view_is)
+    (files_stay (λ h d left. g.met.D.Disk.only_now c.self.inside.disk d h left))

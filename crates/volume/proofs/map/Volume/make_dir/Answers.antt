@@ -3,8 +3,7 @@ use Rattle.blockdisk.specs.Laws.{writes_modifies}
 use Rattle.volume.specs.Edits.{IsEdited}
 use Rattle.volume.specs.LiveCores.{core_of}
 use Rattle.volume.specs.Making.{files_made}
-use Rattle.volume.proofs.Edits.{edit_in_range, edited, edited_volume}
-use Rattle.volume.proofs.HomesKept.{homes_start}
+use Rattle.volume.proofs.Edits.{edit_in_range, edited, edited_volume, files_stay}
 use Rattle.volume.proofs.MakingDirectories.{not_written}
 use Rattle.volume.proofs.MakingPlaces.{directory_stays, primes_stay}
 use Rattle.volume.proofs.MakingTransactions.{made_sized, made_edit, made_ended, both_stay}
@@ -44,19 +43,6 @@ invariant_of-self-in-Err-write g c =
     (λ h d left. g.met.D.Disk.only_now c.self.inside.disk d h left) c.write.ensures.same c.write.ensures.writes
     c.in-Ok.ensures.made plan.live plan.pending c.in-Ok.ensures.keys c.requires.protection)
 
-pub returns-in-Ok-write-clause-crash : goal.returns-in-Ok-write-clause-crash
-returns-in-Ok-write-clause-crash g c = rw (← c.self.view_is) (changed g c).crash
-
-pub returns-in-Err-write-clause-crash : goal.returns-in-Err-write-clause-crash
-returns-in-Err-write-clause-crash g c = rw (← c.self.view_is) (
-    let plan = c.make_in_core.ensures in
-    (made_ended c.self.invariant.core c.if-self.false
-    (λ h d left. g.met.D.Disk.only_now c.self.inside.disk d h left) c.write.ensures.same c.write.ensures.writes
-    c.in-Ok.ensures.made plan.live plan.pending c.in-Ok.ensures.keys c.requires.protection).crash)
-
-pub returns-in-Ok-write-clause-done : goal.returns-in-Ok-write-clause-done
-returns-in-Ok-write-clause-done g c = rw (← c.self.view_is) (changed g c).done
-
 pub returns-in-Ok-write-clause-kept : goal.returns-in-Ok-write-clause-kept
 returns-in-Ok-write-clause-kept g c = rw (← c.self.view_is) (λ h n from none used closed.
     let whole = c.self.invariant.core.whole in
@@ -64,24 +50,15 @@ returns-in-Ok-write-clause-kept g c = rw (← c.self.view_is) (λ h n from none 
     c.commit_edit.ensures h n
     (not_written _ _ _ _ _ _ _ whole.map (made_sized whole c.in-Ok.ensures.made) n from none used) closed)
 
-pub returns-in-Ok-write-clause-readers : goal.returns-in-Ok-write-clause-readers
-returns-in-Ok-write-clause-readers g c = rw (← c.self.view_is) (changed g c).readers
+pub returns-in-Ok-write-clause-files : goal.returns-in-Ok-write-clause-files
+returns-in-Ok-write-clause-files g c = rw (← c.self.view_is) (changed g c).files
 
-pub returns-in-Ok-write-clause-writers : goal.returns-in-Ok-write-clause-writers
-returns-in-Ok-write-clause-writers g c = rw (← c.self.view_is) (changed g c).writers
-
-pub returns-in-Ok-write-clause-homes : goal.returns-in-Ok-write-clause-homes
-returns-in-Ok-write-clause-homes g c = rw (← c.self.view_is) (changed g c).homes
-
-pub returns-in-Err-write-clause-homes : goal.returns-in-Err-write-clause-homes
-returns-in-Err-write-clause-homes g c = rw (← c.self.view_is) (
+pub returns-in-Err-write-clause-files : goal.returns-in-Err-write-clause-files
+returns-in-Err-write-clause-files g c = rw (← c.self.view_is) (
     let plan = c.make_in_core.ensures in
     (made_ended c.self.invariant.core c.if-self.false
     (λ h d left. g.met.D.Disk.only_now c.self.inside.disk d h left) c.write.ensures.same c.write.ensures.writes
-    c.in-Ok.ensures.made plan.live plan.pending c.in-Ok.ensures.keys c.requires.protection).homes)
-
-pub returns-in-Ok-write-clause-home_blocks : goal.returns-in-Ok-write-clause-home_blocks
-returns-in-Ok-write-clause-home_blocks g c = rw (← c.self.view_is) (changed g c).home_blocks
+    c.in-Ok.ensures.made plan.live plan.pending c.in-Ok.ensures.keys c.requires.protection).files)
 
 -- What becomes of core.
 
@@ -107,10 +84,10 @@ returns-in-Err-write-clause-primes g c = rw (← c.self.view_is)
 
 -- Where nothing was done.
 
-pub returns-then-self-clause-homes : goal.returns-then-self-clause-homes
-returns-then-self-clause-homes g c = rw (← c.self.view_is) (λ h.
-    homes_start (g.D.Disk.state c.self.inside.disk) (λ d left. g.met.D.Disk.only_now c.self.inside.disk d h left))
+pub returns-then-self-clause-files : goal.returns-then-self-clause-files
+returns-then-self-clause-files g c = rw (← c.self.view_is)
+    (files_stay (λ h d left. g.met.D.Disk.only_now c.self.inside.disk d h left))
 
-pub returns-in-Err-clause-homes : goal.returns-in-Err-clause-homes
-returns-in-Err-clause-homes g c = rw (← c.self.view_is) (λ h.
-    homes_start (g.D.Disk.state c.self.inside.disk) (λ d left. g.met.D.Disk.only_now c.self.inside.disk d h left))
+pub returns-in-Err-clause-files : goal.returns-in-Err-clause-files
+returns-in-Err-clause-files g c = rw (← c.self.view_is)
+    (files_stay (λ h d left. g.met.D.Disk.only_now c.self.inside.disk d h left))

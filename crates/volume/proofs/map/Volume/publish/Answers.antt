@@ -16,8 +16,8 @@ use Rattle.volume.proofs.PuttingCore.{some_of}
 use Rattle.volume.proofs.Publications.{unchanged_leaves, quiet_leaves_either, both_leave, placed_on, supplied_on}
 use Rattle.volume.proofs.Publications.{ribs_on}
 use Rattle.volume.proofs.PublishingSlots.{made_current_readers}
-use Rattle.volume.proofs.HomesKept.{homes_start, homes_on}
-use Rattle.volume.proofs.Edits.{ok_anyway}
+use Rattle.volume.proofs.HomesKept.{homes_on}
+use Rattle.volume.proofs.Edits.{copies_stay, ok_anyway}
 use Rattle.volume.proofs.SoundVolumes.{not_both, volume_goes_on}
 use Rattle.volume.proofs.map.Volume.publish.Goals as goal
 
@@ -88,26 +88,26 @@ returns-in-Ok-put-clause-crash g c = rw (← c.self.view_is) (λ h f rests p the
     let mid = g.D.Disk.state c.put_in_core-put.new.disk in
     let put = c.in-Ok-put.ensures.put p
     (ap (λ (x : VolumeCore). pending_at x.pending c.args.pending.key) c.find_supplies.ensures.core ∙ there) in
-    both_leave s mid (g.D.Disk.state c.publish_written.new.disk) f _ c.put_in_core-put.ensures.same.size
-    (c.put_in_core-put.ensures.rests (c.publish_written.ensures.same.was_honest h) f rests)
-    (c.put_in_core-put.ensures.quiet (c.publish_written.ensures.same.was_honest h) f rests)
+    both_leave s mid (g.D.Disk.state c.publish_written.new.disk) f _ c.put_in_core-put.ensures.answer.same.size
+    (c.put_in_core-put.ensures.rests (c.publish_written.ensures.answer.same.was_honest h) f rests)
+    (c.put_in_core-put.ensures.quiet (c.publish_written.ensures.answer.same.was_honest h) f rests)
     (c.publish_written.ensures.crash h f
-    (c.put_in_core-put.ensures.rests (c.publish_written.ensures.same.was_honest h) f rests)
+    (c.put_in_core-put.ensures.rests (c.publish_written.ensures.answer.same.was_honest h) f rests)
     (record p { version = put.0 }) put.1 (splice body c.args.block c.args.words.now)
     (length-splice body c.args.block c.args.words.now
     ∙ ap (λ (n : ℕ). length_after n c.args.block (length c.args.words.now)) long
-    ∙ sym put.2) (put.3 (c.publish_written.ensures.same.was_honest h) body long has)))
+    ∙ sym put.2) (put.3 (c.publish_written.ensures.answer.same.was_honest h) body long has)))
 
 pub returns-in-Ok-put-clause-done : goal.returns-in-Ok-put-clause-done
 returns-in-Ok-put-clause-done g c = rw (← c.self.view_is) (λ h f rests p there body long has.
     let put = c.in-Ok-put.ensures.put p
     (ap (λ (x : VolumeCore). pending_at x.pending c.args.pending.key) c.find_supplies.ensures.core ∙ there) in
     c.publish_written.ensures.done h f
-    (c.put_in_core-put.ensures.rests (c.publish_written.ensures.same.was_honest h) f rests)
+    (c.put_in_core-put.ensures.rests (c.publish_written.ensures.answer.same.was_honest h) f rests)
     (record p { version = put.0 }) put.1 (splice body c.args.block c.args.words.now)
     (length-splice body c.args.block c.args.words.now
     ∙ ap (λ (n : ℕ). length_after n c.args.block (length c.args.words.now)) long
-    ∙ sym put.2) (put.3 (c.publish_written.ensures.same.was_honest h) body long has))
+    ∙ sym put.2) (put.3 (c.publish_written.ensures.answer.same.was_honest h) body long has))
 
 pub returns-in-Ok-put-clause-held : goal.returns-in-Ok-put-clause-held
 returns-in-Ok-put-clause-held g c = rw (← c.self.view_is) (λ k v there read.
@@ -143,41 +143,39 @@ find_supplies-requires-clause-placed g c = subst (λ m. (p : PendingVersion)
 -- The home copies.
 
 pub returns-then-self-clause-homes : goal.returns-then-self-clause-homes
-returns-then-self-clause-homes g c = rw (← c.self.view_is) (λ h.
-    homes_start (g.D.Disk.state c.self.inside.disk) (λ d left. g.met.D.Disk.only_now c.self.inside.disk d h left))
+returns-then-self-clause-homes g c = rw (← c.self.view_is)
+    (copies_stay (λ h d left. g.met.D.Disk.only_now c.self.inside.disk d h left))
 
 pub returns-in_err-blocks-clause-homes : goal.returns-in_err-blocks-clause-homes
-returns-in_err-blocks-clause-homes g c = rw (← c.self.view_is) (λ h.
-    homes_start (g.D.Disk.state c.self.inside.disk) (λ d left. g.met.D.Disk.only_now c.self.inside.disk d h left))
+returns-in_err-blocks-clause-homes g c = rw (← c.self.view_is)
+    (copies_stay (λ h d left. g.met.D.Disk.only_now c.self.inside.disk d h left))
 
 pub returns-in_default-clause-homes : goal.returns-in_default-clause-homes
-returns-in_default-clause-homes g c = rw (← c.self.view_is) (λ h.
-    homes_start (g.D.Disk.state c.self.inside.disk) (λ d left. g.met.D.Disk.only_now c.self.inside.disk d h left))
+returns-in_default-clause-homes g c = rw (← c.self.view_is)
+    (copies_stay (λ h d left. g.met.D.Disk.only_now c.self.inside.disk d h left))
 
 pub returns-in-Ok-put-clause-homes : goal.returns-in-Ok-put-clause-homes
-returns-in-Ok-put-clause-homes g c = rw (← c.self.view_is) (λ h.
-    homes_on (g.D.Disk.state c.self.inside.disk) (g.D.Disk.state c.put_in_core-put.new.disk)
-    (g.D.Disk.state c.publish_written.new.disk)
-    (c.put_in_core-put.ensures.homes (c.publish_written.ensures.same.was_honest h))
-    (c.publish_written.ensures.homes h))
-
-pub returns-in-Ok-put-clause-home_blocks : goal.returns-in-Ok-put-clause-home_blocks
-returns-in-Ok-put-clause-home_blocks g c = rw (← c.self.view_is) (λ h served n low.
-    c.publish_written.ensures.home_blocks h served n low
-    ∙ c.put_in_core-put.ensures.home_blocks (c.publish_written.ensures.same.was_honest h) n low)
+returns-in-Ok-put-clause-homes g c = rw (← c.self.view_is) (
+    let put = c.put_in_core-put.ensures in
+    let written = c.publish_written.ensures in
+    let m = written.answer.same.was_honest in
+    record {
+      crash = λ h. homes_on (g.D.Disk.state c.self.inside.disk) (g.D.Disk.state c.put_in_core-put.new.disk)
+          (g.D.Disk.state c.publish_written.new.disk) (put.homes (m h)) (written.homes.crash h);
+      stay = λ h served n low. written.homes.stay h served n low ∙ put.home_blocks (m h) n low;
+    })
 
 pub returns-in-Err-clause-homes : goal.returns-in-Err-clause-homes
-returns-in-Err-clause-homes g c = rw (← c.self.view_is) c.put_in_core-put.ensures.homes
-
-pub returns-in-Err-clause-home_blocks : goal.returns-in-Err-clause-home_blocks
-returns-in-Err-clause-home_blocks g c = rw (← c.self.view_is) (λ h served.
-    c.put_in_core-put.ensures.home_blocks h)
+returns-in-Err-clause-homes g c = rw (← c.self.view_is) (record {
+  crash = c.put_in_core-put.ensures.homes;
+  stay = λ h served. c.put_in_core-put.ensures.home_blocks h;
+})
 
 -- What stays before the last words.
 
 pub returns-in-Ok-put-clause-whole : goal.returns-in-Ok-put-clause-whole
 returns-in-Ok-put-clause-whole g c = rw (← c.self.view_is) (λ h some p there.
-    ok_anyway c.publish_written.result _ (c.in-Ok-put.ensures.whole (c.publish_written.ensures.same.was_honest h) some p
+    ok_anyway c.publish_written.result _ (c.in-Ok-put.ensures.whole (c.publish_written.ensures.answer.same.was_honest h) some p
     (ap (λ (x : VolumeCore). pending_at x.pending c.args.pending.key) c.find_supplies.ensures.core ∙ there)))
 
 -- The layout stays.
@@ -188,7 +186,9 @@ invariant_of-self-in-Ok-put g c =
     let written = c.publish_written.ensures in
     volume_goes_on (g.D.Disk.state c.self.inside.disk) (g.D.Disk.state c.publish_written.new.disk)
     (core_of c.self.inside.map) (core_of c.publish_written.new.map) c.self.inside.failed c.publish_written.new.failed
-    c.self.inside.layout c.self.invariant written.sound (written.same.size ∙ put.same.size)
-    (λ h. put.same.was_honest (written.same.was_honest h)) (λ ok. c.if-self.false)
-    (λ h ok n low. written.home_blocks h (λ is. not_both c.publish_written.new.failed (written.device is) ok) n low
-    ∙ put.home_blocks (written.same.was_honest h) n low)
+    c.self.inside.layout c.self.invariant written.sound
+    (written.answer.same.size ∙ put.answer.same.size)
+    (λ h. put.answer.same.was_honest (written.answer.same.was_honest h)) (λ ok. c.if-self.false)
+    (λ h ok n low.
+    written.homes.stay h (λ is. not_both c.publish_written.new.failed (written.answer.device is) ok) n low
+    ∙ put.home_blocks (written.answer.same.was_honest h) n low)

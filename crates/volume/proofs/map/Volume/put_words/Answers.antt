@@ -14,10 +14,10 @@ invariant_of-self g c =
     let s' = g.D.Disk.state c.put_in_core.new.disk in
     let ensures = c.put_in_core.ensures in
     volume_goes_on s s' (core_of c.self.inside.map) (core_of c.put_in_core.new.map) c.self.inside.failed
-    c.put_in_core.new.failed c.self.inside.layout c.self.invariant ensures.sound ensures.same.size
-    ensures.same.was_honest
-    (still_serves c.put_in_core.result c.self.inside.failed c.put_in_core.new.failed ensures.device ensures.gone
-    ensures.still) (λ h ok. ensures.home_blocks h)
+    c.put_in_core.new.failed c.self.inside.layout c.self.invariant ensures.sound ensures.answer.same.size
+    ensures.answer.same.was_honest
+    (still_serves c.put_in_core.result c.self.inside.failed c.put_in_core.new.failed ensures.answer.device
+    ensures.answer.ended ensures.answer.still) (λ h ok. ensures.home_blocks h)
 
 pub returns-clause-quiet : goal.returns-clause-quiet
 returns-clause-quiet g c = rw (← c.self.view_is) c.put_in_core.ensures.quiet
@@ -76,23 +76,8 @@ returns-clause-refused g c = rw (← c.self.view_is) c.put_in_core.ensures.refus
 pub returns-clause-memory : goal.returns-clause-memory
 returns-clause-memory g c = rw (← c.self.view_is) c.put_in_core.ensures.memory
 
-pub returns-clause-device : goal.returns-clause-device
-returns-clause-device g c = c.put_in_core.ensures.device
-
-pub returns-clause-gone : goal.returns-clause-gone
-returns-clause-gone g c = c.put_in_core.ensures.gone
-
-pub returns-clause-still : goal.returns-clause-still
-returns-clause-still g c = rw (← c.self.view_is) c.put_in_core.ensures.still
-
-pub returns-clause-counted : goal.returns-clause-counted
-returns-clause-counted g c = rw (← c.self.view_is) c.put_in_core.ensures.counted
-
-pub returns-clause-served : goal.returns-clause-served
-returns-clause-served g c = rw (← c.self.view_is) c.put_in_core.ensures.served
-
-pub returns-clause-same : goal.returns-clause-same
-returns-clause-same g c = rw (← c.self.view_is) c.put_in_core.ensures.same
+pub returns-clause-answer : goal.returns-clause-answer
+returns-clause-answer g c = rw (← c.self.view_is) c.put_in_core.ensures.answer
 
 pub returns-clause-homes : goal.returns-clause-homes
 returns-clause-homes g c = rw (← c.self.view_is) c.put_in_core.ensures.homes

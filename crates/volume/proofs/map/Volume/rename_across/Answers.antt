@@ -8,10 +8,8 @@ use Rattle.volume.proofs.MovedPlaces.{across_before, across_here, across_gone, a
 use Rattle.volume.proofs.MovingAnswers.{no_file_homeless, no_file_exists, no_file_no_room, target_homeless}
 use Rattle.volume.proofs.MovingAnswers.{target_exists, target_no_room, target_lacking, moved_lacking, moved_exists}
 use Rattle.volume.proofs.MovingAnswers.{moved_no_room, memory_plain}
-use Rattle.volume.proofs.Publications.{unchanged_leaves}
 use Rattle.volume.proofs.RenamingAnswers.{not_refused}
-use Rattle.volume.proofs.Edits.{edited_volume}
-use Rattle.volume.proofs.HomesKept.{homes_start}
+use Rattle.volume.proofs.Edits.{edited_volume, files_stay}
 use Rattle.volume.proofs.map.Volume.rename_across.Goals as goal
 
 pub returns-then-self-clause-held : goal.returns-then-self-clause-held
@@ -40,11 +38,6 @@ returns-in-Err-clause-no_room g c = rw (← c.self.view_is) (λ alive.
     let core = core_of c.self.inside.map in
     no_file_no_room s.size core c.self.invariant.core.whole c.args.ppn c.args.name.now c.args.to_ppn c.args.to.now
     c.in-Err.error c.in-Err.ensures.none)
-
-pub returns-in-Err-find_target-clause-crash : goal.returns-in-Err-find_target-clause-crash
-returns-in-Err-find_target-clause-crash g c = rw (← c.self.view_is) (λ h f rests.
-    unchanged_leaves (g.D.Disk.state c.self.inside.disk) f _ rests
-    (λ d left. g.met.D.Disk.only_now c.self.inside.disk d h left))
 
 pub returns-in-Err-find_target-clause-held : goal.returns-in-Err-find_target-clause-held
 returns-in-Err-find_target-clause-held g c = rw (← c.self.view_is) (λ k v is some. (v.prime, is))
@@ -79,11 +72,6 @@ returns-in-Err-find_target-clause-no_room g c = rw (← c.self.view_is) (λ aliv
     target_no_room s.size core c.self.invariant.core.whole c.args.ppn c.args.name.now c.args.to_ppn c.args.to.now
     c.in-Ok.key c.in-Ok.ensures.found c.in-Err-find_target.error c.in-Err-find_target.ensures.only
     c.in-Err-find_target.ensures.no_room)
-
-pub returns-in_default-clause-crash : goal.returns-in_default-clause-crash
-returns-in_default-clause-crash g c = rw (← c.self.view_is) (λ h f rests.
-    unchanged_leaves (g.D.Disk.state c.self.inside.disk) f _ rests
-    (λ d left. g.met.D.Disk.only_now c.self.inside.disk d h left))
 
 pub returns-in_default-clause-held : goal.returns-in_default-clause-held
 returns-in_default-clause-held g c = rw (← c.self.view_is) (λ k v is some. (v.prime, is))
@@ -126,9 +114,6 @@ move_across-requires-clause-may_arrive g c =
           let at = ap (slice_get m.directories.items) same ∙ is in
           (c.in-Ok-find_entry_supplies.ensures.fits d at, c.in-Ok-find_entry_supplies.ensures.roomy d at);
     }
-
-pub returns-clause-crash : goal.returns-clause-crash
-returns-clause-crash g c = rw (← c.self.view_is) c.move_across.ensures.edited.crash
 
 pub returns-clause-moved : goal.returns-clause-moved
 returns-clause-moved g c = rw (← c.self.view_is)
@@ -195,25 +180,26 @@ returns-clause-no_room g c = rw (← c.self.view_is) (λ alive.
     (not_refused c.move_across.result c.move_across.ensures.only) c.in-Ok-find_target.place
     c.in-Ok-find_target.ensures.no_room)
 
--- The home copies.
-
-pub returns-then-self-clause-homes : goal.returns-then-self-clause-homes
-returns-then-self-clause-homes g c = rw (← c.self.view_is) (λ h.
-    homes_start (g.D.Disk.state c.self.inside.disk) (λ d left. g.met.D.Disk.only_now c.self.inside.disk d h left))
-
-pub returns-in-Err-clause-homes : goal.returns-in-Err-clause-homes
-returns-in-Err-clause-homes g c = rw (← c.self.view_is) (λ h.
-    homes_start (g.D.Disk.state c.self.inside.disk) (λ d left. g.met.D.Disk.only_now c.self.inside.disk d h left))
-
-pub returns-in-Err-find_target-clause-homes : goal.returns-in-Err-find_target-clause-homes
-returns-in-Err-find_target-clause-homes g c = rw (← c.self.view_is) (λ h.
-    homes_start (g.D.Disk.state c.self.inside.disk) (λ d left. g.met.D.Disk.only_now c.self.inside.disk d h left))
-
-pub returns-in_default-clause-homes : goal.returns-in_default-clause-homes
-returns-in_default-clause-homes g c = rw (← c.self.view_is) (λ h.
-    homes_start (g.D.Disk.state c.self.inside.disk) (λ d left. g.met.D.Disk.only_now c.self.inside.disk d h left))
-
--- The layout stays.
+-- What becomes of the disk, and of the layout.
 
 pub invariant_of-self : goal.invariant_of-self
 invariant_of-self g c = edited_volume c.self.invariant c.if-self.false c.move_across.ensures.edited
+
+pub returns-in-Err-find_target-clause-files : goal.returns-in-Err-find_target-clause-files
+returns-in-Err-find_target-clause-files g c = rw (← c.self.view_is)
+    (files_stay (λ h d left. g.met.D.Disk.only_now c.self.inside.disk d h left))
+
+pub returns-in_default-clause-files : goal.returns-in_default-clause-files
+returns-in_default-clause-files g c = rw (← c.self.view_is)
+    (files_stay (λ h d left. g.met.D.Disk.only_now c.self.inside.disk d h left))
+
+pub returns-clause-files : goal.returns-clause-files
+returns-clause-files g c = rw (← c.self.view_is) c.move_across.ensures.edited.files
+
+pub returns-then-self-clause-files : goal.returns-then-self-clause-files
+returns-then-self-clause-files g c = rw (← c.self.view_is)
+    (files_stay (λ h d left. g.met.D.Disk.only_now c.self.inside.disk d h left))
+
+pub returns-in-Err-clause-files : goal.returns-in-Err-clause-files
+returns-in-Err-clause-files g c = rw (← c.self.view_is)
+    (files_stay (λ h d left. g.met.D.Disk.only_now c.self.inside.disk d h left))

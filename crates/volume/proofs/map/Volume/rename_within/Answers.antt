@@ -3,22 +3,15 @@ use Rattle.meaning.specs.declared.code.ErrorCode.TheVariants.{NotFound}
 use Rattle.volume.specs.Live.{as_known}
 use Rattle.volume.specs.LiveCores.{core_of}
 use Rattle.volume.proofs.Marking.{on_ok}
-use Rattle.volume.proofs.Publications.{unchanged_leaves}
 use Rattle.volume.proofs.RenamedPlaces.{moved_before, moved_here, moved_gone, moved_elsewhere}
 use Rattle.volume.proofs.RenamingAnswers.{refused_not_found, refused_exists, refused_no_directory, refused_codes}
 use Rattle.volume.proofs.RenamingAnswers.{refused_plain, key_there, not_refused}
-use Rattle.volume.proofs.Edits.{edited_volume}
-use Rattle.volume.proofs.HomesKept.{homes_start}
+use Rattle.volume.proofs.Edits.{edited_volume, files_stay}
 use Rattle.volume.proofs.map.Volume.rename_within.Goals as goal
 
 pub returns-then-self-clause-held : goal.returns-then-self-clause-held
 returns-then-self-clause-held g c = rw (← c.self.view_is) (λ k v is some.
     (v.prime, is))
-
-pub returns-in-Err-clause-crash : goal.returns-in-Err-clause-crash
-returns-in-Err-clause-crash g c = rw (← c.self.view_is) (λ h f rests.
-    unchanged_leaves (g.D.Disk.state c.self.inside.disk) f _ rests
-    (λ d left. g.met.D.Disk.only_now c.self.inside.disk d h left))
 
 pub returns-in-Err-clause-held : goal.returns-in-Err-clause-held
 returns-in-Err-clause-held g c = rw (← c.self.view_is) (λ k v is some.
@@ -59,23 +52,6 @@ returns-in-Err-clause-memory g c is =
     let core = core_of c.self.inside.map in
     absurd ((refused_plain s.size core c.self.invariant.core.whole c.args.ppn c.args.name.now c.args.to.now c.in-Err.error
     c.in-Err.ensures.refused).0 is)
-
-pub returns-in-Err-clause-device : goal.returns-in-Err-clause-device
-returns-in-Err-clause-device g c = rw (← c.self.view_is) (λ is.
-    let s = g.D.Disk.state c.self.inside.disk in
-    let core = core_of c.self.inside.map in
-    absurd ((refused_plain s.size core c.self.invariant.core.whole c.args.ppn c.args.name.now c.args.to.now c.in-Err.error
-    c.in-Err.ensures.refused).1 is))
-
-pub returns-in-Err-clause-ended : goal.returns-in-Err-clause-ended
-returns-in-Err-clause-ended g c = rw (← c.self.view_is) (λ is.
-    let s = g.D.Disk.state c.self.inside.disk in
-    let core = core_of c.self.inside.map in
-    absurd ((refused_plain s.size core c.self.invariant.core.whole c.args.ppn c.args.name.now c.args.to.now c.in-Err.error
-    c.in-Err.ensures.refused).2 is))
-
-pub returns-clause-crash : goal.returns-clause-crash
-returns-clause-crash g c = rw (← c.self.view_is) c.move_within.ensures.edited.crash
 
 pub returns-clause-moved : goal.returns-clause-moved
 returns-clause-moved g c = rw (← c.self.view_is)
@@ -125,17 +101,18 @@ returns-clause-not_found g c = rw (← c.self.view_is) (λ alive.
           c.in-Ok.ensures.found lacks),
     ))
 
--- The home copies.
-
-pub returns-then-self-clause-homes : goal.returns-then-self-clause-homes
-returns-then-self-clause-homes g c = rw (← c.self.view_is) (λ h.
-    homes_start (g.D.Disk.state c.self.inside.disk) (λ d left. g.met.D.Disk.only_now c.self.inside.disk d h left))
-
-pub returns-in-Err-clause-homes : goal.returns-in-Err-clause-homes
-returns-in-Err-clause-homes g c = rw (← c.self.view_is) (λ h.
-    homes_start (g.D.Disk.state c.self.inside.disk) (λ d left. g.met.D.Disk.only_now c.self.inside.disk d h left))
-
--- The layout stays.
+-- What becomes of the disk, and of the layout.
 
 pub invariant_of-self : goal.invariant_of-self
 invariant_of-self g c = edited_volume c.self.invariant c.if-self.false c.move_within.ensures.edited
+
+pub returns-in-Err-clause-files : goal.returns-in-Err-clause-files
+returns-in-Err-clause-files g c = rw (← c.self.view_is)
+    (files_stay (λ h d left. g.met.D.Disk.only_now c.self.inside.disk d h left))
+
+pub returns-clause-files : goal.returns-clause-files
+returns-clause-files g c = rw (← c.self.view_is) c.move_within.ensures.edited.files
+
+pub returns-then-self-clause-files : goal.returns-then-self-clause-files
+returns-then-self-clause-files g c = rw (← c.self.view_is)
+    (files_stay (λ h d left. g.met.D.Disk.only_now c.self.inside.disk d h left))

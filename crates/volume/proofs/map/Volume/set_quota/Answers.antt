@@ -4,9 +4,7 @@ use Rattle.meaning.specs.Making.{files_limited}
 use Rattle.meaning.specs.Stands.{quota_limit}
 use Rattle.volume.specs.Edits.{IsEdited}
 use Rattle.volume.specs.LiveCores.{core_of}
-use Rattle.volume.proofs.Edits.{edited_alone, edited_volume, not_written_stays}
-use Rattle.volume.proofs.HomesKept.{homes_start}
-use Rattle.volume.proofs.Publications.{unchanged_leaves}
+use Rattle.volume.proofs.Edits.{edited_alone, edited_volume, files_stay, not_written_stays}
 use Rattle.volume.proofs.SetQuotaCore.{puts_in_range, not_written, directory_stays, primes_stay}
 use Rattle.volume.proofs.SetQuotaTransactions.{limited_edit}
 use Rattle.volume.proofs.map.Volume.set_quota.Given
@@ -34,29 +32,14 @@ edited g c =
 pub invariant_of-self : goal.invariant_of-self
 invariant_of-self g c = edited_volume c.self.invariant c.if-self.false (edited g c)
 
-pub returns-clause-crash : goal.returns-clause-crash
-returns-clause-crash g c = rw (← c.self.view_is) (edited g c).crash
-
-pub returns-clause-done : goal.returns-clause-done
-returns-clause-done g c = rw (← c.self.view_is) (edited g c).done
+pub returns-clause-files : goal.returns-clause-files
+returns-clause-files g c = rw (← c.self.view_is) (edited g c).files
 
 pub returns-clause-kept : goal.returns-clause-kept
 returns-clause-kept g c = rw (← c.self.view_is) (λ h n from none closed.
     not_written_stays c.commit_edit.ensures h n
     (not_written _ _ (core_of c.limit_directory.new.core) _ _ _ c.self.invariant.core.whole c.limit_directory.ensures n
     from none) closed)
-
-pub returns-clause-readers : goal.returns-clause-readers
-returns-clause-readers g c = rw (← c.self.view_is) (edited g c).readers
-
-pub returns-clause-writers : goal.returns-clause-writers
-returns-clause-writers g c = rw (← c.self.view_is) (edited g c).writers
-
-pub returns-clause-homes : goal.returns-clause-homes
-returns-clause-homes g c = rw (← c.self.view_is) (edited g c).homes
-
-pub returns-clause-home_blocks : goal.returns-clause-home_blocks
-returns-clause-home_blocks g c = rw (← c.self.view_is) (edited g c).home_blocks
 
 -- What becomes of core.
 
@@ -74,15 +57,10 @@ returns-clause-primes g c = rw (← c.self.view_is)
 
 -- Where nothing was done.
 
-pub returns-in-Err-clause-crash : goal.returns-in-Err-clause-crash
-returns-in-Err-clause-crash g c = rw (← c.self.view_is) (λ h f rests.
-    unchanged_leaves (g.D.Disk.state c.self.inside.disk) f (files_limited f c.args.ppn c.args.quota) rests
-    (λ d left. g.met.D.Disk.only_now c.self.inside.disk d h left))
+pub returns-then-self-clause-files : goal.returns-then-self-clause-files
+returns-then-self-clause-files g c = rw (← c.self.view_is)
+    (files_stay (λ h d left. g.met.D.Disk.only_now c.self.inside.disk d h left))
 
-pub returns-then-self-clause-homes : goal.returns-then-self-clause-homes
-returns-then-self-clause-homes g c = rw (← c.self.view_is) (λ h.
-    homes_start (g.D.Disk.state c.self.inside.disk) (λ d left. g.met.D.Disk.only_now c.self.inside.disk d h left))
-
-pub returns-in-Err-clause-homes : goal.returns-in-Err-clause-homes
-returns-in-Err-clause-homes g c = rw (← c.self.view_is) (λ h.
-    homes_start (g.D.Disk.state c.self.inside.disk) (λ d left. g.met.D.Disk.only_now c.self.inside.disk d h left))
+pub returns-in-Err-clause-files : goal.returns-in-Err-clause-files
+returns-in-Err-clause-files g c = rw (← c.self.view_is)
+    (files_stay (λ h d left. g.met.D.Disk.only_now c.self.inside.disk d h left))
