@@ -89,6 +89,7 @@ mod make;
 mod map;
 mod marks;
 mod migrate;
+mod moves;
 mod open;
 mod pending;
 mod pins;
