@@ -41,7 +41,7 @@ use Rattle.monitor.proofs.DeleteDirStates.{row_done, row_kept, shown_removed, re
 use Rattle.monitor.proofs.DeleteDirs.{placed_removed}
 use Rattle.monitor.proofs.Dropped.{leaves_none}
 use Rattle.monitor.proofs.Knowing.{known}
-use Rattle.monitor.proofs.MakeDirAnswers.{idle_crashes, not_failed}
+use Rattle.monitor.proofs.MakeDirs.{idle_crashes, not_failed}
 
 -- Which answers there are.
 module _ (d : DiskState) (c : VolumeCore) (Disks Cores : Type 0) (job job' : Job) (e : ℕ) (reply : Reply)
