@@ -1,6 +1,6 @@
 -- MakeDir: what it promises, by what it finds and by what the volume answers.
-use Rattle.std.proofs.Common.{◌≡◌, ℕ, Bool, true, false, List, Option, Some, Result, Ok, Err, refl, sym, ap, subst, ◌∙◌}
-use Rattle.std.proofs.Common.{◌⊎◌, ⊎_elim, slice_set, IsErrOf, OnOk}
+use Rattle.std.proofs.Common.{◌≡◌, ◌⊎◌, ℕ, Bool, false, List, Option, Some, Result, Ok, Err, refl, sym, ap, subst, ◌∙◌}
+use Rattle.std.proofs.Common.{⊎_elim, slice_set, IsErrOf, OnOk}
 use Rattle.words36.specs.declared.moment.Moment.{Moment}
 use Rattle.words36.specs.declared.names.FileName.{FileName}
 use Rattle.blockdisk.specs.Disk.{Contents, DiskState, MayLeave}
@@ -115,7 +115,7 @@ module _ {D : Type 0} (state : D → DiskState) (only_now : (disk : D) (contents
         (λ (late : (early ≡ Done) × IsRefusedBy d.size c owner code). steps_late honest s is code late.0 late.1)
         why)
 
-    -- the machine decides by what memory and the disk have
+    -- the machine's answer isn't one that is found before memory and the disk are needed
     undecided : early ≡ Done → d.honest → (s : State) → IsState d c jobs s
         → is_plain ((step (pack_of d) 0 s (Calls n (MakeDir e) moment)).0) ≡ false
     undecided fine honest s is =

@@ -11,7 +11,6 @@ use Rattle.blockdisk.specs.Disk.{Contents, DiskState, MayLeave}
 use Rattle.blockdisk.specs.Laws.{leaves_start}
 use Rattle.changeset.specs.Rest.{rest_settles}
 use Rattle.meaning.specs.Files.{Files, Directory, map_directory, name_cmp}
-use Rattle.meaning.specs.Jobs.{State}
 use Rattle.meaning.specs.Layouts.{pack_of, SettledStandsOn, StandsOn}
 use Rattle.meaning.specs.Maps.{entries, values, get, insert, empty}
 use Rattle.meaning.specs.Published.{Version, without_serials}

@@ -1,4 +1,4 @@
-use Rattle.std.proofs.Common.{◌≡◌, ◌⊎◌, refl, sym, ap, subst, ◌∙◌, inl, inr, rules}
+use Rattle.std.proofs.Common.{◌≡◌, refl, ap, subst, ◌∙◌, inl, inr, rules}
 use Rattle.meaning.specs.Codes.{number_of}
 use Rattle.meaning.specs.Files.{File, Files}
 use Rattle.meaning.specs.declared.call.Reply.TheVariants.{AddressCheck, Done, Refused}
