@@ -34,7 +34,7 @@ use Rattle.monitor.specs.DeleteDirRows.{IsNowhere, IsThere, is_kept_from, IsKept
 use Rattle.monitor.specs.Sides.{UnderKeys, job_of, state_of}
 use Rattle.monitor.specs.declared.job.Job.{Job}
 use Rattle.monitor.proofs.Growths.{Matches, matches, shown_at}
-use Rattle.monitor.proofs.MakeDirServing.{none_there}
+use Rattle.monitor.proofs.MakeDirs.{none_there}
 
 -- the answer, by its tests
 abbrev pick : Bool → Bool → Bool → Bool → Reply

@@ -33,7 +33,7 @@ use Rattle.monitor.specs.Serving.{AreKeyed, AreReading, IsState}
 use Rattle.monitor.specs.Sides.{UnderKeys, job_of, state_of}
 use Rattle.monitor.specs.declared.job.Job.{Job}
 use Rattle.monitor.proofs.Answering.{job_set, called, settled_with}
-use Rattle.monitor.proofs.MakeDirServing.{versions_made, none_in}
+use Rattle.monitor.proofs.MakeDirs.{versions_made, none_in}
 use Rattle.monitor.proofs.ReadBookings.{versions_of}
 use Rattle.monitor.proofs.ReadStays.{reads_go}
 use Rattle.monitor.proofs.WrittenStays.{writing_stays}

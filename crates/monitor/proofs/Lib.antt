@@ -39,10 +39,9 @@ pub mod Outgoings
 pub mod OutServing
 pub mod OutCalls
 pub mod OutAnswers
-pub mod MakeDirServing
 pub mod MakeDirCalls
 pub mod MakeDirStates
-pub mod MakeDirAnswers
+pub mod MakeDirServing
 pub mod EnterCalls
 pub mod EnterReads
 pub mod EnterRefusals

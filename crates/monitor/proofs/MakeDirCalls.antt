@@ -1,11 +1,13 @@
 -- MakeDir by the job of a number is answered as the machine answers it.
-use Rattle.std.proofs.Common.{◌≡◌, ◌<◌, ◌+◌, ◌*◌, ℕ, Bool, true, false, if◌then◌else◌, List, length, Option, refl, sym}
-use Rattle.std.proofs.Common.{ap, ◌∙◌, inl, inr, arith}
+use Rattle.std.proofs.Common.{◌≡◌, ◌<◌, ◌+◌, ◌-◌, ◌*◌, ℕ, Bool, true, false, if◌then◌else◌, List, length, Option, refl}
+use Rattle.std.proofs.Common.{sym, ap, ◌∙◌, ◌⊎◌, inl, inr, arith}
 use Rattle.std.specs.Prelude.{◌==◌, ◌||◌, not, nat_lt, is_some}
+use Rattle.std.proofs.lemmas.Bool.{eqb-true}
 use Rattle.std.proofs.lemmas.Bool.Decides.{nat_tests}
 use Rattle.words36.specs.Words.{left, right}
 use Rattle.blockdisk.specs.Disk.{DiskState}
 use Rattle.meaning.specs.Cores.{lies_outside}
+use Rattle.meaning.specs.Costs.{directory_cost}
 use Rattle.meaning.specs.Files.{Files}
 use Rattle.meaning.specs.Jobs.{State}
 use Rattle.meaning.specs.Making.{make_answer}
@@ -24,7 +26,23 @@ use Rattle.monitor.specs.DirectoryRows.{asked_owner, early_answer, IsAbsent, IsC
 use Rattle.monitor.specs.Sides.{UnderKeys, job_of, state_of}
 use Rattle.monitor.specs.declared.job.Job.{Job}
 use Rattle.monitor.proofs.Growths.{count_is}
-use Rattle.monitor.proofs.MakeDirServing.{none_there, one_there, growth_is}
+use Rattle.monitor.proofs.MakeDirs.{none_there, one_there}
+
+-- By how much the master directory grows.
+pub growth_is : (n b : ℕ) → b ≡ directory_cost n
+    → (if n == 42 * b then 1 else 0) ≡ directory_cost (n + 1) - directory_cost n
+growth_is n b is = by (n == 42 * b) refl
+  where
+    not_full : (a c : ℕ) → (a == c) ≡ false → (a < c) ⊎ (c < a)
+    not_full a c e = grind (arith, nat_tests)
+
+    by : (full : Bool) → (n == 42 * b) ≡ full → (if full then 1 else 0) ≡ directory_cost (n + 1) - directory_cost n
+    by true e = let same = eqb-true n (42 * b) e in omega arith
+    by false e = more (not_full n (42 * b) e)
+      where
+        more : (n < 42 * b) ⊎ (42 * b < n) → 0 ≡ directory_cost (n + 1) - directory_cost n
+        more (inl less) = omega arith
+        more (inr past) = omega arith
 
 -- the answer, by its tests
 abbrev pick : Bool → Bool → Bool → Reply → Reply

@@ -1,111 +1,199 @@
--- MakeDir: what the machine answers, and the files that it goes on to.
-use Rattle.std.proofs.Common.{◌≡◌, ◌<◌, ◌+◌, ◌-◌, ◌*◌, ℕ, Bool, true, false, if◌then◌else◌, List, [], ◌∷◌, ◌++◌, map}
-use Rattle.std.proofs.Common.{flat_map, cond, Option, None, Some, refl, sym, ap, ◌∙◌, ◌⊎◌, inl, inr, arith}
-use Rattle.std.specs.Prelude.{◌==◌, is_some, option_map}
-use Rattle.std.proofs.lemmas.Bool.{eqb-true}
-use Rattle.std.proofs.lemmas.Bool.Decides.{nat_tests}
-use Rattle.std.specs.Cmp.{nat_cmp_total}
-use Rattle.std.specs.FinMap.{nat_cmp-IsAntisymmetric}
-use Rattle.std.specs.FinMap.Entries.{find, put, by_order}
-use Rattle.std.specs.Ordering.{nat_cmp, is_eq}
-use Rattle.std.specs.declared.cmp.Ordering.TheVariants.{Less, Equal, Greater}
-use Rattle.blockdisk.specs.Disk.{DiskState}
-use Rattle.meaning.specs.Costs.{directory_cost}
-use Rattle.meaning.specs.Files.{Files, Directory, map_directory, name_cmp}
-use Rattle.meaning.specs.Maps.{entries, values, get, insert, empty, map_values, from_entries}
-use Rattle.meaning.specs.Published.{Version, without_serials}
-use Rattle.meaning.specs.Stands.{StoredDirectory, directory_of, entry_of}
-use Rattle.meaning.proofs.MapLaws.{some_none, entries-insert, entries-empty, get-entries}
-use Rattle.meaning.proofs.MapLists.{get-map_values, get-from_entries, map_values-insert}
+-- MakeDir: what it promises, by what it finds and by what the volume answers.
+use Rattle.std.proofs.Common.{◌≡◌, ◌⊎◌, ℕ, Bool, false, List, Option, Some, Result, Ok, Err, refl, sym, ap, subst, ◌∙◌}
+use Rattle.std.proofs.Common.{⊎_elim, slice_set, IsErrOf, OnOk}
+use Rattle.words36.specs.declared.moment.Moment.{Moment}
+use Rattle.words36.specs.declared.names.FileName.{FileName}
+use Rattle.blockdisk.specs.Disk.{Contents, DiskState, MayLeave}
+use Rattle.meaning.specs.Jobs.{State}
+use Rattle.meaning.specs.Layouts.{pack_of}
+use Rattle.meaning.specs.Outcomes.{refused_at}
+use Rattle.meaning.specs.Published.{without_serials}
+use Rattle.meaning.specs.Runs.{is_plain}
+use Rattle.meaning.specs.Step.{step}
+use Rattle.meaning.specs.declared.call.Call.TheVariants.{MakeDir}
+use Rattle.meaning.specs.declared.call.Event.TheVariants.{Call as Calls}
+use Rattle.meaning.specs.declared.call.Reply.{Reply}
+use Rattle.meaning.specs.declared.call.Reply.TheVariants.{AddressCheck, Done, Refused}
+use Rattle.meaning.specs.declared.call.Reply.TheVariants as replies
+use Rattle.volume.specs.Beginning.{IsDirectoryOf}
+use Rattle.volume.specs.Edits.{ChangesFiles, DeviceAnswer}
+use Rattle.volume.specs.Known.{KnownDirectory}
 use Rattle.volume.specs.Live.{VolumeCore}
 use Rattle.volume.specs.Making.{files_made}
-use Rattle.volume.proofs.Answering.{Holds, directory_none}
-use Rattle.monitor.specs.DirectoryRows.{IsAbsent}
-use Rattle.monitor.proofs.Growths.{shown_at}
+use Rattle.volume.specs.Places.{prime_at}
+use Rattle.volume.specs.Rest.{IsSoundCore, RestsAt}
+use Rattle.volume.specs.declared.error.CallError.{CallError}
+use Rattle.volume.specs.declared.error.CallError.TheVariants.{Device}
+use Rattle.monitor.specs.DirectoryRows.{asked_owner, directory_protection_asked, early_answer}
+use Rattle.monitor.specs.DirectoryRows.{IsAbsent, IsCrowded, IsRefusedBy}
+use Rattle.monitor.specs.Promises.{IsAmong, IsCallReady, IsServing, ServesAlways}
+use Rattle.monitor.specs.Refusals.{with_code}
+use Rattle.monitor.specs.Rows.{KeepsReading}
+use Rattle.monitor.specs.Serving.{IsState, IsTimely}
+use Rattle.monitor.specs.Sides.{job_of, state_of}
+use Rattle.monitor.specs.declared.job.Job.{Job}
+use Rattle.monitor.proofs.Calling.{reads_same}
+use Rattle.monitor.proofs.ChangeServing.{told_serves, memory_serves, broken_serves, done_serves}
+use Rattle.monitor.proofs.Dropped.{keeps_keyed}
+use Rattle.monitor.proofs.MakeDirs.{keeps_core}
+use Rattle.monitor.proofs.MakeDirStates.{before, before_is, held, books, files', shown, row_done, row_early}
+use Rattle.monitor.proofs.MakeDirStates.{row_refused, row_undecided, made_state}
+use Rattle.monitor.proofs.Placing.{placed_made}
+use Rattle.monitor.proofs.ReadingJobs.{keeps_reading}
+use Rattle.monitor.proofs.RenameRefusals.{same_code}
+use Rattle.monitor.proofs.RenameWanting.{rename_serves}
 
--- The files with one directory more, which has none.
+module _ {D : Type 0} (state : D → DiskState) (only_now : (disk : D) (contents : Contents) → (state disk).honest
+    → (state disk).left_since (state disk).clock contents → MayLeave (state disk) contents) (disk : D)
+    (c : VolumeCore) (failed : Bool) (job : Job) (ready : IsCallReady (state disk) c failed job) (e : ℕ) where
+  abbrev d : DiskState
+  d = state disk
 
-abbrev versions_in : List (ℕ × Directory Version) → List Version
-versions_in es = flat_map (λ (d : Directory Version). values d.files) (map (λ e. e.1) es)
+  abbrev owner : ℕ
+  owner = asked_owner job.core e
 
-versions-put : (k : ℕ) (v : Directory Version) (es : List (ℕ × Directory Version)) → values v.files ≡ []
-    → find nat_cmp k es ≡ None → versions_in (put nat_cmp k v es) ≡ versions_in es
-versions-put k v [] bare none = ap (λ vs. vs ++ []) bare
-versions-put k v (e ∷ es) bare none =
-    elim (nat_cmp k e.0) as (λ r. cond (is_eq r) (Some e.1) (find nat_cmp k es) ≡ None
-    → versions_in (by_order r ((k, v) ∷ e ∷ es) ((e.0, v) ∷ es) (e ∷ put nat_cmp k v es)) ≡ versions_in (e ∷ es)) [
-      | Less ↦ λ h. ap (λ vs. vs ++ versions_in (e ∷ es)) bare
-      | Equal ↦ λ h. absurd (some_none h)
-      | Greater ↦ λ h. ap (λ vs. values e.1.files ++ vs) (versions-put k v es bare h)
-    ] none
+  abbrev protection : ℕ
+  protection = directory_protection_asked job.core e
 
--- no version is another
-pub versions_made : (files : Files Version) (owner : ℕ) (v : Directory Version) → values v.files ≡ []
-    → get files owner ≡ None
-    → flat_map (λ (d : Directory Version). values d.files) (values (insert files owner v))
-    ≡ flat_map (λ (d : Directory Version). values d.files) (values files)
-versions_made files owner v bare none = ap versions_in (entries-insert nat_cmp_total files owner v)
-    ∙ versions-put owner v (entries files) bare (sym (get-entries files owner) ∙ none)
+  abbrev early : Reply
+  early = early_answer job.ppn job.core e
 
-pub none_in : values (empty {X = Version} {R = name_cmp}) ≡ []
-none_in = ap (map (λ e. e.1)) (entries-empty name_cmp Version)
+  sound : IsSoundCore d c false
+  sound = subst (IsSoundCore d c) ready.alive ready.sound
 
--- as the volume has them
-pub shown_made : (files : Files Version) (owner protection : ℕ)
-    → without_serials (insert files owner (record { protection = protection; quota = 0; files = empty }))
-    ≡ files_made (without_serials files) owner protection
-shown_made files owner protection =
-    map_values-insert nat_cmp_total nat_cmp-IsAntisymmetric (map_directory (λ (v : Version). v.file)) files owner
-    (record { protection = protection; quota = 0; files = empty })
-    ∙ ap (λ fs. insert (without_serials files) owner (record { protection = protection; quota = 0; files = fs })) none
-  where
-    none : map_values (λ (v : Version). v.file) (empty {R = name_cmp}) ≡ empty
-    none = ap (λ es. from_entries (map (λ e. (e.0, e.1.file)) es)) (entries-empty name_cmp Version)
+  -- It is refused by this code, by the words at the address or for what there is.
+  abbrev pub IsDenied : ℕ → Type 0
+  IsDenied code = (early ≡ Refused code) ⊎ ((early ≡ Done) × IsRefusedBy d.size c owner code)
 
--- Whether there is such a directory.
-module _ (d : DiskState) (c : VolumeCore) (files : Files Version) (holds : Holds d c.known (without_serials files))
-    (owner : ℕ) where
-  pub none_there : IsAbsent c owner → get files owner ≡ None
-  none_there absent = by (get files owner) (sym (shown_at files owner)
-      ∙ directory_none d c.known (without_serials files) holds owner absent)
-    where
-      by : (was : Option (Directory Version)) → option_map (map_directory (λ (v : Version). v.file)) was ≡ None
-          → was ≡ None
-      by None is = refl
-      by (Some x) is = cc is
+  module _ (moment : Moment) (timely : IsTimely d moment) (jobs : List (Option Job)) (n : ℕ)
+      (among : IsAmong c jobs n job) where
+    abbrev jobs_with : Job → List (Option Job)
+    jobs_with x = slice_set jobs n (Some x)
 
-  pub one_there : (IsAbsent c owner → ⊥) → is_some (get files owner) ≡ true
-  one_there present = by (get files owner) refl
-    where
-      stored : option_map directory_of (get holds.map.directories owner) ≡ get (without_serials files) owner
-      stored = sym (get-map_values nat_cmp_total directory_of holds.map.directories owner)
-          ∙ ap (λ f. get f owner) holds.files_are
+    -- The machine's answer and state, by those of a state with the same parts.
+    module _ (honest : d.honest) (s : State) (is : IsState d c jobs s) where
+      from_before : (P : State → Type 0) → P (before d c jobs job e sound honest s is) → P s
+      from_before P holds = subst P (sym (before_is d c jobs job e sound honest s is)) holds
 
-      entered : option_map entry_of (get holds.map.directories owner) ≡ find nat_cmp owner c.known.master.entries
-      entered = sym (get-map_values nat_cmp_total entry_of holds.map.directories owner)
-          ∙ ap (λ m. get m owner) holds.held.known.names ∙ get-from_entries nat_cmp_total c.known.master.entries owner
+      steps_early : (reply : Reply) (job' : Job) → early ≡ reply → (reply ≡ Done → ⊥)
+          → refused_at (job_of is.under job) e reply ≡ job_of is.under job' → (serial : ℕ)
+          → step (pack_of d) serial s (Calls n (MakeDir e) moment)
+          ≡ (reply, state_of s.files is.under (jobs_with job'))
+      steps_early reply job' why other left serial =
+          from_before (λ y. step (pack_of d) serial y (Calls n (MakeDir e) moment)
+          ≡ (reply, state_of s.files is.under (jobs_with job')))
+          (row_early d c s.files is.under jobs sound.whole (held d c jobs job e sound honest s is)
+          (books d c jobs job e sound honest s is) n job among.there e moment (timely honest) reply job' why other left
+          serial)
 
-      gone : (was : Option StoredDirectory) → option_map directory_of was ≡ None → option_map entry_of was ≡ None
-      gone None is = refl
-      gone (Some x) is = cc is
+      steps_late : (code : ℕ) → early ≡ Done → IsRefusedBy d.size c owner code → (serial : ℕ)
+          → step (pack_of d) serial s (Calls n (MakeDir e) moment)
+          ≡ (Refused code, state_of s.files is.under (jobs_with (with_code job e code)))
+      steps_late code fine why serial =
+          from_before (λ y. step (pack_of d) serial y (Calls n (MakeDir e) moment)
+          ≡ (Refused code, state_of s.files is.under (jobs_with (with_code job e code))))
+          (row_refused d c s.files is.under jobs sound.whole (held d c jobs job e sound honest s is)
+          (books d c jobs job e sound honest s is) n job among.there e moment (timely honest) code fine why serial)
 
-      by : (was : Option (Directory Version)) → get files owner ≡ was → is_some was ≡ true
-      by None is = absurd (present (sym entered ∙ gone (get holds.map.directories owner) (stored ∙ shown_at files owner
-          ∙ ap (option_map (map_directory (λ (v : Version). v.file))) is)))
-      by (Some x) is = refl
+    checked : early ≡ AddressCheck
+        → IsServing state disk disk c c failed jobs (jobs_with job) n (MakeDir e) moment AddressCheck
+    checked outside =
+        told_serves state only_now disk c failed ready.alive ready.placed job (MakeDir e) (λ light. light)
+        (λ kept. kept) moment jobs n among job.core AddressCheck (λ x. cc x, λ x. cc x, λ x. cc x) (λ code is. cc is)
+        (λ is. refl) (λ honest s is. steps_early honest s is AddressCheck job outside (λ x. cc x) refl)
 
--- By how much the master directory grows.
-pub growth_is : (n b : ℕ) → b ≡ directory_cost n
-    → (if n == 42 * b then 1 else 0) ≡ directory_cost (n + 1) - directory_cost n
-growth_is n b is = by (n == 42 * b) refl
-  where
-    not_full : (a c : ℕ) → (a == c) ≡ false → (a < c) ⊎ (c < a)
-    not_full a c e = grind (arith, nat_tests)
+    denied : (code : ℕ) → IsDenied code
+        → IsServing state disk disk c c failed jobs (jobs_with (with_code job e code)) n (MakeDir e) moment
+        (Refused code)
+    denied code why =
+        told_serves state only_now disk c failed ready.alive ready.placed job (MakeDir e) (λ light. light)
+        (λ kept. kept) moment jobs n among (with_code job e code).core (Refused code)
+        (λ x. cc x, λ x. cc x, λ x. cc x) (λ k is. ap (with_code job e) (same_code is)) (λ is. absurd is)
+        (λ honest s is. ⊎_elim
+        (λ (first : early ≡ Refused code).
+        steps_early honest s is (Refused code) (with_code job e code) first (λ x. cc x) refl)
+        (λ (late : (early ≡ Done) × IsRefusedBy d.size c owner code). steps_late honest s is code late.0 late.1)
+        why)
 
-    by : (full : Bool) → (n == 42 * b) ≡ full → (if full then 1 else 0) ≡ directory_cost (n + 1) - directory_cost n
-    by true e = let same = eqb-true n (42 * b) e in omega arith
-    by false e = more (not_full n (42 * b) e)
-      where
-        more : (n < 42 * b) ⊎ (42 * b < n) → 0 ≡ directory_cost (n + 1) - directory_cost n
-        more (inl less) = omega arith
-        more (inr past) = omega arith
+    -- the machine's answer isn't one that is found before memory and the disk are needed
+    undecided : early ≡ Done → d.honest → (s : State) → IsState d c jobs s
+        → is_plain ((step (pack_of d) 0 s (Calls n (MakeDir e) moment)).0) ≡ false
+    undecided fine honest s is =
+        from_before honest s is (λ y. is_plain ((step (pack_of d) 0 y (Calls n (MakeDir e) moment)).0) ≡ false)
+        (row_undecided d c s.files is.under jobs sound.whole (held d c jobs job e sound honest s is)
+        (books d c jobs job e sound honest s is) n job among.there e moment (timely honest) fine)
+
+    lacking : early ≡ Done
+        → IsServing state disk disk c c failed jobs (jobs_with job) n (MakeDir e) moment replies.NoMemory
+    lacking fine =
+        memory_serves state only_now disk c failed ready.alive ready.placed job (MakeDir e) (λ light. light)
+        (λ kept. kept) moment jobs n among (λ s. refl) (undecided fine)
+
+    row : early ≡ Done → IsAbsent c owner → (IsCrowded d.size c → ⊥) → d.honest → (s : State)
+        (is : IsState d c jobs s) → (after : State)
+        × ((serial : ℕ) → step (pack_of d) serial s (Calls n (MakeDir e) moment) ≡ (Done, after))
+        × (without_serials after.files ≡ files_made (without_serials s.files) owner protection)
+    row fine absent fits honest s is = (
+      state_of (files' d c jobs job e sound honest s is) is.under (jobs_with job),
+      λ serial. from_before honest s is (λ y. step (pack_of d) serial y (Calls n (MakeDir e) moment)
+          ≡ (Done, state_of (files' d c jobs job e sound honest s is) is.under (jobs_with job)))
+          (row_done d c s.files is.under jobs sound.whole (held d c jobs job e sound honest s is)
+          (books d c jobs job e sound honest s is) n job among.there e moment (timely honest) fine absent fits serial),
+      shown d c jobs job e sound honest s is,
+    )
+
+  -- The two words aren't both in core.
+  pub checked_serves : early ≡ AddressCheck → ServesAlways state disk disk c c failed job job (MakeDir e) AddressCheck
+  checked_serves outside moment timely jobs n among = checked moment timely jobs n among outside
+
+  -- It is refused, with disk and volume as they were.
+  pub denied_serves : (code : ℕ) → IsDenied code → (disk' : D) (c' : VolumeCore) (failed' : Bool)
+      → (disk' ≡ disk) × (c' ≡ c) × (failed' ≡ failed) → (job' : Job) (reply : Reply) → job' ≡ with_code job e code
+      → reply ≡ Refused code → ServesAlways state disk disk' c c' failed' job job' (MakeDir e) reply
+  denied_serves code why disk' c' failed' same job' reply job_is answer_is =
+      rename_serves state disk disk disk' c c c' failed failed' job job' (with_code job e code) (MakeDir e) reply
+      (Refused code) (sym same.0) (sym same.1) (sym same.2) (sym job_is) (sym answer_is)
+      (λ moment timely jobs n among. denied moment timely jobs n among code why)
+
+  -- There is no memory for it, and disk and volume are as they were.
+  pub lacking_serves : early ≡ Done → (disk' : D) (c' : VolumeCore) (failed' : Bool)
+      → (disk' ≡ disk) × (c' ≡ c) × (failed' ≡ failed)
+      → ServesAlways state disk disk' c c' failed' job job (MakeDir e) replies.NoMemory
+  lacking_serves fine disk' c' failed' same =
+      rename_serves state disk disk disk' c c c' failed failed' job job job (MakeDir e) replies.NoMemory
+      replies.NoMemory (sym same.0) (sym same.1) (sym same.2) refl refl
+      (λ moment timely jobs n among. lacking moment timely jobs n among fine)
+
+  -- The volume made it, or failed meanwhile.
+  module _ (fine : early ≡ Done) (absent : IsAbsent c owner) (fits : IsCrowded d.size c → ⊥) (disk' : D)
+      (c' : VolumeCore) (failed' : Bool) (result : Result (Unit {0}) CallError)
+      (files : ChangesFiles d (state disk') c (λ f. files_made f owner protection) result)
+      (answer : DeviceAnswer d (state disk') failed failed' result) where
+    pub make_broken : result ≡ Err Device
+        → ServesAlways state disk disk' c c' failed' job job (MakeDir e) replies.Device
+    make_broken is moment timely jobs n among =
+        broken_serves state only_now disk c failed ready.alive ready.placed job (MakeDir e) (λ light. light)
+        (λ kept. kept) moment jobs n among disk' c' failed' (λ f. files_made f owner protection) result files answer
+        (row moment timely jobs n among fine absent fits) (λ s. refl) is
+
+    pub make_done : result ≡ Ok tt → c'.live ≡ c.live → c'.pending ≡ c.pending
+        → ((owner : ℕ) (x : KnownDirectory) → IsDirectoryOf c owner x → IsDirectoryOf c' owner x)
+        → ((ppn : ℕ) (name : FileName) (m : ℕ) → prime_at c ppn name ≡ Some m → prime_at c' ppn name ≡ Some m)
+        → ServesAlways state disk disk' c c' failed' job job (MakeDir e) Done
+    unfolding row
+    make_done is live pending directories primes moment timely jobs n among =
+        let whole : IsErrOf result Device → ⊥ = λ error. let wrong = sym is ∙ error in cc in
+        let keyed = keeps_keyed c.pending c'.pending jobs n job job among.keyed among.there
+        (keeps_core c.pending c'.pending job job.core pending) in
+        let reading = keeps_reading c.live c'.live jobs n job job among.reading among.there
+        (subst (λ l. KeepsReading c.live l job job) (sym live) (reads_same c.live job)) in
+        done_serves state only_now disk c failed ready.alive ready.placed job (MakeDir e) (λ light. light)
+        (λ kept. kept) moment jobs n among disk' c' failed' (λ f. files_made f owner protection) result files answer
+        (row moment timely jobs n among fine absent fits) job is keyed
+        (placed_made c c' pending directories ready.placed) reading
+        (λ works honest s state_s.
+        made_state d c jobs job e sound (answer.same.was_honest honest) s state_s (state disk') c'
+        (jobs_with moment timely jobs n among job) keyed reading live pending primes (files.readers honest whole)
+        (files.writers honest whole)
+        (subst (λ r. OnOk r (RestsAt (state disk') (files_made (without_serials s.files) owner protection))) is
+        (files.done honest (without_serials s.files) state_s.files)) absent)

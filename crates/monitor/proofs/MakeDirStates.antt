@@ -1,16 +1,16 @@
 -- MakeDir: the machine's row, and the state after it.
 use Rattle.std.proofs.Common.{◌≡◌, ◌≤◌, ◌+◌, ℕ, false, List, Option, None, Some, refl, sym, ap, subst, ◌∙◌, ⊎_elim}
-use Rattle.std.proofs.Common.{slice_set}
+use Rattle.std.proofs.Common.{slice_set, map}
 use Rattle.std.specs.Cmp.{nat_cmp_total}
 use Rattle.std.specs.FinMap.{nat_cmp-IsAntisymmetric}
 use Rattle.words36.specs.declared.moment.Moment.{Moment}
 use Rattle.words36.specs.declared.names.FileName.{FileName}
 use Rattle.blockdisk.specs.Disk.{DiskState}
 use Rattle.meaning.specs.Cores.{with_right}
-use Rattle.meaning.specs.Files.{Files, Directory, Place, name_cmp}
+use Rattle.meaning.specs.Files.{Files, Directory, Place, map_directory, name_cmp}
 use Rattle.meaning.specs.Jobs.{State, slot}
 use Rattle.meaning.specs.Making.{make_answer, directory_made}
-use Rattle.meaning.specs.Maps.{get, insert, empty}
+use Rattle.meaning.specs.Maps.{get, insert, empty, map_values, from_entries}
 use Rattle.meaning.specs.Outcomes.{settled, refused_at}
 use Rattle.meaning.specs.Published.{Version, without_serials, file_in, file_at}
 use Rattle.meaning.specs.Room.{booked}
@@ -21,7 +21,8 @@ use Rattle.meaning.specs.declared.call.Call.TheVariants.{MakeDir}
 use Rattle.meaning.specs.declared.call.Event.TheVariants.{Call as Calls}
 use Rattle.meaning.specs.declared.call.Reply.{Reply}
 use Rattle.meaning.specs.declared.call.Reply.TheVariants.{Done, Refused}
-use Rattle.meaning.proofs.MapLaws.{same_or_other, get-empty, get-insert_same, get-insert_other}
+use Rattle.meaning.proofs.MapLaws.{same_or_other, entries-empty, get-empty, get-insert_same, get-insert_other}
+use Rattle.meaning.proofs.MapLists.{map_values-insert}
 use Rattle.meaning.specs.Layouts.{pack_of}
 use Rattle.volume.specs.Live.{VolumeCore, pending_at, IsWholeCore}
 use Rattle.volume.specs.Making.{files_made}
@@ -37,9 +38,21 @@ use Rattle.monitor.specs.declared.job.Job.{Job}
 use Rattle.monitor.proofs.Answering.{state_is, job_set, called, settled_with, settled_reply}
 use Rattle.monitor.proofs.Knowing.{known}
 use Rattle.monitor.proofs.MakeDirCalls.{decided, refused_by, may_make, not_plain}
-use Rattle.monitor.proofs.MakeDirServing.{versions_made, none_in, shown_made, none_there}
+use Rattle.monitor.proofs.MakeDirs.{versions_made, none_in, none_there}
 use Rattle.monitor.proofs.ReadStays.{reads_made}
 use Rattle.monitor.proofs.WrittenStays.{writing_stays}
+
+-- the files with one directory more, as the volume has them
+pub shown_made : (files : Files Version) (owner protection : ℕ)
+    → without_serials (insert files owner (record { protection = protection; quota = 0; files = empty }))
+    ≡ files_made (without_serials files) owner protection
+shown_made files owner protection =
+    map_values-insert nat_cmp_total nat_cmp-IsAntisymmetric (map_directory (λ (v : Version). v.file)) files owner
+    (record { protection = protection; quota = 0; files = empty })
+    ∙ ap (λ fs. insert (without_serials files) owner (record { protection = protection; quota = 0; files = fs })) none
+  where
+    none : map_values (λ (v : Version). v.file) (empty {R = name_cmp}) ≡ empty
+    none = ap (λ es. from_entries (map (λ e. (e.0, e.1.file)) es)) (entries-empty name_cmp Version)
 
 -- The machine's row.
 module _ (d : DiskState) (c : VolumeCore) (files : Files Version) (w : UnderKeys) (jobs : List (Option Job))

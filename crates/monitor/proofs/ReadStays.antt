@@ -18,7 +18,7 @@ use Rattle.volume.specs.Rest.{KeepsRead}
 use Rattle.volume.specs.declared.live.LiveVersion.{LiveVersion}
 use Rattle.volume.proofs.LiveLookups.{standing_at}
 use Rattle.monitor.specs.Readers.{AreRead}
-use Rattle.monitor.proofs.MakeDirServing.{versions_made, none_in}
+use Rattle.monitor.proofs.MakeDirs.{versions_made, none_in}
 use Rattle.monitor.proofs.ReadBookings.{versions_of}
 
 -- Where each version is current and has no reader, nothing is read.

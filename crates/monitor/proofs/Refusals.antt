@@ -4,12 +4,10 @@ use Rattle.blockdisk.specs.Disk.{DiskState}
 use Rattle.meaning.specs.declared.call.Reply.{Reply}
 use Rattle.meaning.specs.declared.call.Reply.TheVariants.{Refused}
 use Rattle.volume.specs.Live.{VolumeCore}
-use Rattle.monitor.specs.DirectoryRows.{IsMakeDir}
 use Rattle.monitor.specs.Events.{IsDecided}
 use Rattle.monitor.specs.Publishing.{IsPublishing}
 use Rattle.monitor.specs.Putting.{IsOut}
 use Rattle.monitor.specs.Reading.{IsIn}
-use Rattle.monitor.specs.Refusals.{with_code}
 use Rattle.monitor.specs.declared.channel.Channel.{Channel}
 use Rattle.monitor.specs.declared.output.Output.{Output}
 use Rattle.monitor.specs.declared.job.Job.{Job}
@@ -24,10 +22,6 @@ pub out_refused : (d d' : DiskState) (c c' : VolumeCore) (same : Type 0) (job jo
 out_refused d d' c c' same job job' number a code reply is refused =
     (subst (IsOut d d' c c' same job job' number a) refused is).1
 
-pub make_dir_refused : (size : ℕ) (c : VolumeCore) (same : Type 0) (job job' : Job) (e code : ℕ) (reply : Reply)
-    → IsMakeDir size c same job job' e reply → reply ≡ Refused code → job' ≡ with_code job e code
-make_dir_refused size c same job job' e code reply is refused = (subst (IsMakeDir size c same job job' e) refused is).0
-
 pub in_decided : (d d' : DiskState) (c : VolumeCore) (job job' : Job) (number a : ℕ) (reply : Reply)
     → IsIn d d' c job job' number a reply → IsDecided reply → job' ≡ job
 in_decided d d' c job job' number a reply is decided =
@@ -39,12 +33,6 @@ pub out_decided : (d d' : DiskState) (c c' : VolumeCore) (same : Type 0) (job jo
 out_decided d d' c c' same job job' number a reply is decided =
     by_decided (λ r. IsOut d d' c c' same job job' number a r → (job' ≡ job) × same) reply decided
     (λ x. (x.0, x.1)) (λ x. (x.0, x.1)) (λ x. absurd x) (λ x. absurd x) is
-
-pub make_dir_decided : (size : ℕ) (c : VolumeCore) (same : Type 0) (job job' : Job) (e : ℕ) (reply : Reply)
-    → IsMakeDir size c same job job' e reply → IsDecided reply → (job' ≡ job) × same
-make_dir_decided size c same job job' e reply is decided =
-    by_decided (λ r. IsMakeDir size c same job job' e r → (job' ≡ job) × same) reply decided
-    (λ x. absurd x) (λ x. (x.0, x.1)) (λ x. absurd x) (λ x. absurd x) is
 
 pub publishing_refused : (d d' : DiskState) (c c' : VolumeCore) (failed failed' : Bool) (channel : Channel) (o : Output)
     (last : Option (List ℕ)) (code : ℕ) (reply : Reply) → IsPublishing d d' c c' failed failed' channel o last reply
