@@ -62,54 +62,65 @@ fn expect_counted(
     Ok(())
 }
 
-/// Nothing is counted for the RESET at the end of a session.
+/// How many lines of a session were refused, and which. Nothing is counted for the RESET at its end.
 #[test]
-fn tallies(rt: HostRuntime) -> Result<(), Fail> {
-    for (calls, language, lines, text, tally) in [
+fn session_tallies(rt: HostRuntime) -> Result<(), Fail> {
+    for (calls, lines, text, tally) in [
         (
             64,
-            Language::Session,
             b"LOGIN [10,20]\nTYPE FOO.TXT\n".as_slice(),
             b"Job 1 [10,20]\nHELLO\r\n".as_slice(),
             (0, 0, false),
         ),
         (
             64,
-            Language::Session,
             b"LOGIN [10,20]\nTYPE FOO\nDIR",
             b"Job 1 [10,20]\n?File not found\n?Command error\n",
             (2, 2, false),
         ),
         (
             1,
-            Language::Session,
             b"LOGIN [10,20]\nDELETE FOO.TXT\nDIRECTORY\n",
             b"Job 1 [10,20]\n?Device fault\n?Service stopped\n",
             (2, 2, true),
         ),
+    ] {
+        expect_counted(
+            &rt,
+            rt.alloc(),
+            (calls, Language::Session),
+            (lines, text),
+            tally,
+        )?;
+    }
+    Ok(())
+}
+
+/// How many lines of a script were refused, and which.
+#[test]
+fn script_tallies(rt: HostRuntime) -> Result<(), Fail> {
+    for (calls, lines, text, tally) in [
         (
             64,
-            Language::Script,
-            b"1 login 10,20 1000\r\n\n1 DEP 200 17\n1 EXA 200",
-            b"DONE\nDONE\nVALUE 000000000017\n",
+            b"1 login 10,20 1000\r\n\n1 DEP 200 17\n1 EXA 200".as_slice(),
+            b"DONE\nDONE\nVALUE 000000000017\n".as_slice(),
             (0, 0, false),
         ),
-        (
-            64,
-            Language::Script,
-            b"1 RESET\n",
-            b"NOJOB\n",
-            (1, 1, false),
-        ),
+        (64, b"1 RESET\n", b"NOJOB\n", (1, 1, false)),
         (
             1,
-            Language::Script,
             b"1 LOGIN 1,2 1000\n1 DEP 300 000011000005\n1 MAKDIR 300\n1 RESET\n",
             b"DONE\nDONE\nDEVICE\nFAILED\n",
             (2, 3, true),
         ),
     ] {
-        expect_counted(&rt, rt.alloc(), (calls, language), (lines, text), tally)?;
+        expect_counted(
+            &rt,
+            rt.alloc(),
+            (calls, Language::Script),
+            (lines, text),
+            tally,
+        )?;
     }
     Ok(())
 }

@@ -1,10 +1,6 @@
-ghost use Rattle.std.specs.Prelude.{◌≡◌, ◌<◌, ◌^◌, ◌||◌, IfOk, Some, codes, false, true};
+ghost use Rattle.std.specs.Prelude.{◌≡◌, ◌||◌, ℕ, IfOk, Some, codes, false, true};
 ghost use Rattle.meaning.specs.Texts.{line, is_broken};
 ghost use Rattle.meaning.specs.declared.command.Command.TheVariants.{Login as LoginLine, Directory as DirectoryLine};
-ghost use Rattle.meaning.specs.declared.command.Command.TheVariants.{Copy as CopyLine, TypeOut as TypeLine};
-ghost use Rattle.meaning.specs.declared.command.Command.TheVariants.{Rename as RenameLine, Delete as DeleteLine};
-ghost use Rattle.meaning.specs.declared.command.Command.TheVariants.{Protect as ProtectLine, MakeDir as MakeLine};
-ghost use Rattle.meaning.specs.declared.command.Command.TheVariants.{Quota as QuotaLine};
 ghost use Rattle.commands.specs.Errands.{fresh};
 ghost use Rattle.commands.specs.Fitting.{Fits};
 ghost use Rattle.commands.specs.Reasons.{counts};
