@@ -169,7 +169,8 @@ module _ {D : Type 0} (state : D → DiskState) (only_now : (disk : D) (contents
       (c' : VolumeCore) (failed' : Bool) (result : Result (Unit {0}) CallError)
       (files : ChangesFiles d (state disk') c (λ f. files_made f owner protection) result)
       (answer : DeviceAnswer d (state disk') failed failed' result) where
-    pub make_broken : result ≡ Err Device → ServesAlways state disk disk' c c' failed' job job (MakeDir e) replies.Device
+    pub make_broken : result ≡ Err Device
+        → ServesAlways state disk disk' c c' failed' job job (MakeDir e) replies.Device
     make_broken is moment timely jobs n among =
         broken_serves state only_now disk c failed ready.alive ready.placed job (MakeDir e) (λ light. light)
         (λ kept. kept) moment jobs n among disk' c' failed' (λ f. files_made f owner protection) result files answer

@@ -96,8 +96,8 @@ returns-in-Err-Device-clause-serving g c =
     let fine : early_answer job.ppn job.core c.args.address ≡ Done = search rules in
     let absent : IsAbsent volume.core owner = search rules in
     let fits : IsCrowded (state volume.disk).size volume.core → ⊥ = search rules in
-    make_broken state g.met.D.Disk.only_now volume.disk volume.core volume.failed job c.requires.ready c.args.address fine
-    absent fits new.disk new.core new.failed c.make_dir.result
+    make_broken state g.met.D.Disk.only_now volume.disk volume.core volume.failed job c.requires.ready c.args.address
+    fine absent fits new.disk new.core new.failed c.make_dir.result
     (subst (λ (f : Files File → Files File). ChangesFiles (state volume.disk) (state new.disk) volume.core f
     c.make_dir.result)
     (λ i f. files_made f ((c.in-Some.ensures.value ∙ c.word_at.ensures.value) i) (asked i))
