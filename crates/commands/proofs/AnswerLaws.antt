@@ -12,6 +12,7 @@ use Rattle.meaning.specs.declared.style.Style.{Style}
 use Rattle.meaning.specs.declared.style.Style.TheVariants.{Columns}
 use Rattle.meaning.specs.declared.command.Command.{Command}
 use Rattle.meaning.specs.declared.command.Command.TheVariants.{Login as LoginLine, Directory as DirectoryLine}
+use Rattle.meaning.specs.declared.command.Command.TheVariants.{Copy, Rename, Delete, TypeOut, Protect, MakeDir, Quota}
 use Rattle.meaning.specs.declared.call.Event.TheVariants.{Login, Login as LogsIn}
 use Rattle.meaning.specs.declared.call.Reply.{Reply}
 use Rattle.meaning.specs.declared.call.Reply.TheVariants.{Done, Value, Refused, Stopped, NoChannel, AddressCheck, NoJob}
@@ -71,14 +72,27 @@ module _ {V E S : Type 0} (machine : S → Machine) (stands : AlwaysStands machi
       (spoke_complaint m who None (codes "?Command error") (refl, refl, refl) refused broke text)
 
   -- a line that needs a job, of which this is said without one
+  needs_job : (command : Command) → ((owner : ℕ) → command ≡ LoginLine owner → ⊥)
+      → Speaks moment None (Some command) [] (complains (codes "?Not logged in")) None
+  needs_job (LoginLine owner) other = absurd (other owner refl)
+  needs_job (DirectoryLine place) other = (refl, refl, refl)
+  needs_job (Copy to from) other = (refl, refl, refl)
+  needs_job (Rename to from) other = (refl, refl, refl)
+  needs_job (Delete spec) other = (refl, refl, refl)
+  needs_job (TypeOut spec) other = (refl, refl, refl)
+  needs_job (Protect spec protection) other = (refl, refl, refl)
+  needs_job (MakeDir owner protection) other = (refl, refl, refl)
+  needs_job (Quota owner blocks) other = (refl, refl, refl)
+
   pub spoke_stranger : (m : S) (who : Option ℕ) (command : Command)
-      → Speaks moment None (Some command) [] (complains (codes "?Not logged in")) None → who ≡ None
+      → ((owner : ℕ) → command ≡ LoginLine owner → ⊥) → who ≡ None
       → counted.refused ≡ true → counted.broke ≡ tally.broke || false
       → IfOk result (λ v. bytes v ≡ line (codes "?Not logged in"))
       → Spoke bytes result machine m m moment who who tally counted (Some command)
-  spoke_stranger m who command speaks e refused broke text =
+  spoke_stranger m who command other e refused broke text =
       subst (λ (o : Option ℕ). Spoke bytes result machine m m moment o o tally counted (Some command))
-      (sym e) (spoke_complaint m None (Some command) (codes "?Not logged in") speaks refused broke text)
+      (sym e)
+      (spoke_complaint m None (Some command) (codes "?Not logged in") (needs_job command other) refused broke text)
 
   -- LOGIN.
 

@@ -153,155 +153,34 @@ fn list<S: FileService>(
     show(alloc, service, tally, Style::Columns, place.unwrap_or(me))
 }
 
-/// Answers DIRECTORY, for whoever is logged in.
-fn list_for<S: FileService>(
+/// Makes the calls of a command of a job that is logged in, and gives the bytes that it prints.
+fn serve_command<S: FileService>(
     alloc: Global,
     service: &mut S,
     moment: Moment,
-    who: Option<Ppn>,
+    me: Ppn,
     tally: &mut Tally,
-    place: Option<Ppn>,
+    command: Command,
 ) -> Result<Vec<u8>, AllocError>
-    ensures { Spoke (λ bytes. bytes.items) result S.machine service.old service.new moment who who tally.old tally.new
-        (Some (DirectoryLine place)) }
+    requires fits { Fits (Some command) }
+    requires later { (owner : ℕ) → command ≡ LoginLine owner → ⊥ }
+    ensures { Spoke (λ bytes. bytes.items) result S.machine service.old service.new moment (Some me) (Some me)
+        tally.old tally.new (Some command) }
 {
-    match who {
-        Some(me) => list(alloc, service, moment, me, tally, place),
-        None => turn_away(alloc, tally),
-    }
-}
-
-/// Answers MAKDIR, for whoever is logged in.
-fn make_dir_for<S: FileService>(
-    alloc: Global,
-    service: &mut S,
-    moment: Moment,
-    who: Option<Ppn>,
-    tally: &mut Tally,
-    owner: Ppn,
-    protection: u32,
-) -> Result<Vec<u8>, AllocError>
-    requires { protection < 512 }
-    ensures { Spoke (λ bytes. bytes.items) result S.machine service.old service.new moment who who tally.old tally.new
-        (Some (MakeLine owner protection)) }
-{
-    match who {
-        Some(me) => make_dir(alloc, service, moment, me, tally, owner, protection),
-        None => turn_away(alloc, tally),
-    }
-}
-
-/// Answers QUOTA, for whoever is logged in.
-fn limit_for<S: FileService>(
-    alloc: Global,
-    service: &mut S,
-    moment: Moment,
-    who: Option<Ppn>,
-    tally: &mut Tally,
-    owner: Ppn,
-    blocks: u32,
-) -> Result<Vec<u8>, AllocError>
-    requires { blocks < 2 ^ 18 }
-    ensures { Spoke (λ bytes. bytes.items) result S.machine service.old service.new moment who who tally.old tally.new
-        (Some (QuotaLine owner blocks)) }
-{
-    match who {
-        Some(me) => limit(alloc, service, moment, me, tally, owner, blocks),
-        None => turn_away(alloc, tally),
-    }
-}
-
-/// Answers COPY, for whoever is logged in.
-fn copy_for<S: FileService>(
-    alloc: Global,
-    service: &mut S,
-    moment: Moment,
-    who: Option<Ppn>,
-    tally: &mut Tally,
-    to: Spec,
-    from: Spec,
-) -> Result<Vec<u8>, AllocError>
-    ensures { Spoke (λ bytes. bytes.items) result S.machine service.old service.new moment who who tally.old tally.new
-        (Some (CopyLine to from)) }
-{
-    match who {
-        Some(me) => copy(alloc, service, moment, me, tally, to, from),
-        None => turn_away(alloc, tally),
-    }
-}
-
-/// Answers TYPE, for whoever is logged in.
-fn type_for<S: FileService>(
-    alloc: Global,
-    service: &mut S,
-    moment: Moment,
-    who: Option<Ppn>,
-    tally: &mut Tally,
-    spec: Spec,
-) -> Result<Vec<u8>, AllocError>
-    ensures { Spoke (λ bytes. bytes.items) result S.machine service.old service.new moment who who tally.old tally.new
-        (Some (TypeLine spec)) }
-{
-    match who {
-        Some(me) => type_out(alloc, service, moment, me, tally, spec),
-        None => turn_away(alloc, tally),
-    }
-}
-
-/// Answers RENAME, for whoever is logged in.
-fn rename_for<S: FileService>(
-    alloc: Global,
-    service: &mut S,
-    moment: Moment,
-    who: Option<Ppn>,
-    tally: &mut Tally,
-    to: Spec,
-    from: Spec,
-) -> Result<Vec<u8>, AllocError>
-    ensures { Spoke (λ bytes. bytes.items) result S.machine service.old service.new moment who who tally.old tally.new
-        (Some (RenameLine to from)) }
-{
-    match who {
-        Some(me) => rename(alloc, service, moment, me, tally, to, from),
-        None => turn_away(alloc, tally),
-    }
-}
-
-/// Answers DELETE, for whoever is logged in.
-fn delete_for<S: FileService>(
-    alloc: Global,
-    service: &mut S,
-    moment: Moment,
-    who: Option<Ppn>,
-    tally: &mut Tally,
-    spec: Spec,
-) -> Result<Vec<u8>, AllocError>
-    ensures { Spoke (λ bytes. bytes.items) result S.machine service.old service.new moment who who tally.old tally.new
-        (Some (DeleteLine spec)) }
-{
-    match who {
-        Some(me) => delete(alloc, service, moment, me, tally, spec),
-        None => turn_away(alloc, tally),
-    }
-}
-
-/// Answers PROTECT, for whoever is logged in.
-fn protect_for<S: FileService>(
-    alloc: Global,
-    service: &mut S,
-    moment: Moment,
-    who: Option<Ppn>,
-    tally: &mut Tally,
-    spec: Spec,
-    protection: u32,
-) -> Result<Vec<u8>, AllocError>
-    requires { protection < 512 }
-    ensures { Spoke (λ bytes. bytes.items) result S.machine service.old service.new moment who who tally.old tally.new
-        (Some (ProtectLine spec protection)) }
-{
-    match who {
-        Some(me) => protect(alloc, service, moment, me, tally, spec, protection),
-        None => turn_away(alloc, tally),
+    match command {
+        Command::Login(_) => unreachable!(), // LOGIN needs no job
+        Command::Directory(place) => list(alloc, service, moment, me, tally, place),
+        Command::Copy(to, from) => copy(alloc, service, moment, me, tally, to, from),
+        Command::Rename(to, from) => rename(alloc, service, moment, me, tally, to, from),
+        Command::Delete(spec) => delete(alloc, service, moment, me, tally, spec),
+        Command::TypeOut(spec) => type_out(alloc, service, moment, me, tally, spec),
+        Command::Protect(spec, protection) => {
+            protect(alloc, service, moment, me, tally, spec, protection)
+        }
+        Command::MakeDir(owner, protection) => {
+            make_dir(alloc, service, moment, me, tally, owner, protection)
+        }
+        Command::Quota(owner, blocks) => limit(alloc, service, moment, me, tally, owner, blocks),
     }
 }
 
@@ -321,21 +200,11 @@ pub fn answer<S: FileService>(
     let Some(command) = meant else {
         return refuse(alloc, tally, "?Command error", false);
     };
-    match command {
-        Command::Login(owner) => log_in(alloc, service, moment, who, tally, owner),
-        Command::Directory(place) => list_for(alloc, service, moment, *who, tally, place),
-        Command::Copy(to, from) => copy_for(alloc, service, moment, *who, tally, to, from),
-        Command::Rename(to, from) => rename_for(alloc, service, moment, *who, tally, to, from),
-        Command::Delete(spec) => delete_for(alloc, service, moment, *who, tally, spec),
-        Command::TypeOut(spec) => type_for(alloc, service, moment, *who, tally, spec),
-        Command::Protect(spec, protection) => {
-            protect_for(alloc, service, moment, *who, tally, spec, protection)
-        }
-        Command::MakeDir(owner, protection) => {
-            make_dir_for(alloc, service, moment, *who, tally, owner, protection)
-        }
-        Command::Quota(owner, blocks) => {
-            limit_for(alloc, service, moment, *who, tally, owner, blocks)
-        }
+    if let Command::Login(owner) = command {
+        return log_in(alloc, service, moment, who, tally, owner);
+    }
+    match *who {
+        Some(me) => serve_command(alloc, service, moment, me, tally, command),
+        None => turn_away(alloc, tally),
     }
 }

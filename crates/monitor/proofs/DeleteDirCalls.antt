@@ -149,8 +149,8 @@ module _ (d : DiskState) (c : VolumeCore) (files : Files Version) (w : UnderKeys
       abbrev empty : Bool
       empty = entry_count t owner == 0
 
-      pub checked : outside ≡ true → answer ≡ AddressCheck
-      checked is i = pick (is i) gone strange empty
+      pub answer_checked : outside ≡ true → answer ≡ AddressCheck
+      answer_checked is i = pick (is i) gone strange empty
 
       pub refused_by : (code : ℕ) → outside ≡ false → IsKeptBy d c job.ppn owner code → answer ≡ Refused code
       refused_by code inside (inl (one, nowhere)) =

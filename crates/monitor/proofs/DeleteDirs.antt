@@ -8,11 +8,10 @@ use Rattle.std.specs.FinMap.{nat_cmp-IsAntisymmetric}
 use Rattle.std.specs.Ordering.{nat_cmp}
 use Rattle.std.specs.FinMap.Entries.{find}
 use Rattle.words36.specs.Words.{IsPpn}
-use Rattle.blockdisk.specs.Disk.{DiskState, LeavesOnly}
+use Rattle.blockdisk.specs.Disk.{DiskState}
 use Rattle.meaning.specs.Codes.{number_of}
 use Rattle.meaning.specs.Directories.{FileEntry}
 use Rattle.meaning.specs.Files.{File, Files, name_cmp}
-use Rattle.meaning.specs.Layouts.{pack_of}
 use Rattle.meaning.specs.Maps.{get, total}
 use Rattle.meaning.specs.declared.code.ErrorCode.{ErrorCode}
 use Rattle.meaning.specs.declared.code.ErrorCode.TheVariants.{NoDirectory, NotEmpty}
@@ -21,8 +20,8 @@ use Rattle.volume.specs.Known.{KnownDirectory}
 use Rattle.volume.specs.Live.{VolumeCore, pending_at, creates, is_creation}
 use Rattle.volume.specs.Publishing.{IsPlaced}
 use Rattle.volume.specs.Queries.{protection_answer}
-use Rattle.volume.specs.RemovingDirectories.{directory_removed, HasEntries}
-use Rattle.volume.specs.Rest.{IsSoundCore, RestsAt, StandsForOneOf}
+use Rattle.volume.specs.RemovingDirectories.{HasEntries}
+use Rattle.volume.specs.Rest.{IsSoundCore, RestsAt}
 use Rattle.volume.specs.declared.error.CallError.{CallError}
 use Rattle.volume.specs.declared.pending.PendingVersion.{PendingVersion}
 use Rattle.volume.proofs.Answering.{directory_none, rest_holds, all_at_place}
@@ -30,15 +29,6 @@ use Rattle.volume.proofs.Lookups.{first_place}
 use Rattle.volume.proofs.Pinning.{total_at}
 use Rattle.monitor.specs.DeleteDirRows.{IsNowhere, IsThere, is_kept_from, IsKeptBy}
 use Rattle.monitor.specs.Serving.{ArePlaced}
-
--- The directory that is deleted is the one asked for.
-module _ (d d' : DiskState) (owner asked : ℕ) (whose : owner ≡ asked) (f : Files File) where
-  pub crash_asked : LeavesOnly d d' (StandsForOneOf (pack_of d) f (directory_removed f owner))
-      → LeavesOnly d d' (StandsForOneOf (pack_of d) f (directory_removed f asked))
-  crash_asked leaves = subst (λ n. LeavesOnly d d' (StandsForOneOf (pack_of d) f (directory_removed f n))) whose leaves
-
-  pub done_asked : RestsAt d' (directory_removed f owner) → RestsAt d' (directory_removed f asked)
-  done_asked rests = subst (λ n. RestsAt d' (directory_removed f n)) whose rests
 
 -- No file has a directory that core hasn't, and none has one whose number is none.
 module _ (d : DiskState) (c : VolumeCore) (failed : Bool) (sound : IsSoundCore d c failed) (alive : failed ≡ false)

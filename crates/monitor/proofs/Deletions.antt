@@ -1,27 +1,26 @@
 -- RENAME that deletes, by what the volume answers: what it promises, whichever jobs there are.
 use Rattle.std.proofs.Common.{◌≡◌, ◌⊎◌, ℕ, Bool, true, false, List, [], ◌∷◌, Option, Some, None, Result, Ok, Err}
-use Rattle.std.proofs.Common.{refl, sym, ap, subst, ◌∙◌, inl, inr, ⊎_elim, slice_index, slice_set}
+use Rattle.std.proofs.Common.{refl, sym, ap, subst, ◌∙◌, ⊎_elim, slice_index, slice_set}
+use Rattle.std.proofs.Math.Path.{subst₂, subst₃}
 use Rattle.std.proofs.lemmas.Bool.{eq-eqb}
 use Rattle.std.specs.Prelude.{◌↔◌, if◌then◌else◌, is_none, IsErrOf, OnOk, OnErr}
 use Rattle.std.specs.Ordering.{nat_cmp}
 use Rattle.std.specs.FinMap.Entries.{find}
 use Rattle.words36.specs.declared.moment.Moment.{Moment}
 use Rattle.words36.specs.declared.names.FileName.{FileName}
-use Rattle.blockdisk.specs.Disk.{Contents, DiskState, MayLeave, LeavesOnly, SameDisk, one_more}
-use Rattle.blockdisk.specs.Laws.{leaves_weaker}
-use Rattle.meaning.specs.Layouts.{pack_of, StandsOn}
+use Rattle.blockdisk.specs.Disk.{Contents, DiskState, MayLeave}
+use Rattle.meaning.specs.Layouts.{pack_of}
 use Rattle.meaning.specs.declared.code.ErrorCode.{ErrorCode}
 use Rattle.meaning.specs.declared.code.ErrorCode.TheVariants.{NoDirectory, NotFound}
 use Rattle.meaning.specs.declared.put.Put.{Put}
 use Rattle.meaning.specs.Codes.{number_of}
 use Rattle.meaning.specs.Cores.{lies_outside}
-use Rattle.meaning.specs.Files.{File, Files, Directory, Place, name_cmp}
+use Rattle.meaning.specs.Files.{Directory, Place, name_cmp}
 use Rattle.meaning.specs.Jobs.{State, slot}
 use Rattle.meaning.specs.Looking.{place_at}
 use Rattle.meaning.specs.Maps.{get}
 use Rattle.meaning.specs.Published.{Version, without_serials, file_in, file_at, without_file}
 use Rattle.meaning.specs.Renaming.{deletes_at, rename_from, move_answer, files_moved, protection_at}
-use Rattle.meaning.specs.Runs.{Service, Broken, Answers, is_plain}
 use Rattle.meaning.specs.Stands.{place_of}
 use Rattle.meaning.specs.Step.{step}
 use Rattle.meaning.specs.declared.call.Call.TheVariants.{Rename}
@@ -29,42 +28,37 @@ use Rattle.meaning.specs.declared.call.Event.TheVariants.{Call as Calls}
 use Rattle.meaning.specs.declared.call.Reply.{Reply}
 use Rattle.meaning.specs.declared.call.Reply.TheVariants as replies
 use Rattle.meaning.proofs.MapLaws.{some_none}
-use Rattle.meaning.proofs.SlotLaws.{slot-set_other}
 use Rattle.volume.specs.Beginning.{IsDirectoryOf}
 use Rattle.volume.specs.Claims.{claims}
 use Rattle.volume.specs.Known.{KnownDirectory}
 use Rattle.volume.specs.Edits.{ChangesFiles, DeviceAnswer}
 use Rattle.volume.specs.Live.{VolumeCore}
 use Rattle.volume.specs.Removing.{files_removed, RemovesFile}
-use Rattle.volume.specs.Rest.{IsSoundCore, RestsAt, StandsForOneOf, KeepsRead, KeepsEachWritten}
+use Rattle.volume.specs.Rest.{IsSoundCore, RestsAt}
 use Rattle.volume.specs.declared.error.CallError.{CallError}
 use Rattle.volume.specs.declared.error.CallError.TheVariants.{Refused, Device, Failed, NoMemory}
 use Rattle.volume.specs.declared.live.LiveVersion.{LiveVersion}
 use Rattle.volume.proofs.Answering.{Holds, rest_holds}
 use Rattle.monitor.specs.Changing.{change_answer, with_input_closed, CloseAfter, changed_reply, changed_job}
 use Rattle.monitor.specs.Dropping.{Closes}
-use Rattle.monitor.specs.Events.{CallCrashes}
 use Rattle.monitor.specs.Finding.{IsKnown}
 use Rattle.monitor.specs.Promises.{IsAmong, IsServing}
 use Rattle.monitor.specs.Refusals.{with_code}
-use Rattle.monitor.specs.Serving.{AreKeyed, ArePlaced, AreReading, IsState, Serves, IsTimely}
-use Rattle.monitor.specs.Sides.{UnderKeys, sides_in, job_of, state_of}
+use Rattle.monitor.specs.Serving.{ArePlaced, IsState, IsTimely}
+use Rattle.monitor.specs.Sides.{UnderKeys, job_of, state_of}
 use Rattle.monitor.specs.declared.channel.Channel.{Channel}
 use Rattle.monitor.specs.declared.input.Input.{Input}
 use Rattle.monitor.specs.declared.job.Job.{Job}
-use Rattle.monitor.proofs.Answering.{in_state, goes_on, state_is, contrary}
+use Rattle.monitor.proofs.Answering.{state_is, contrary}
 use Rattle.monitor.proofs.Beginning.{home_of, listed}
 use Rattle.monitor.proofs.ChangeAnswers.{rename_goes_on, changed_there}
+use Rattle.monitor.proofs.ChangeServing.{told_serves, broken_serves, done_serves}
 use Rattle.monitor.proofs.DeletedFiles.{files_left}
 use Rattle.monitor.proofs.DeletedStates.{placed_deleted, deleted_keyed, deleted_reading, deleted_state}
-use Rattle.monitor.proofs.Dropped.{job_keyed}
-use Rattle.monitor.proofs.EnterReads.{reading_same}
 use Rattle.monitor.proofs.InputsClosed.{input_behind}
 use Rattle.monitor.proofs.Knowing.{known}
 use Rattle.monitor.proofs.Lookups.{placed_still}
-use Rattle.monitor.proofs.Promised.{quiet_serves}
 use Rattle.monitor.proofs.ReadsDeleted.{readers_left}
-use Rattle.monitor.proofs.ReadingJobs.{keeps_reading}
 use Rattle.monitor.proofs.RenameRefusals.{same_code}
 use Rattle.monitor.proofs.RenameRows.{row_done}
 
@@ -131,6 +125,9 @@ module _ {D : Type 0} (state : D → DiskState) (only_now : (disk : D) (contents
   abbrev closed : Job
   closed = with_input_closed job number channel
 
+  abbrev jobs' : List (Option Job)
+  jobs' = slice_set jobs n (Some closed)
+
   -- The machine, in a state that the monitor stands for.
   module _ (honest : d.honest) (s : State) (state_s : IsState d c jobs s) where
     abbrev w : UnderKeys
@@ -157,22 +154,22 @@ module _ {D : Type 0} (state : D → DiskState) (only_now : (disk : D) (contents
         ∙ ap (λ b. if b then replies.Done else move_answer (pack_of d) before (job_of w job) place
         (place_at (job_of w job) e)) deletes
 
-    step_done : (serial : ℕ) → step (pack_of d) serial s (Calls n (Rename number e) moment)
-        ≡ (replies.Done, state_of (without_file s.files place) w (slice_set jobs n (Some closed)))
-    step_done serial = subst (λ t. step (pack_of d) serial t (Calls n (Rename number e) moment)
-        ≡ (replies.Done, state_of (without_file s.files place) w (slice_set jobs n (Some closed)))) (sym before_is)
-        (row_done d s.files w jobs n job among.there number e moment (timely honest) channel is_open input side free
-        inside
-        answer serial
-        ∙ ap (λ b. (
-          replies.Done,
-          state_of (if b then without_file s.files place else files_moved s.files place
-              (place_at (job_of w job) e) (protection_at (job_of w job) e) (file_at s.files place)) w
-              (slice_set jobs n (Some closed)),
-        )) deletes)
-
-    undecided : is_plain ((step (pack_of d) 0 s (Calls n (Rename number e) moment)).0) ≡ false
-    undecided = ap (λ (r : Reply × State). is_plain r.0) (step_done 0)
+    row : (after : State) × ((serial : ℕ) → step (pack_of d) serial s (Calls n (Rename number e) moment)
+        ≡ (replies.Done, after))
+        × (without_serials after.files ≡ files_removed (without_serials s.files) input.ppn input.file)
+    row = (
+      state_of (without_file s.files place) w jobs',
+      λ serial. subst (λ t. step (pack_of d) serial t (Calls n (Rename number e) moment)
+          ≡ (replies.Done, state_of (without_file s.files place) w jobs')) (sym before_is)
+          (row_done d s.files w jobs n job among.there number e moment (timely honest) channel is_open input side free
+          inside answer serial
+          ∙ ap (λ b. (
+            replies.Done,
+            state_of (if b then without_file s.files place else files_moved s.files place
+                (place_at (job_of w job) e) (protection_at (job_of w job) e) (file_at s.files place)) w jobs',
+          )) deletes),
+      files_left s.files place,
+    )
 
     never_refused : (code : ErrorCode) → IsErrOf result (Refused code) → ⊥
     never_refused code refused = not_refused d c s sound
@@ -180,24 +177,13 @@ module _ {D : Type 0} (state : D → DiskState) (only_now : (disk : D) (contents
         input.ppn input.file there.0 there.1 result code (is.no_directory alive) (is.not_found alive)
         (is.codes code refused) refused
 
-  crashes : CallCrashes d d' c jobs n (Rename number e) moment
-  crashes honest s state_s =
-      leaves_weaker d d' (StandsForOneOf (pack_of d) (without_serials s.files) _) _
-      (is.files.crash honest (without_serials s.files) state_s.files)
-      (λ contents. ⊎_elim (λ was. inl was)
-      (λ new. inr (
-        0,
-        subst (StandsOn (pack_of d) contents) (sym (files_left s.files place)
-            ∙ ap (λ (r : Reply × State). without_serials r.1.files)
-            (sym (step_done (is.answer.same.was_honest honest) s state_s 0))) new,
-      )))
-
   abbrev ServesAfter : Result (Unit {0}) CallError → Type 0
   ServesAfter r = IsServing state disk disk' c c' failed' jobs
       (slice_set jobs n (Some (changed_job r job number e channel))) n (Rename number e) moment (changed_reply r)
 
   -- It is done, and the channel's input side is closed behind it.
   done : result ≡ Ok tt → Closes b c' [] (input.pin.key ∷ []) → c'.pending ≡ b.pending → ServesAfter (Ok tt)
+  unfolding row
   done ok closes pending =
       let removed = subst (λ r. OnOk r ((key : ℕ) × (v : LiveVersion) × (puts : List Put)
       × RemovesFile d.size c b input.ppn input.file key v puts)) ok is.removed in
@@ -206,89 +192,45 @@ module _ {D : Type 0} (state : D → DiskState) (only_now : (disk : D) (contents
       let puts = removed.2 in
       let removes : RemovesFile d.size c b input.ppn input.file key v puts = removed.3 in
       let fine : IsErrOf result Device → ⊥ = λ error. let wrong = sym ok ∙ error in cc in
-      let serves' : failed' ≡ false = is.answer.still fine (λ error. let wrong = sym ok ∙ error in cc) ∙ alive in
       let behind = input_behind job number channel is_open input side c b c' removes.pending
       (readers_left c.live b.live key v removes.there removes.ended removes.others) closes pending in
-      record {
-        keyed = λ serves. deleted_keyed d d' c b c' jobs n job closed among.there input.ppn input.file key v puts
-            removes behind among.keyed;
-        placed = λ serves. placed_still b c' pending closes.leaves.known
-            (placed_deleted d.size c b input.ppn input.file key v puts removes unclaimed placed);
-        reading = λ serves. deleted_reading d d' c b c' jobs n job closed among.there input.ppn input.file key v puts
-            removes behind among.reading;
-        others = λ m other. slot-set_other jobs n m (Some closed) other;
-        answered = λ honest. in_state d c false jobs (λ old. (new : Service)
-            × Serves d' c' failed' (slice_set jobs n (Some closed)) new
-            × Answers (pack_of d) old (Calls n (Rename number e) moment) replies.Done new) refl
-            (λ s state_s.
-            let was = is.answer.same.was_honest honest in
-            let x = there was s state_s in
-            goes_on d' c' failed' (slice_set jobs n (Some closed)) (pack_of d) (Calls n (Rename number e) moment)
-            replies.Done s (state_of (without_file s.files place) state_s.under (slice_set jobs n (Some closed)))
-            serves' state_s.sound (step_done was s state_s)
-            (deleted_state d d' c b c' jobs n job closed among.there input.ppn input.file key v puts removes behind s
-            state_s sound.whole x.0 x.1 unclaimed
-            (subst (λ r. OnOk r (RestsAt d' (files_removed (without_serials s.files) input.ppn input.file))) ok
-            (is.files.done honest (without_serials s.files) state_s.files))
-            (is.files.readers honest fine) (is.files.writers honest fine) closes.leaves));
-        crash = crashes;
-        idle = λ idle. absurd idle;
-        light = λ light. absurd light;
-        kept = λ kept. absurd kept;
-        memory = λ none. cc none;
-        decided = λ is. absurd is;
-        refused = λ code none. cc none;
-        failed = (λ broken. absurd (contrary serves' broken), ⊎_elim (λ error. cc error) (λ error. cc error));
-        blamed = λ honest error. cc error;
-        counted = λ error. cc error;
-        served = λ serves. is.answer.served fine;
-        same = is.answer.same;
-      }
+      done_serves state only_now disk c failed alive placed job (Rename number e) (λ light. light) (λ kept. kept)
+      moment jobs n among disk' c' failed' (λ f. files_removed f input.ppn input.file) result is.files is.answer row
+      closed ok
+      (deleted_keyed d d' c b c' jobs n job closed among.there input.ppn input.file key v puts removes behind
+      among.keyed)
+      (placed_still b c' pending closes.leaves.known
+      (placed_deleted d.size c b input.ppn input.file key v puts removes unclaimed placed))
+      (deleted_reading d d' c b c' jobs n job closed among.there input.ppn input.file key v puts removes behind
+      among.reading)
+      (λ works honest s state_s.
+      let x = there (is.answer.same.was_honest honest) s state_s in
+      deleted_state d d' c b c' jobs n job closed among.there input.ppn input.file key v puts removes behind s
+      state_s sound.whole x.0 x.1 unclaimed
+      (subst (λ r. OnOk r (RestsAt d' (files_removed (without_serials s.files) input.ppn input.file))) ok
+      (is.files.done honest (without_serials s.files) state_s.files))
+      (is.files.readers honest fine) (is.files.writers honest fine) closes.leaves)
 
   -- It is refused, which happens to no file that is there: so this is no honest disk.
   refused : (code : ErrorCode) → IsErrOf result (Refused code) → c' ≡ b → ServesAfter (Err (Refused code))
   refused code error same =
       let fine : IsErrOf result Device → ⊥ = λ broke. let wrong = sym error ∙ broke in cc in
+      let whole : IsErrOf result Failed → ⊥ = λ broke. let wrong = sym error ∙ broke in cc in
       let still = subst (λ r. OnErr r ((disk' ≡ disk) × (b ≡ c))) error (is.refused fine) in
-      let core = sym (same ∙ still.1) in
       let job' = with_code job e (number_of code) in
-      quiet_serves state only_now disk disk' c c' failed failed' job job' (Rename number e) moment
-      (replies.Refused (number_of code)) alive (still.0, is.answer.still fine (λ broke. let wrong = sym error ∙ broke in cc)) (λ x. cc x, λ x. cc x)
-      (subst ArePlaced core placed) (λ light. absurd light) (λ kept. absurd kept) (λ none. cc none)
-      (λ k at. ap (with_code job e) (same_code at)) (λ is. absurd is) jobs n among
-      (subst (λ (x : VolumeCore). AreKeyed x.pending (slice_set jobs n (Some job'))) core
-      (job_keyed c.pending jobs n (Some job') among.keyed (ap sides_in (sym among.there))))
-      (subst (λ (x : VolumeCore). AreReading x.live (slice_set jobs n (Some job'))) core
-      (keeps_reading c.live c.live jobs n job job' among.reading among.there (reading_same c c job job' refl refl)))
-      (λ honest. in_state d c false jobs (λ old. (new : Service)
-      × Serves d c' false (slice_set jobs n (Some job')) new
-      × Answers (pack_of d) old (Calls n (Rename number e) moment) (replies.Refused (number_of code)) new) refl
-      (λ s state_s. absurd (never_refused (is.answer.same.was_honest honest) s state_s code error)))
+      subst₃ (λ x y z. IsServing state disk x c y z jobs (slice_set jobs n (Some job')) n (Rename number e) moment
+      (replies.Refused (number_of code))) (sym still.0) (sym (same ∙ still.1)) (sym (is.answer.still fine whole))
+      (told_serves state only_now disk c failed alive placed job (Rename number e) (λ light. light) (λ kept. kept)
+      moment jobs n among job'.core (replies.Refused (number_of code)) (λ x. cc x, λ x. cc x, λ x. cc x)
+      (λ k at. ap (with_code job e) (same_code at)) (λ is. absurd is)
+      (λ honest s state_s. absurd (never_refused honest s state_s code error)))
 
   -- The device failed.
   broken : IsErrOf result Device → ServesAfter (Err Device)
-  broken error = record {
-    keyed = λ serves. absurd (contrary serves (is.answer.device error));
-    placed = λ serves. absurd (contrary serves (is.answer.device error));
-    reading = λ serves. absurd (contrary serves (is.answer.device error));
-    others = λ m other. slot-set_other jobs n m (Some job) other;
-    answered = λ honest. in_state d c false jobs (λ old. (new : Service)
-        × Serves d' c' failed' (slice_set jobs n (Some job)) new
-        × Answers (pack_of d) old (Calls n (Rename number e) moment) replies.Device new) refl
-        (λ s state_s. (Broken, is.answer.device error, (refl, undecided (is.answer.same.was_honest honest) s state_s, refl)));
-    crash = crashes;
-    idle = λ idle. absurd idle;
-    light = λ light. absurd light;
-    kept = λ kept. absurd kept;
-    memory = λ none. cc none;
-    decided = λ is. absurd is;
-    refused = λ code at. cc at;
-    failed = (λ t. inl refl, λ t. is.answer.device error);
-    blamed = λ honest at. cc at;
-    counted = λ at. is.answer.counted error;
-    served = λ serves. absurd (serves refl);
-    same = is.answer.same;
-  }
+  broken error =
+      broken_serves state only_now disk c failed alive placed job (Rename number e) (λ light. light) (λ kept. kept)
+      moment jobs n among disk' c' failed' (λ f. files_removed f input.ppn input.file) result is.files is.answer row
+      (λ s. refl) error
 
   by_result : (r : Result (Unit {0}) CallError) → result ≡ r → CloseAfter r b c' input → ServesAfter r
   by_result (Ok x) at after = done at after.0 after.1
@@ -303,12 +245,7 @@ module _ {D : Type 0} (state : D → DiskState) (only_now : (disk : D) (contents
       → job' ≡ changed_job result job number e channel
       → IsServing state disk disk'' c c' failed'' jobs (slice_set jobs n (Some job')) n (Rename number e) moment reply
   deleting_serves disk'' failed'' job' reply same after answer_is job_is =
-      subst (λ x. IsServing state disk x c c' failed'' jobs (slice_set jobs n (Some job')) n (Rename number e) moment
-      reply) (sym same.0)
-      (subst (λ x. IsServing state disk disk' c c' x jobs (slice_set jobs n (Some job')) n (Rename number e) moment
-      reply) (sym same.1)
-      (subst (λ x. IsServing state disk disk' c c' failed' jobs (slice_set jobs n (Some x)) n (Rename number e) moment
-      reply) (sym job_is)
-      (subst (λ x. IsServing state disk disk' c c' failed' jobs
-      (slice_set jobs n (Some (changed_job result job number e channel))) n (Rename number e) moment x)
-      (sym answer_is) (by_result result refl after))))
+      subst₂ (λ x y. IsServing state disk x c c' y jobs (slice_set jobs n (Some job')) n (Rename number e) moment
+      reply) (sym same.0) (sym same.1)
+      (subst₂ (λ x y. IsServing state disk disk' c c' failed' jobs (slice_set jobs n (Some x)) n (Rename number e)
+      moment y) (sym job_is) (sym answer_is) (by_result result refl after))

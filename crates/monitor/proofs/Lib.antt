@@ -92,7 +92,7 @@ pub mod UpdateAnswers
 pub mod DeleteDirCalls
 pub mod DeleteDirStates
 pub mod DeleteDirs
-pub mod DeleteDirAnswers
+pub mod DeleteDirServing
 pub mod QuotaCalls
 pub mod QuotaStates
 pub mod QuotaServing

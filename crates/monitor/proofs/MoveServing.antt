@@ -1,24 +1,22 @@
 -- RENAME that moves a file, by what the volume answers: what it promises, among whichever jobs.
 use Rattle.std.proofs.Common.{◌≡◌, ◌≢◌, ◌<◌, ◌+◌, ◌/◌, ◌^◌, ℕ, Bool, true, false, if◌then◌else◌, List, [], ◌∷◌}
-use Rattle.std.proofs.Common.{Option, Some, None, Result, Ok, Err, refl, sym, ap, subst, ◌∙◌, inl, inr, ⊎_elim}
+use Rattle.std.proofs.Common.{Option, Some, None, Result, Ok, Err, refl, sym, ap, subst, ◌∙◌, inr, ⊎_elim}
 use Rattle.std.proofs.Common.{slice_set}
 use Rattle.std.proofs.Common.{slice_index, arith}
 use Rattle.std.specs.Prelude.{◌==◌, IsErrOf, OnOk}
 use Rattle.std.proofs.lemmas.Bool.{cases_eq, ne_eqb}
 use Rattle.words36.specs.declared.moment.Moment.{Moment}
 use Rattle.words36.specs.declared.names.FileName.{FileName}
-use Rattle.blockdisk.specs.Disk.{Contents, DiskState, MayLeave, LeavesOnly, SameDisk, one_more}
-use Rattle.blockdisk.specs.Laws.{leaves_weaker}
+use Rattle.blockdisk.specs.Disk.{Contents, DiskState, MayLeave}
 use Rattle.meaning.specs.Codes.{number_of}
 use Rattle.meaning.specs.Cores.{lies_outside}
-use Rattle.meaning.specs.Files.{File, Files, Directory, Place}
+use Rattle.meaning.specs.Files.{Files, Directory, Place}
 use Rattle.meaning.specs.Jobs.{State, slot}
-use Rattle.meaning.specs.Layouts.{pack_of, StandsOn}
+use Rattle.meaning.specs.Layouts.{pack_of}
 use Rattle.meaning.specs.Looking.{place_at}
 use Rattle.meaning.specs.Maps.{get}
 use Rattle.meaning.specs.Published.{Version, without_serials, without_file, file_at}
 use Rattle.meaning.specs.Renaming.{files_from, files_moved, protection_at}
-use Rattle.meaning.specs.Runs.{Service, Broken, Answers}
 use Rattle.meaning.specs.Stands.{place_of}
 use Rattle.meaning.specs.Step.{step}
 use Rattle.meaning.specs.declared.put.Put.{Put}
@@ -26,7 +24,6 @@ use Rattle.meaning.specs.declared.code.ErrorCode.{ErrorCode}
 use Rattle.meaning.specs.declared.code.ErrorCode.TheVariants.{NoRoom}
 use Rattle.meaning.specs.declared.call.Call.TheVariants.{Rename}
 use Rattle.meaning.specs.declared.call.Event.TheVariants.{Call as Calls}
-use Rattle.meaning.specs.declared.call.Reply.{Reply}
 use Rattle.meaning.specs.declared.call.Reply.TheVariants as replies
 use Rattle.meaning.proofs.SlotLaws.{slot-set_other}
 use Rattle.retrieval.specs.declared.prime.Prime.{Prime}
@@ -36,25 +33,24 @@ use Rattle.volume.specs.Live.{VolumeCore}
 use Rattle.volume.specs.Live.{slot as version_at}
 use Rattle.volume.specs.Moving as volume
 use Rattle.volume.specs.Moving.{MovesWithin, MovesAcross}
-use Rattle.volume.specs.Rest.{IsSoundCore, RestsAt, StandsForOneOf, KeepsRead, KeepsEachWritten}
+use Rattle.volume.specs.Rest.{IsSoundCore}
 use Rattle.volume.specs.declared.error.CallError.{CallError}
 use Rattle.volume.specs.declared.error.CallError.TheVariants.{Refused, Device, Failed, NoMemory}
 use Rattle.volume.specs.declared.live.LiveVersion.{LiveVersion}
 use Rattle.monitor.specs.Arriving.{arrival_answer}
 use Rattle.monitor.specs.Changing.{change_answer, with_input_closed, CloseAfter, changed_reply, changed_job}
 use Rattle.monitor.specs.Dropping.{Closes}
-use Rattle.monitor.specs.Events.{CallCrashes}
 use Rattle.monitor.specs.Finding.{IsKnown}
 use Rattle.monitor.specs.Promises.{IsAmong, IsServing, ServesAlways}
 use Rattle.monitor.specs.Readers.{readers_of}
 use Rattle.monitor.specs.Refusals.{with_code}
-use Rattle.monitor.specs.Serving.{ArePlaced, IsState, Serves, IsTimely}
+use Rattle.monitor.specs.Serving.{ArePlaced, IsState, IsTimely}
 use Rattle.monitor.specs.Sides.{UnderKeys, job_of, state_of}
 use Rattle.monitor.specs.declared.channel.Channel.{Channel}
 use Rattle.monitor.specs.declared.input.Input.{Input}
 use Rattle.monitor.specs.declared.job.Job.{Job}
-use Rattle.monitor.proofs.Answering.{in_state, goes_on, state_is, contrary}
-use Rattle.monitor.proofs.Called.{quiet_failed}
+use Rattle.monitor.proofs.Answering.{state_is, contrary}
+use Rattle.monitor.proofs.ChangeServing as serving
 use Rattle.monitor.proofs.InputsClosed.{input_behind}
 use Rattle.monitor.proofs.Knowing.{known}
 use Rattle.monitor.proofs.MovedCore.{MovesFile, moves_within, moves_across}
@@ -62,26 +58,25 @@ use Rattle.monitor.proofs.Limits.{AllowsMove}
 use Rattle.monitor.proofs.MovedFiles.{shown_moved}
 use Rattle.monitor.proofs.MovedStates.{readers_moved, moved_keyed, moved_reading, moved_placed, moved_state}
 use Rattle.monitor.proofs.MoveReplies.{IsMoveAnswer, moves_from, moves_home, moves_free, moves_done, moves_refused}
-use Rattle.monitor.proofs.Publications.{IsBehind}
 use Rattle.monitor.proofs.ReadsMoved.{protected_jobs, with_protected}
 use Rattle.monitor.proofs.RenameRefusals.{refusing_serves}
 use Rattle.monitor.proofs.RenameRows.{row_done}
-use Rattle.monitor.proofs.RenameWanting.{wanting_serves, rename_serves, rename_undecided}
+use Rattle.monitor.proofs.RenameWanting.{wanting_serves, rename_serves}
 
 -- What a volume that serves says of a move; `Same` is that disk and core are as they were.
 pub record Moves (d d' : DiskState) (c b : VolumeCore) (Same : Type 0) (failed' : Bool) (ppn : ℕ) (name : FileName)
-    (to_ppn : ℕ) (to : FileName) (protection : ℕ) (answer : Result (Unit {0}) CallError) : Type 0 where
-  pub files : ChangesFiles d d' c (λ f. volume.files_moved f ppn name to_ppn to protection) answer
-  pub within : to_ppn ≡ ppn → OnOk answer ((key : ℕ) × (v : LiveVersion) × (words : List ℕ) × (puts : List Put)
+    (to_ppn : ℕ) (to : FileName) (protection : ℕ) (result : Result (Unit {0}) CallError) : Type 0 where
+  pub files : ChangesFiles d d' c (λ f. volume.files_moved f ppn name to_ppn to protection) result
+  pub within : to_ppn ≡ ppn → OnOk result ((key : ℕ) × (v : LiveVersion) × (words : List ℕ) × (puts : List Put)
       × MovesWithin d.size c b ppn name to protection key v words puts × (d'.honest → d.contents v.at ≡ Some words))
-  pub across : (to_ppn ≡ ppn → ⊥) → OnOk answer ((key : ℕ) × (v : LiveVersion) × (words : List ℕ) × (puts : List Put)
+  pub across : (to_ppn ≡ ppn → ⊥) → OnOk result ((key : ℕ) × (v : LiveVersion) × (words : List ℕ) × (puts : List Put)
       × MovesAcross d.size c b ppn name to_ppn to protection key v words puts
       × (d'.honest → d.contents v.at ≡ Some words))
-  pub answers : IsMoveAnswer d.size c ppn name to_ppn to answer
-  pub refused : (code : ErrorCode) → IsErrOf answer (Refused code) → Same
-  pub memory : IsErrOf answer NoMemory → Same
-  pub given_up : IsErrOf answer Failed → d'.honest → ⊥
-  pub answer : DeviceAnswer d d' false failed' answer
+  pub answers : IsMoveAnswer d.size c ppn name to_ppn to result
+  pub refused : (code : ErrorCode) → IsErrOf result (Refused code) → Same
+  pub memory : IsErrOf result NoMemory → Same
+  pub given_up : IsErrOf result Failed → d'.honest → ⊥
+  pub answer : DeviceAnswer d d' false failed' result
 
 -- A version that is read stays so over a move.
 pub read_on : (live live' : List (Option LiveVersion)) (key : ℕ) → ((v : LiveVersion) → version_at live key ≡ Some v
@@ -187,138 +182,66 @@ module _ {D : Type 0} (state : D → DiskState) (only_now : (disk : D) (contents
           (protection_at (job_of w job) e) (file_at s.files old)) moves
           ∙ (λ i. files_moved s.files old (sym (place w) i) (sym protects i) (from.1 i))
 
-      row : (answer : Result (Unit {0}) CallError) → Says answer → (answer ≡ Err (Refused NoRoom) → ⊥) → (serial : ℕ)
-          → step (pack_of d) serial s (Calls n (Rename number e) moment) ≡ (replies.Done, state_of files' w moved_jobs)
-      row answer says fits serial =
-          subst (λ y. step (pack_of d) serial y (Calls n (Rename number e) moment)
-          ≡ (replies.Done, state_of files' w moved_jobs)) (sym before)
-          (row_done d s.files w jobs n job among.there number e moment (timely honest) channel is_open input side free
-          inside
-          (moves_done d core t here sound honest (job_of w job) e input.ppn input.file to_ppn to (place w) moves
-          (changes honest t here w) (comes honest t here w) answer says.answers fits allows so quota) serial
-          ∙ ap (λ fs. (replies.Done, state_of fs w moved_jobs)) files_are)
-
-    -- A crash.
-    crashes : (answer : Result (Unit {0}) CallError) → Says answer → (answer ≡ Err (Refused NoRoom) → ⊥)
-        → CallCrashes d d' core jobs n (Rename number e) moment
-    crashes answer says fits honest' s is =
-        let honest = says.answer.same.was_honest honest' in
-        leaves_weaker d d' (StandsForOneOf (pack_of d) (without_serials s.files) _) _
-        (says.files.crash honest' (without_serials s.files) is.files)
-        (λ contents. ⊎_elim (λ was. inl was)
-        (λ put. inr (
-          0,
-          subst (StandsOn (pack_of d) contents)
-              (sym (shown_moved s.files old new protection (from honest s is).0 (from honest s is).1)
-              ∙ ap (λ (r : Reply × State). without_serials r.1.files) (sym (row honest s is answer says fits 0))) put,
-        )))
+      -- what it answers and leaves, whichever key the version has that now has another protection
+      row : (answer : Result (Unit {0}) CallError) → Says answer → (answer ≡ Err (Refused NoRoom) → ⊥) → (key : ℕ)
+          → (after : State)
+          × ((serial : ℕ) → step (pack_of d) serial s (Calls n (Rename number e) moment) ≡ (replies.Done, after))
+          × (without_serials after.files
+          ≡ volume.files_moved (without_serials s.files) input.ppn input.file to_ppn to protection)
+      row answer says fits key = (
+        state_of files' (with_protected w key protection) moved_jobs,
+        λ serial. subst (λ y. step (pack_of d) serial y (Calls n (Rename number e) moment)
+            ≡ (replies.Done, state_of files' (with_protected w key protection) moved_jobs)) (sym before)
+            (row_done d s.files w jobs n job among.there number e moment (timely honest) channel is_open input side
+            free inside
+            (moves_done d core t here sound honest (job_of w job) e input.ppn input.file to_ppn to (place w) moves
+            (changes honest t here w) (comes honest t here w) answer says.answers fits allows so quota) serial
+            ∙ (λ i. (
+              replies.Done,
+              record { files = files_are i; jobs = sym (protected_jobs w key protection moved_jobs) i },
+            ))),
+        shown_moved s.files old new protection from.0 from.1,
+      )
 
     -- It is done.
-    module _ (core' : VolumeCore) (x : Unit {0}) (says : Says (Ok x)) (closed : Closes b core' [] (input.pin.key ∷ []))
-        (pending : core'.pending ≡ b.pending) where
-      abbrev job' : Job
-      job' = with_input_closed job number channel
-
-      made : MovesFile core b input.ppn input.file to_ppn to protection
-      made = moves_file d d' core b Same failed' input.ppn input.file to_ppn to protection x says
-
-      behind : IsBehind core b core' job job'
-      behind = input_behind job number channel is_open input side core b core' made.pending
-          (readers_moved core b input.ppn input.file to_ppn to protection made) closed pending
-
-      works : failed' ≡ false
-      works = says.answer.still (λ e. cc e) (λ e. cc e)
-
-      done_answered : d'.honest → (old' : Service) → Serves d core false jobs old' → (new' : Service)
-          × Serves d' core' failed' moved_jobs new'
-          × Answers (pack_of d) old' (Calls n (Rename number e) moment) replies.Done new'
-      done_answered honest' = in_state d core false jobs
-          (λ old'. (new' : Service) × Serves d' core' failed' moved_jobs new'
-          × Answers (pack_of d) old' (Calls n (Rename number e) moment) replies.Done new') refl
-          (λ s is.
-          let honest = says.answer.same.was_honest honest' in
-          let w' = with_protected is.under made.key protection in
-          let moved = files' honest s is in
-          let t' = state_of moved w' moved_jobs in
-          let moved_from = from honest s is in
-          let moved_home = home honest s is in
-          goes_on d' core' failed' moved_jobs (pack_of d) (Calls n (Rename number e) moment) replies.Done s t' works
-          is.sound (λ serial. row honest s is (Ok x) says (λ e. cc e) serial
-          ∙ ap (λ js. (replies.Done, record { files = moved; jobs = js }))
-          (sym (protected_jobs is.under made.key protection moved_jobs)))
-          (moved_state core b core' jobs n job job' among.there input.ppn input.file to_ppn to protection made behind
-          unclaimed vacant d d' s is sound.whole moved_from.0 moved_from.1 moved_home.0 moved_home.1
-          (absent honest s is)
-          (says.files.done honest' (without_serials s.files) is.files) (says.files.readers honest' (λ e. cc e))
-          (says.files.writers honest' (λ e. cc e)) closed.leaves))
-
-      pub done_serves : IsServing state disk disk' core core' failed' jobs moved_jobs n (Rename number e) moment
-          replies.Done
-      done_serves = record {
-        keyed = λ alive. moved_keyed core b core' jobs n job job' among.there input.ppn input.file to_ppn to
-            protection made behind among.keyed;
-        placed = λ alive. moved_placed core b core' jobs n job job' among.there input.ppn input.file to_ppn to
-            protection made behind unclaimed vacant placed;
-        reading = λ alive. moved_reading core b core' jobs n job job' among.there input.ppn input.file to_ppn to
-            protection made behind among.reading;
-        others = λ m other. slot-set_other jobs n m (Some job') other;
-        answered = λ honest'. done_answered honest';
-        crash = crashes (Ok x) says (λ e. cc e);
-        idle = λ idle. absurd idle;
-        light = λ light. absurd light;
-        kept = λ kept. absurd kept;
-        memory = λ none. cc none;
-        decided = λ is. absurd is;
-        refused = λ code refused. cc refused;
-        failed = quiet_failed false failed' replies.Done refl works (λ e. cc e, λ e. cc e);
-        blamed = λ honest' e. cc e;
-        counted = λ e. cc e;
-        served = λ device. says.answer.served (λ e. cc e);
-        same = says.answer.same;
-      }
+    pub done_serves : (core' : VolumeCore) (x : Unit {0}) → Says (Ok x) → Closes b core' [] (input.pin.key ∷ [])
+        → core'.pending ≡ b.pending
+        → IsServing state disk disk' core core' failed' jobs moved_jobs n (Rename number e) moment replies.Done
+    unfolding row
+    done_serves core' x says closed pending =
+        let job' = with_input_closed job number channel in
+        let made = moves_file d d' core b Same failed' input.ppn input.file to_ppn to protection x says in
+        let behind = input_behind job number channel is_open input side core b core' made.pending
+        (readers_moved core b input.ppn input.file to_ppn to protection made) closed pending in
+        serving.done_serves state only_now disk core false refl placed job (Rename number e) (λ light. light)
+        (λ kept. kept) moment jobs n among disk' core' failed'
+        (λ f. volume.files_moved f input.ppn input.file to_ppn to protection) (Ok x) says.files says.answer
+        (λ honest s is. row honest s is (Ok x) says (λ e. cc e) made.key) job' refl
+        (moved_keyed core b core' jobs n job job' among.there input.ppn input.file to_ppn to protection made behind
+        among.keyed)
+        (moved_placed core b core' jobs n job job' among.there input.ppn input.file to_ppn to protection made behind
+        unclaimed vacant placed)
+        (moved_reading core b core' jobs n job job' among.there input.ppn input.file to_ppn to protection made behind
+        among.reading)
+        (λ works honest' s is.
+        let honest = says.answer.same.was_honest honest' in
+        let moved_from = from honest s is in
+        let moved_home = home honest s is in
+        moved_state core b core' jobs n job job' among.there input.ppn input.file to_ppn to protection made behind
+        unclaimed vacant d d' s is sound.whole moved_from.0 moved_from.1 moved_home.0 moved_home.1
+        (absent honest s is)
+        (says.files.done honest' (without_serials s.files) is.files) (says.files.readers honest' (λ e. cc e))
+        (says.files.writers honest' (λ e. cc e)) closed.leaves)
 
     -- The device failed.
-    broken : failed' ≡ true → (P : Type 0) → failed' ≡ false → P
-    broken is P alive = absurd (contrary alive is)
-
     pub device_serves : Says (Err Device)
         → IsServing state disk disk' core b failed' jobs (slice_set jobs n (Some job)) n (Rename number e) moment
         replies.Device
     device_serves says =
-        let is = says.answer.device refl in
-        record {
-          keyed = broken is _;
-          placed = broken is _;
-          reading = broken is _;
-          others = λ m other. slot-set_other jobs n m (Some job) other;
-          answered = λ honest'. in_state d core false jobs
-              (λ old'. (new' : Service) × Serves d' b failed' (slice_set jobs n (Some job)) new'
-              × Answers (pack_of d) old' (Calls n (Rename number e) moment) replies.Device new') refl
-              (λ s at. (
-                Broken,
-                is,
-                (
-                  refl,
-                  rename_undecided d core jobs s at n job among.there number e moment
-                      (timely (says.answer.same.was_honest honest')) channel is_open input
-                      side free
-                      inside,
-                  refl,
-                ),
-              ));
-          crash = crashes (Err Device) says (λ e. cc e);
-          idle = λ idle. absurd idle;
-          light = λ light. absurd light;
-          kept = λ kept. absurd kept;
-          memory = λ none. cc none;
-          decided = λ is. absurd is;
-          refused = λ code refused. cc refused;
-          failed = (λ t. inl refl, λ e. is);
-          blamed = λ honest' e. cc e;
-          counted = λ e. says.answer.counted refl;
-          served = λ device. absurd (device refl);
-          same = says.answer.same;
-        }
+        serving.broken_serves state only_now disk core false refl placed job (Rename number e) (λ light. light)
+        (λ kept. kept) moment jobs n among disk' b failed'
+        (λ f. volume.files_moved f input.ppn input.file to_ppn to protection) (Err Device) says.files says.answer
+        (λ honest s is. row honest s is (Err Device) says (λ e. cc e) 0) (λ s. refl) refl
 
     -- Its prime block was damaged, which no honest disk shows.
     pub failed_serves : Says (Err Failed)
@@ -327,9 +250,9 @@ module _ {D : Type 0} (state : D → DiskState) (only_now : (disk : D) (contents
     failed_serves says =
         let is = says.answer.ended refl in
         record {
-          keyed = broken is _;
-          placed = broken is _;
-          reading = broken is _;
+          keyed = λ serves. absurd (contrary serves is);
+          placed = λ serves. absurd (contrary serves is);
+          reading = λ serves. absurd (contrary serves is);
           others = λ m other. slot-set_other jobs n m (Some job) other;
           answered = λ honest'. absurd (says.given_up refl honest');
           crash = λ honest'. absurd (says.given_up refl honest');
@@ -365,7 +288,7 @@ module _ {D : Type 0} (state : D → DiskState) (only_now : (disk : D) (contents
       let same = says.memory refl in
       rename_serves state disk disk disk' core core core' false failed' job _ _ (Rename number e) _ _ (sym same.0)
       (sym same.1 ∙ sym closes) (sym (says.answer.still (λ e. cc e) (λ e. cc e))) refl refl
-      (wanting_serves state only_now disk core job number e channel is_open input side free inside sound placed)
+      (wanting_serves state only_now disk core job number e channel is_open input side free inside placed)
   move_serves (Err Device) says core' closes = λ moment timely jobs n among.
       subst (λ (c : VolumeCore). IsServing state disk disk' core c failed' jobs (slice_set jobs n (Some job)) n
       (Rename number e) moment replies.Device) (sym closes) (device_serves moment timely jobs n among says)

@@ -4,7 +4,6 @@ use Rattle.blockdisk.specs.Disk.{DiskState}
 use Rattle.meaning.specs.declared.call.Reply.{Reply}
 use Rattle.meaning.specs.declared.call.Reply.TheVariants.{Refused}
 use Rattle.volume.specs.Live.{VolumeCore}
-use Rattle.monitor.specs.DeleteDirRows.{IsDeleteDir}
 use Rattle.monitor.specs.Events.{IsDecided}
 use Rattle.monitor.specs.Publishing.{IsPublishing}
 use Rattle.monitor.specs.Putting.{IsOut}
@@ -34,12 +33,6 @@ pub out_decided : (d d' : DiskState) (c c' : VolumeCore) (same : Type 0) (job jo
 out_decided d d' c c' same job job' number a reply is decided =
     by_decided (λ r. IsOut d d' c c' same job job' number a r → (job' ≡ job) × same) reply decided
     (λ x. (x.0, x.1)) (λ x. (x.0, x.1)) (λ x. absurd x) (λ x. absurd x) is
-
-pub delete_dir_decided : (d : DiskState) (c : VolumeCore) (same : Type 0) (job job' : Job) (e : ℕ) (reply : Reply)
-    → IsDeleteDir d c same job job' e reply → IsDecided reply → (job' ≡ job) × same
-delete_dir_decided d c same job job' e reply is decided =
-    by_decided (λ r. IsDeleteDir d c same job job' e r → (job' ≡ job) × same) reply decided
-    (λ x. absurd x) (λ x. (x.0, x.1)) (λ x. absurd x) (λ x. absurd x) is
 
 pub publishing_refused : (d d' : DiskState) (c c' : VolumeCore) (failed failed' : Bool) (channel : Channel) (o : Output)
     (last : Option (List ℕ)) (code : ℕ) (reply : Reply) → IsPublishing d d' c c' failed failed' channel o last reply

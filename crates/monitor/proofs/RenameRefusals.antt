@@ -1,6 +1,7 @@
 -- A RENAME that is refused: what it promises, whichever jobs there are.
 use Rattle.std.proofs.Common.{◌≡◌, ◌<◌, ◌≤◌, ℕ, Bool, false, List, length, Option, None, Some, Result, Ok, Err, refl}
 use Rattle.std.proofs.Common.{sym, ap, subst, slice_index, slice_set, arith}
+use Rattle.std.proofs.Math.Path.{subst₂}
 use Rattle.std.proofs.lemmas.Bool.{eq-eqb}
 use Rattle.std.proofs.lemmas.Bool.Decides.{nat_tests}
 use Rattle.std.specs.Prelude.{if◌then◌else◌, OnOk}
@@ -12,7 +13,6 @@ use Rattle.meaning.specs.Cores.{lies_outside}
 use Rattle.meaning.specs.Jobs.{State, slot}
 use Rattle.meaning.specs.Layouts.{pack_of}
 use Rattle.meaning.specs.Renaming.{protection_at, rename_from}
-use Rattle.meaning.specs.Runs.{Service, Answers}
 use Rattle.meaning.specs.Stands.{place_of}
 use Rattle.meaning.specs.Step.{step}
 use Rattle.meaning.specs.declared.call.Call.TheVariants.{Rename}
@@ -29,18 +29,17 @@ use Rattle.monitor.specs.Promises.{IsAmong, IsServing, ServesJob}
 use Rattle.monitor.specs.Readers.{readers_of}
 use Rattle.monitor.specs.Refusals.{with_code}
 use Rattle.monitor.specs.Rows.{IsRow}
-use Rattle.monitor.specs.Serving.{AreKeyed, ArePlaced, AreReading, IsState, Serves, IsTimely}
-use Rattle.monitor.specs.Sides.{UnderKeys, sides_in, job_of, state_of}
+use Rattle.monitor.specs.Serving.{ArePlaced, IsState, IsTimely}
+use Rattle.monitor.specs.Sides.{UnderKeys, job_of, state_of}
 use Rattle.monitor.specs.declared.channel.Channel.{Channel}
 use Rattle.monitor.specs.declared.input.Input.{Input}
 use Rattle.monitor.specs.declared.job.Job.{Job}
-use Rattle.monitor.proofs.Answering.{in_state, goes_on, state_is, same_files}
-use Rattle.monitor.proofs.Dropped.{job_keyed, leaves_none}
-use Rattle.monitor.proofs.EnterReads.{reading_core, reading_same}
+use Rattle.monitor.proofs.Answering.{state_is}
+use Rattle.monitor.proofs.ChangeServing.{told_serves}
+use Rattle.monitor.proofs.EnterReads.{reading_core}
 use Rattle.monitor.proofs.Knowing.{known}
 use Rattle.monitor.proofs.MakeDirs.{keeps_core}
-use Rattle.monitor.proofs.Promised.{alone_serves, quiet_serves}
-use Rattle.monitor.proofs.ReadingJobs.{keeps_reading}
+use Rattle.monitor.proofs.Promised.{alone_serves}
 use Rattle.monitor.proofs.RenameRows.{row_refused}
 
 -- Words that a core has are at addresses of a core.
@@ -90,12 +89,6 @@ module _ {D : Type 0} (state : D → DiskState) (only_now : (disk : D) (contents
   abbrev jobs' : List (Option Job)
   jobs' = slice_set jobs n (Some job')
 
-  keyed : AreKeyed c.pending jobs'
-  keyed = job_keyed c.pending jobs n (Some job') among.keyed (ap sides_in (sym among.there))
-
-  reading : AreReading c.live jobs'
-  reading = keeps_reading c.live c.live jobs n job job' among.reading among.there (reading_same c c job job' refl refl)
-
   step_refused : d.honest → (s : State) (state_s : IsState d c jobs s) (serial : ℕ)
       → step (pack_of d) serial s (Calls n (Rename number e) moment)
       ≡ (Refused (number_of code), state_of s.files state_s.under jobs')
@@ -110,27 +103,15 @@ module _ {D : Type 0} (state : D → DiskState) (only_now : (disk : D) (contents
       (number_of code) (subst (λ t. rename_from (pack_of d) t (job_of w job) e place ≡ Refused (number_of code))
       before_is (refuses honest s (known d c jobs s state_s sound honest) w)) serial)
 
-  serves_refused : IsServing state disk disk c c failed jobs jobs' n (Rename number e) moment
-      (Refused (number_of code))
-  serves_refused =
-      quiet_serves state only_now disk disk c c failed failed job job' (Rename number e) moment
-      (Refused (number_of code)) alive (refl, refl) (λ x. cc x, λ x. cc x) placed (λ light. absurd light)
-      (λ kept. absurd kept) (λ none. cc none) (λ k at. ap (with_code job e) (same_code at)) (λ is. absurd is)
-      jobs n among keyed reading
-      (λ honest. in_state d c false jobs (λ old. (new : Service) × Serves d c false jobs' new
-      × Answers (pack_of d) old (Calls n (Rename number e) moment) (Refused (number_of code)) new) refl
-      (λ s state_s. goes_on d c false jobs' (pack_of d) (Calls n (Rename number e) moment) (Refused (number_of code)) s
-      (state_of s.files state_s.under jobs') refl state_s.sound (step_refused honest s state_s)
-      (same_files d c c false jobs jobs' keyed reading (leaves_none c) s state_s)))
-
   -- The call's answer, and what it leaves of the job.
   pub refusing_serves : (after : Job) (reply : Reply) → after ≡ job' → reply ≡ Refused (number_of code)
       → IsServing state disk disk c c failed jobs (slice_set jobs n (Some after)) n (Rename number e) moment reply
   refusing_serves after reply job_is answer_is =
-      subst (λ j. IsServing state disk disk c c failed jobs (slice_set jobs n (Some j)) n (Rename number e) moment
-      reply) (sym job_is)
-      (subst (λ r. IsServing state disk disk c c failed jobs jobs' n (Rename number e) moment r) (sym answer_is)
-      serves_refused)
+      subst₂ (λ j r. IsServing state disk disk c c failed jobs (slice_set jobs n (Some j)) n (Rename number e) moment r)
+      (sym job_is) (sym answer_is)
+      (told_serves state only_now disk c failed alive placed job (Rename number e) (λ light. light) (λ kept. kept)
+      moment jobs n among job'.core (Refused (number_of code)) (λ x. cc x, λ x. cc x, λ x. cc x)
+      (λ k at. ap (with_code job e) (same_code at)) (λ is. absurd is) step_refused)
 
 -- It is out of order, whatever there is on the disk.
 pub out_of_order : {D : Type 0} (state : D → DiskState) → ((disk : D) (contents : Contents) → (state disk).honest

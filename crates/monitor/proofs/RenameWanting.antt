@@ -1,11 +1,11 @@
 -- A RENAME of what a channel reads that finds no memory, and when its answer is decided.
-use Rattle.std.proofs.Common.{◌≡◌, ◌≤◌, ℕ, Bool, false, List, Option, Some, None, refl, sym, ap, subst, ◌∙◌, inr}
+use Rattle.std.proofs.Common.{◌≡◌, ◌≤◌, ℕ, Bool, false, List, Option, Some, None, refl, sym, ap, subst, ◌∙◌}
 use Rattle.std.proofs.Common.{slice_set}
 use Rattle.words36.specs.declared.moment.Moment.{Moment}
 use Rattle.blockdisk.specs.Disk.{Contents, DiskState, MayLeave}
 use Rattle.meaning.specs.Cores.{lies_outside}
 use Rattle.meaning.specs.Jobs.{State, slot}
-use Rattle.meaning.specs.Runs.{Service, Serving, Answers, is_plain}
+use Rattle.meaning.specs.Runs.{is_plain}
 use Rattle.meaning.specs.Stands.{place_of}
 use Rattle.meaning.specs.Step.{step, last_date}
 use Rattle.meaning.specs.declared.call.Call.{Call}
@@ -13,22 +13,18 @@ use Rattle.meaning.specs.declared.call.Call.TheVariants.{Rename}
 use Rattle.meaning.specs.declared.call.Event.TheVariants.{Call as Calls}
 use Rattle.meaning.specs.declared.call.Reply.{Reply}
 use Rattle.meaning.specs.declared.call.Reply.TheVariants as replies
-use Rattle.meaning.proofs.SlotLaws.{set-slot}
 use Rattle.meaning.specs.Layouts.{pack_of}
 use Rattle.volume.specs.Live.{VolumeCore}
-use Rattle.volume.specs.Rest.{IsSoundCore}
 use Rattle.monitor.specs.Promises.{IsServing, ServesAlways}
-use Rattle.monitor.specs.Serving.{ArePlaced, IsState, Serves}
+use Rattle.monitor.specs.Serving.{ArePlaced, IsState}
 use Rattle.monitor.specs.Sides.{job_of, state_of}
 use Rattle.monitor.specs.declared.channel.Channel.{Channel}
 use Rattle.monitor.specs.declared.input.Input.{Input}
 use Rattle.monitor.specs.declared.job.Job.{Job}
-use Rattle.monitor.proofs.Answering.{in_state, state_is}
-use Rattle.monitor.proofs.Calling.{keeps_same, reads_same}
+use Rattle.monitor.proofs.Answering.{state_is}
+use Rattle.monitor.proofs.ChangeServing.{memory_serves}
 use Rattle.monitor.proofs.MoveReplies.{rename_late}
-use Rattle.monitor.proofs.Promised.{quiet_serves}
 use Rattle.monitor.proofs.RenameRows.{row_answers}
-use Rattle.monitor.proofs.Serving.{alone_keyed, alone_reading}
 
 -- it is decided only after memory and the disk are needed
 pub rename_undecided : (d : DiskState) (c : VolumeCore) (jobs : List (Option Job)) (s : State)
@@ -66,33 +62,10 @@ module _ {D : Type 0} (state : D → DiskState) (only_now : (disk : D) (contents
     (core : VolumeCore) (job : Job) (number e : ℕ) (channel : Channel)
     (is_open : slot job.channels number ≡ Some channel)
     (input : Input) (side : channel.input ≡ Some input) (free : channel.output ≡ None)
-    (inside : lies_outside job.core e 4 ≡ false) (sound : IsSoundCore (state disk) core false)
-    (placed : ArePlaced core) where
-  abbrev d : DiskState
-  d = state disk
-
+    (inside : lies_outside job.core e 4 ≡ false) (placed : ArePlaced core) where
   pub wanting_serves : ServesAlways state disk disk core core false job job (Rename number e) replies.NoMemory
   wanting_serves moment timely jobs n among =
-      let call = Rename number e in
-      let set = slice_set jobs n (Some job) in
-      let keyed = alone_keyed d core false jobs n call moment refl timely set job job among.keyed among.there refl
-      (keeps_same core.pending job) in
-      let reading = alone_reading d core false jobs n call moment refl timely set job job among.reading among.there refl
-      (reads_same core.live job) in
-      quiet_serves state only_now disk disk core core false false job job call moment replies.NoMemory refl (refl, refl)
-      (λ x. cc x, λ x. cc x) placed (λ light. absurd light) (λ kept. absurd kept) (λ none. (refl, refl))
-      (λ k same. cc same) (λ is. absurd is) jobs n among keyed reading
-      (λ honest. in_state d core false jobs (λ old. (new : Service) × Serves d core false set new
-      × Answers (pack_of d) old (Calls n call moment) replies.NoMemory new) refl
-      (λ s is. (
-        Serving s,
-        (refl, subst (λ js. IsState d core js s) (sym (set-slot jobs n job among.there)) is),
-        inr (
-          refl,
-          refl,
-          rename_undecided d core jobs s is n job among.there number e moment (timely honest) channel is_open input
-              side free
-              inside,
-          refl,
-        ),
-      )))
+      memory_serves state only_now disk core false refl placed job (Rename number e) (λ light. light) (λ kept. kept)
+      moment jobs n among (λ s. refl)
+      (λ honest s is. rename_undecided (state disk) core jobs s is n job among.there number e moment (timely honest)
+      channel is_open input side free inside)

@@ -1,20 +1,13 @@
 -- DeleteDir: what it finds, and what it leaves.
 use Rattle.std.specs.Prelude.{◌≡◌, ◌⊎◌, ℕ, ◌==◌, ◌||◌, ◌&&◌, not, Bool, true, false, None}
 use Rattle.blockdisk.specs.Disk.{DiskState}
-use Rattle.meaning.specs.Cores.{lies_outside}
 use Rattle.meaning.specs.Files.{File, Files}
 use Rattle.meaning.specs.Maps.{get}
 use Rattle.meaning.specs.Rights.{system}
-use Rattle.meaning.specs.declared.call.Reply.{Reply}
-use Rattle.meaning.specs.declared.call.Reply.TheVariants.{Done, Value, Refused, Stopped, NoChannel, AddressCheck, NoJob}
-use Rattle.meaning.specs.declared.call.Reply.TheVariants.{NoMemory, Device, Failed, DateRange}
 use Rattle.volume.specs.Charging.{quota_in_core}
 use Rattle.volume.specs.Live.{VolumeCore}
 use Rattle.volume.specs.RemovingDirectories.{HasEntries}
 use Rattle.volume.specs.Rest.{RestsAt}
-use Rattle.monitor.specs.DirectoryRows.{asked_owner}
-use Rattle.monitor.specs.Refusals.{with_code}
-use Rattle.monitor.specs.declared.job.Job.{Job}
 
 -- The files that the disk stands for have no directory of this number, or they have one.
 abbrev pub IsNowhere : DiskState → ℕ → Type 0
@@ -37,21 +30,3 @@ IsKeptBy d c ppn owner code = ((code ≡ 1) × IsNowhere d owner)
 -- The directory is there, the job may delete it, and it is empty.
 abbrev pub IsRemovable : DiskState → VolumeCore → ℕ → ℕ → Type 0
 IsRemovable d c ppn owner = IsThere d owner × (is_kept_from c ppn owner ≡ false) × (HasEntries c owner → ⊥)
-
--- What DeleteDir does to its job, by its answer; `same` says that disk and volume are as they were.
-abbrev pub IsDeleteDir : DiskState → VolumeCore → Type 0 → Job → Job → ℕ → Reply → Type 0
-IsDeleteDir d c same job job' e Done =
-    (job' ≡ job) × (lies_outside job.core e 2 ≡ false) × IsRemovable d c job.ppn (asked_owner job.core e)
-IsDeleteDir d c same job job' e (Refused code) =
-    (job' ≡ with_code job e code) × same × (lies_outside job.core e 2 ≡ false)
-    × IsKeptBy d c job.ppn (asked_owner job.core e) code
-IsDeleteDir d c same job job' e AddressCheck = (job' ≡ job) × same × (lies_outside job.core e 2 ≡ true)
-IsDeleteDir d c same job job' e Device =
-    (job' ≡ job) × (lies_outside job.core e 2 ≡ false) × IsRemovable d c job.ppn (asked_owner job.core e)
-IsDeleteDir d c same job job' e NoMemory = ⊥
-IsDeleteDir d c same job job' e (Value word) = ⊥
-IsDeleteDir d c same job job' e (Stopped status) = ⊥
-IsDeleteDir d c same job job' e NoChannel = ⊥
-IsDeleteDir d c same job job' e NoJob = ⊥
-IsDeleteDir d c same job job' e Failed = ⊥
-IsDeleteDir d c same job job' e DateRange = ⊥

@@ -1,10 +1,12 @@
 -- IN: what it does to a channel, and to the core that its words are moved into.
-use Rattle.std.specs.Prelude.{◌≡◌, ◌⊎◌, ℕ, ◌+◌, Bool, true, false, if◌then◌else◌, List, [], ◌∷◌, length, min, Option}
-use Rattle.std.specs.Prelude.{None, Some, option_map, take, slice_set}
-use Rattle.blockdisk.specs.Disk.{DiskState}
+use Rattle.std.specs.Prelude.{◌≡◌, ◌⊎◌, ◌↔◌, ◌<◌, ℕ, ◌+◌, Bool, true, false, if◌then◌else◌, List, [], ◌∷◌, length, min}
+use Rattle.std.specs.Prelude.{IsTrue, Option, None, Some, option_map, take, slice_set}
+use Rattle.blockdisk.specs.Disk.{DiskState, SameDisk, one_more}
+use Rattle.changeset.specs.Reads.{OnlyReads}
 use Rattle.meaning.specs.CommandLists.{dump_list, word_count}
 use Rattle.meaning.specs.Cores.{after_writes, dealt}
 use Rattle.meaning.specs.Costs.{blocks_of}
+use Rattle.meaning.specs.Files.{File, Files}
 use Rattle.meaning.specs.Inputs.{lacks_header}
 use Rattle.meaning.specs.Jobs.{slot, cleared, end_of_file}
 use Rattle.meaning.specs.Retrieval.{HasBody}
@@ -20,10 +22,13 @@ use Rattle.volume.specs.Live.{VolumeCore}
 use Rattle.volume.specs.Pins.{version_under}
 use Rattle.volume.specs.declared.handles.VersionHandle.{VersionHandle}
 use Rattle.volume.specs.declared.handles.VersionHandle.TheVariants.{Pinned, Pending}
+use Rattle.volume.specs.Rest.{RestsAt}
 use Rattle.monitor.specs.declared.channel.Channel.{Channel}
 use Rattle.monitor.specs.declared.input.Input.{Input}
 use Rattle.monitor.specs.declared.output.Output.{Output}
 use Rattle.monitor.specs.declared.job.Job.{Job}
+use Rattle.monitor.specs.declared.read_in.ReadIn.{ReadIn}
+use Rattle.monitor.specs.declared.read_in.ReadIn.TheVariants as ends
 
 -- the channel once so many words are read
 abbrev pub read_on : Channel → Input → ℕ → Channel
@@ -130,3 +135,21 @@ IsIn d d' c job job' number a Failed = (job' ≡ job) × (d'.honest → ⊥)
 IsIn d d' c job job' number a (Value word) = ⊥
 IsIn d d' c job job' number a NoJob = ⊥
 IsIn d d' c job job' number a DateRange = ⊥
+
+-- What an IN leaves, however it ends: nothing is written, and core changes only if words were moved. `untouched` says
+-- that the disk wasn't asked, `broke` whether the volume has failed afterwards.
+pub record LeavesRead (s s' : DiskState) (c c' : VolumeCore) (core core' : List ℕ) (untouched : Type 0) (broke : Bool)
+    (result : ReadIn) : Type 0 where
+  pub reads : s'.honest → OnlyReads s s'
+  pub rests : s'.honest → (files : Files File) → RestsAt s files → RestsAt s' files
+  pub volume : c' ≡ c
+  pub kept : ((n : ℕ) → 0 < n → result ≡ ends.Moved n → ⊥) → core' ≡ core
+  pub long : length core' ≡ length core
+  pub idle : (result ≡ ends.AddressCheck) ⊎ (result ≡ ends.AtEnd) ⊎ (result ≡ ends.Moved 0)
+      ⊎ (result ≡ ends.NoMemory) → untouched
+  -- it fails with the volume, and blames the device where that failed
+  pub failed : IsTrue broke ↔ ((result ≡ ends.Device) ⊎ (result ≡ ends.Failed))
+  pub blamed : result ≡ ends.Failed → s'.honest → ⊥
+  pub counted : result ≡ ends.Device → s'.failures ≡ one_more s.failures
+  pub served : (result ≡ ends.Device → ⊥) → s'.failures ≡ s.failures
+  pub same : SameDisk s s'

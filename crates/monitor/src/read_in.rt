@@ -1,10 +1,7 @@
 ghost use Rattle.std.specs.Prelude.{◌≡◌, ◌⊎◌, ◌↔◌, ◌+◌, ◌<◌, ◌≤◌, ℕ, List, [], true, false, IsTrue, All, length, min};
 ghost use Rattle.std.specs.Prelude.{None, Some};
-ghost use Rattle.blockdisk.specs.Disk.{SameDisk, one_more};
-ghost use Rattle.changeset.specs.Reads.{OnlyReads};
 ghost use Rattle.meaning.specs.CommandLists.{dump_list, word_count};
 ghost use Rattle.meaning.specs.Cores.{after_writes, dealt};
-ghost use Rattle.meaning.specs.Files.{File, Files};
 ghost use Rattle.meaning.specs.Retrieval.{HasBody};
 ghost use Rattle.meaning.specs.Rings.{byte_size, data_words, in_ready};
 ghost use Rattle.meaning.specs.Splices.{words_from};
@@ -12,10 +9,8 @@ ghost use Rattle.meaning.specs.declared.area.Area.{Area as Words};
 ghost use Rattle.retrieval.specs.Modes.{mode_number};
 ghost use Rattle.retrieval.specs.Versions.{VersionState};
 ghost use Rattle.volume.specs.Pins.{IsReadable, version_under};
-ghost use Rattle.volume.specs.Rest.{RestsAt};
-ghost use Rattle.monitor.specs.Reading.{Asked, asked_at, buffer_asked};
-ghost use Rattle.monitor.specs.declared.read_in.ReadIn.TheVariants.{Moved, AddressCheck, AtEnd, NoMemory, Device};
-ghost use Rattle.monitor.specs.declared.read_in.ReadIn.TheVariants.{Failed};
+ghost use Rattle.monitor.specs.Reading.{Asked, LeavesRead, asked_at, buffer_asked};
+ghost use Rattle.monitor.specs.declared.read_in.ReadIn.TheVariants.{Moved, AddressCheck, AtEnd};
 
 use crate::channel::Channel;
 use crate::status::cleared;
@@ -116,23 +111,9 @@ fn read_listed<D: Disk>(
     ensures few { (n : ℕ) → result ≡ Moved n → n ≤ word_count areas.now }
     ensures at_end { (v : VersionState) → version_under volume.old.core handle ≡ Some v → (body : List ℕ)
         → length body ≡ v.words → result ≡ AtEnd → (0 < word_count areas.now) × (words_from body block ≡ []) }
-    ensures kept { ((n : ℕ) → 0 < n → result ≡ Moved n → ⊥) → core.new ≡ core.old }
-    ensures length { length core.new ≡ length core.old }
-
-    // Nothing is written, and the volume stays.
-    ensures reads { (D.state volume.new.disk).honest → OnlyReads (D.state volume.old.disk) (D.state volume.new.disk) }
-    ensures rests { (D.state volume.new.disk).honest → (files : Files File) → RestsAt (D.state volume.old.disk) files
-        → RestsAt (D.state volume.new.disk) files }
-    ensures core { volume.new.core ≡ volume.old.core }
-    ensures idle { (result ≡ AddressCheck) ⊎ (result ≡ AtEnd) ⊎ (result ≡ Moved 0) ⊎ (result ≡ NoMemory)
-        → volume.new.disk ≡ volume.old.disk }
-    // It fails with the volume, and blames the device where that failed.
-    ensures failed { IsTrue volume.new.failed ↔ ((result ≡ Device) ⊎ (result ≡ Failed)) }
-    ensures blamed { result ≡ Failed → (D.state volume.new.disk).honest → ⊥ }
-    ensures counted { result ≡ Device → (D.state volume.new.disk).failures
-        ≡ one_more (D.state volume.old.disk).failures }
-    ensures served { (result ≡ Device → ⊥) → (D.state volume.new.disk).failures ≡ (D.state volume.old.disk).failures }
-    ensures same { SameDisk (D.state volume.old.disk) (D.state volume.new.disk) }
+    // What it leaves, however it ends.
+    ensures left { LeavesRead (D.state volume.old.disk) (D.state volume.new.disk) volume.old.core volume.new.core
+        core.old core.new (volume.new.disk ≡ volume.old.disk) volume.new.failed result }
     ensures layout { volume.new.layout ≡ volume.old.layout }
 {
     let count = word_count(areas);
@@ -180,23 +161,9 @@ fn read_areas<D: Disk>(
     ensures at_end { (v : VersionState) → version_under volume.old.core handle ≡ Some v → (body : List ℕ)
         → length body ≡ v.words → (areas : List Words) → dump_list core.old address ≡ Some areas
         → result ≡ AtEnd → (0 < word_count areas) × (words_from body block ≡ []) }
-    ensures kept { ((n : ℕ) → 0 < n → result ≡ Moved n → ⊥) → core.new ≡ core.old }
-    ensures length { length core.new ≡ length core.old }
-
-    // Nothing is written, and the volume stays.
-    ensures reads { (D.state volume.new.disk).honest → OnlyReads (D.state volume.old.disk) (D.state volume.new.disk) }
-    ensures rests { (D.state volume.new.disk).honest → (files : Files File) → RestsAt (D.state volume.old.disk) files
-        → RestsAt (D.state volume.new.disk) files }
-    ensures core { volume.new.core ≡ volume.old.core }
-    ensures idle { (result ≡ AddressCheck) ⊎ (result ≡ AtEnd) ⊎ (result ≡ Moved 0) ⊎ (result ≡ NoMemory)
-        → volume.new.disk ≡ volume.old.disk }
-    // It fails with the volume, and blames the device where that failed.
-    ensures failed { IsTrue volume.new.failed ↔ ((result ≡ Device) ⊎ (result ≡ Failed)) }
-    ensures blamed { result ≡ Failed → (D.state volume.new.disk).honest → ⊥ }
-    ensures counted { result ≡ Device → (D.state volume.new.disk).failures
-        ≡ one_more (D.state volume.old.disk).failures }
-    ensures served { (result ≡ Device → ⊥) → (D.state volume.new.disk).failures ≡ (D.state volume.old.disk).failures }
-    ensures same { SameDisk (D.state volume.old.disk) (D.state volume.new.disk) }
+    // What it leaves, however it ends.
+    ensures left { LeavesRead (D.state volume.old.disk) (D.state volume.new.disk) volume.old.core volume.new.core
+        core.old core.new (volume.new.disk ≡ volume.old.disk) volume.new.failed result }
     ensures layout { volume.new.layout ≡ volume.old.layout }
 {
     if let Some(area) = core.lone_area(address) {
@@ -238,23 +205,9 @@ fn read_buffer<D: Disk>(
     ensures few { (n : ℕ) → result ≡ Moved n → n ≤ data_words }
     ensures at_end { (v : VersionState) → version_under volume.old.core handle ≡ Some v → (body : List ℕ)
         → length body ≡ v.words → result ≡ AtEnd → words_from body block ≡ [] }
-    ensures kept { ((n : ℕ) → 0 < n → result ≡ Moved n → ⊥) → core.new ≡ core.old }
-    ensures length { length core.new ≡ length core.old }
-
-    // Nothing is written, and the volume stays.
-    ensures reads { (D.state volume.new.disk).honest → OnlyReads (D.state volume.old.disk) (D.state volume.new.disk) }
-    ensures rests { (D.state volume.new.disk).honest → (files : Files File) → RestsAt (D.state volume.old.disk) files
-        → RestsAt (D.state volume.new.disk) files }
-    ensures core { volume.new.core ≡ volume.old.core }
-    ensures idle { (result ≡ AddressCheck) ⊎ (result ≡ AtEnd) ⊎ (result ≡ Moved 0) ⊎ (result ≡ NoMemory)
-        → volume.new.disk ≡ volume.old.disk }
-    // It fails with the volume, and blames the device where that failed.
-    ensures failed { IsTrue volume.new.failed ↔ ((result ≡ Device) ⊎ (result ≡ Failed)) }
-    ensures blamed { result ≡ Failed → (D.state volume.new.disk).honest → ⊥ }
-    ensures counted { result ≡ Device → (D.state volume.new.disk).failures
-        ≡ one_more (D.state volume.old.disk).failures }
-    ensures served { (result ≡ Device → ⊥) → (D.state volume.new.disk).failures ≡ (D.state volume.old.disk).failures }
-    ensures same { SameDisk (D.state volume.old.disk) (D.state volume.new.disk) }
+    // What it leaves, however it ends.
+    ensures left { LeavesRead (D.state volume.old.disk) (D.state volume.new.disk) volume.old.core volume.new.core
+        core.old core.new (volume.new.disk ≡ volume.old.disk) volume.new.failed result }
     ensures layout { volume.new.layout ≡ volume.old.layout }
 {
     let (header, bytes) = (channel.input_header, channel.bytes());
@@ -303,23 +256,9 @@ pub fn read_in<D: Disk>(
     ensures at_end { (v : VersionState) → version_under volume.old.core handle ≡ Some v → (body : List ℕ)
         → length body ≡ v.words → (k : Asked) → asked_at core.old channel.now address ≡ Some k
         → result ≡ AtEnd → (k.none ≡ false) × (words_from body block ≡ []) }
-    ensures kept { ((n : ℕ) → 0 < n → result ≡ Moved n → ⊥) → core.new ≡ core.old }
-    ensures length { length core.new ≡ length core.old }
-
-    // Nothing is written, and the volume stays.
-    ensures reads { (D.state volume.new.disk).honest → OnlyReads (D.state volume.old.disk) (D.state volume.new.disk) }
-    ensures rests { (D.state volume.new.disk).honest → (files : Files File) → RestsAt (D.state volume.old.disk) files
-        → RestsAt (D.state volume.new.disk) files }
-    ensures core { volume.new.core ≡ volume.old.core }
-    ensures idle { (result ≡ AddressCheck) ⊎ (result ≡ AtEnd) ⊎ (result ≡ Moved 0) ⊎ (result ≡ NoMemory)
-        → volume.new.disk ≡ volume.old.disk }
-    // It fails with the volume, and blames the device where that failed.
-    ensures failed { IsTrue volume.new.failed ↔ ((result ≡ Device) ⊎ (result ≡ Failed)) }
-    ensures blamed { result ≡ Failed → (D.state volume.new.disk).honest → ⊥ }
-    ensures counted { result ≡ Device → (D.state volume.new.disk).failures
-        ≡ one_more (D.state volume.old.disk).failures }
-    ensures served { (result ≡ Device → ⊥) → (D.state volume.new.disk).failures ≡ (D.state volume.old.disk).failures }
-    ensures same { SameDisk (D.state volume.old.disk) (D.state volume.new.disk) }
+    // What it leaves, however it ends.
+    ensures left { LeavesRead (D.state volume.old.disk) (D.state volume.new.disk) volume.old.core volume.new.core
+        core.old core.new (volume.new.disk ≡ volume.old.disk) volume.new.failed result }
     ensures layout { volume.new.layout ≡ volume.old.layout }
 {
     if channel.is_buffered() {

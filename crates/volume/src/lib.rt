@@ -19,8 +19,8 @@
 //! 6. A crash at any moment of `make_dir` leaves what stands for the files before it or for those with the
 //!    new directory, and where it answers Ok for the latter alone; each other answer but `Device` leaves disk
 //!    and map as they were. After `Device` the volume has failed, and no other answer changes whether it has.
-//!    But for `Device` no block changes of a version that is read or being written. (`crash`, `done`, `refused`,
-//!    `device`, `still`, `kept`, `readers`, `writers`) The same holds of `delete_dir`, with the files without the
+//!    But for `Device` no block changes of a version that is read or being written. (`files`, which is `ChangesFiles`,
+//!    `answer`, which is `DeviceAnswer`, `refused`, `kept`) The same holds of `delete_dir`, with the files without the
 //!    directory: it takes away one that has no file and in which none is being created, and the others keep what they
 //!    have. (`no_directory`, `not_empty`, `directories`, `gone`, `primes`)
 //! 7. `pin` holds the version that a file has, and `unpin` lets it go; `begin` books what a version costs as it
@@ -37,15 +37,15 @@
 //! 10. On a volume that failed before, `put_words`, `get_words` and `publish` answer `Failed`, and neither disk nor
 //!    core changes. `get_words` never answers a damaged block as words, and the others never take one for words that
 //!    stay. (`failed`, `broken`, `whole`)
-//! 11. `Device` comes exactly with one more failure of the disk, on every disk. (`failed`, `served`)
+//! 11. `Device` comes exactly with one more failure of the disk, on every disk. (`answer`)
 //! 12. `delete` takes a file away by one change, with no block written before it: whatever a crash leaves at any moment
 //!    of it stands for the files from before, or for these without the file. At Ok it is the latter. All versions that
-//!    readers hold and all that are being written stay, and but for `Device` their blocks do. (`crash`, `done`,
-//!    `removed`, `pending`, `held`, `readers`, `writers`)
+//!    readers hold and all that are being written stay, and but for `Device` their blocks do. (`files`, `removed`,
+//!    `pending`, `held`)
 //! 13. `rename` gives a file another place, in its directory or in another one, and another protection, by one change
 //!    of the directories and the prime block. A crash finds it so, or as it was; no block is taken but for a directory
 //!    that grows, and its version stays under its key, for whoever reads it. On every disk the prime block is rewritten
-//!    only if it is the file's. (`crash`, `done`, `within`, `across`, `pending`, `held`, `here`, `gone`, `primes`)
+//!    only if it is the file's. (`files`, `within`, `across`, `pending`, `held`, `here`, `gone`, `primes`)
 //! 14. `copy_image` copies a volume to another disk of as many blocks: what `open` says of its disk holds of the one
 //!    that is copied, and at Ok the copy stands for the same files, with its gate closed and no block open. (`files`,
 //!    `settled`, `copied`, `crash`, `refused`)
@@ -53,12 +53,12 @@
 //!    A crash at any moment leaves what stands for the files that it stood for, in the layout that they had or in
 //!    layout 2; where it answers Ok, in layout 2. It refuses what `open` refuses. (`crash`, `synced`, `files`, `done`,
 //!    `already`, `refused`, `kept`)
-//! 16. `set_quota` gives a directory another quota by one change of the master directory: a crash finds it, or the quota
-//!     from before, and nothing else of core changes. (`crash`, `done`, `limited`) `charge` and `quota` answer from core
+//! 16. `set_quota` gives a directory another quota by one change of the master directory: a crash finds it, or the
+//!     quota from before, and nothing else of core changes. (`files`, `limited`) `charge` and `quota` answer from core
 //!     what a directory is charged for and may have, and `quota_allows_begin`, `quota_allows_put` and
 //!     `quota_allows_move` whether its quota leaves what a call would add. (`charged`, `value`)
 //! 17. No call after `open` writes a home copy: on an honest disk blocks 0 to 2 stay, except after `Device`, and a
-//!    crash at any moment of a call leaves there what one could leave before it. (`homes`, `home_blocks`)
+//!    crash at any moment of a call leaves there what one could leave before it. (`homes`, `home_blocks`; `files`)
 //!
 //! Between two calls the volume knows the map of its disk: the chains of its directories with their entries
 //! in the order of the disk, for each entry where its version lies, and the allocation table with what is
@@ -89,6 +89,7 @@ mod make;
 mod map;
 mod marks;
 mod migrate;
+mod moves;
 mod open;
 mod pending;
 mod pins;

@@ -21,6 +21,7 @@ ghost use Rattle.volume.specs.declared.live.LiveVersion.{LiveVersion};
 
 use crate::CallError;
 use crate::map::Volume;
+use crate::moves::Move;
 use blockdisk::Disk;
 use std::alloc::Global;
 use words36::{FileName, Ppn};
@@ -109,9 +110,16 @@ impl<D: Disk> Volume<D> {
             result }
         ensures layout { self.new.layout ≡ self.old.layout }
     {
+        let moved = Move {
+            ppn,
+            name: *name,
+            to_ppn,
+            to: *to,
+            protection,
+        };
         if to_ppn == ppn {
-            return self.rename_within(ppn, name, to, protection);
+            return self.rename_within(moved);
         }
-        self.rename_across(alloc, ppn, name, to_ppn, to, protection)
+        self.rename_across(alloc, moved)
     }
 }

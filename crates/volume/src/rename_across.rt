@@ -38,6 +38,7 @@ use crate::delete::{GivenUp, clear_left, remove_entry};
 use crate::live::LiveMap;
 use crate::make::use_block;
 use crate::map::Volume;
+use crate::moves::Move;
 use crate::pins::find_version;
 use crate::query::directory_place;
 use crate::rename_within::{move_version, prime_of, read_prime};
@@ -161,29 +162,33 @@ fn leave(core: &mut LiveMap, ppn: Ppn, name: &FileName, set: &mut ChangeSet)
 /// that will make it so on the disk. The words of its prime block are `words`.
 fn move_to_directory(
     core: &mut LiveMap,
-    ppn: Ppn,
-    name: &FileName,
-    to_ppn: Ppn,
-    to: &FileName,
-    protection: u16,
+    moved: Move,
     key: usize,
     supplies: EntrySupplies,
     words: &Block,
     set: &mut ChangeSet,
 )
     requires whole { IsWholeCore core.old.table.size (core_of core.old) }
-    requires there { IsKeyOf (core_of core.old) ppn name.now key }
-    requires apart { to_ppn ≡ ppn → ⊥ }
-    requires may_arrive { MayArrive core.old to_ppn to.now supplies.reserve supplies.keys }
-    requires named { 0 < to.now.name }
-    requires protection { protection < 512 }
+    requires there { IsKeyOf (core_of core.old) moved.ppn moved.name key }
+    requires apart { moved.to_ppn ≡ moved.ppn → ⊥ }
+    requires may_arrive { MayArrive core.old moved.to_ppn moved.to supplies.reserve supplies.keys }
+    requires named { 0 < moved.to.name }
+    requires protection { moved.protection < 512 }
     requires empty { set.old ≡ [] }
-    ensures { (v : LiveVersion) × MovesAcross core.old.table.size (core_of core.old) (core_of core.new) ppn name.now
-        to_ppn to.now protection key v words.now set.new }
+    ensures { (v : LiveVersion) × MovesAcross core.old.table.size (core_of core.old) (core_of core.new) moved.ppn
+        moved.name moved.to_ppn moved.to moved.protection key v words.now set.new }
 {
-    arrive(core, to_ppn, to, key, supplies, set);
-    leave(core, ppn, name, set);
-    move_version(&mut core.versions, key, to_ppn, to, protection, words, set);
+    arrive(core, moved.to_ppn, &moved.to, key, supplies, set);
+    leave(core, moved.ppn, &moved.name, set);
+    move_version(
+        &mut core.versions,
+        key,
+        moved.to_ppn,
+        &moved.to,
+        moved.protection,
+        words,
+        set,
+    );
     core.table.changes(set);
 }
 
@@ -199,31 +204,28 @@ fn move_across<D: Disk>(
     disk: &mut D,
     core: &mut LiveMap,
     failed: &mut bool,
-    ppn: Ppn,
-    name: &FileName,
-    to_ppn: Ppn,
-    to: &FileName,
-    protection: u16,
+    moved: Move,
     key: usize,
     supplies: EntrySupplies,
 ) -> Result<(), CallError>
     // What the caller sees to.
     requires sound { IsSoundCore (D.state disk.old) (core_of core.old) false }
     requires alive { failed.old ≡ false }
-    requires there { IsKeyOf (core_of core.old) ppn name.now key }
-    requires apart { to_ppn ≡ ppn → ⊥ }
-    requires may_arrive { MayArrive core.old to_ppn to.now supplies.reserve supplies.keys }
-    requires named { 0 < to.now.name }
-    requires protection { protection < 512 }
-    requires unclaimed { claims (core_of core.old).pending (place_of ppn name.now) ≡ false }
+    requires there { IsKeyOf (core_of core.old) moved.ppn moved.name key }
+    requires apart { moved.to_ppn ≡ moved.ppn → ⊥ }
+    requires may_arrive { MayArrive core.old moved.to_ppn moved.to supplies.reserve supplies.keys }
+    requires named { 0 < moved.to.name }
+    requires protection { moved.protection < 512 }
+    requires unclaimed { claims (core_of core.old).pending (place_of moved.ppn moved.name) ≡ false }
 
     // What it does to core and disk.
     ensures edited { IsEdited (D.state disk.old) (D.state disk.new) (core_of core.old) (core_of core.new)
-        (λ f. files_moved f ppn name.now to_ppn to.now protection) failed.new result }
+        (λ f. files_moved f moved.ppn moved.name moved.to_ppn moved.to moved.protection) failed.new result }
     ensures moved { OnOk result ((v : LiveVersion) × (words : List ℕ) × (puts : List Put)
-        × MovesAcross (D.state disk.old).size (core_of core.old) (core_of core.new) ppn name.now to_ppn to.now
-        protection key v words puts × ((D.state disk.new).honest → (D.state disk.old).contents v.at ≡ Some words)
-        × IsFilePrime words ppn name.now v) }
+        × MovesAcross (D.state disk.old).size (core_of core.old) (core_of core.new) moved.ppn moved.name moved.to_ppn
+        moved.to moved.protection key v words puts
+        × ((D.state disk.new).honest → (D.state disk.old).contents v.at ≡ Some words)
+        × IsFilePrime words moved.ppn moved.name v) }
     ensures pending { (core_of core.new).pending ≡ (core_of core.old).pending }
     ensures held { (k : ℕ) (v : LiveVersion) → slot (core_of core.old).live k ≡ Some v
         → (prime : PrimeValue) × (slot (core_of core.new).live k ≡ Some (record v { prime = prime })) }
@@ -235,7 +237,7 @@ fn move_across<D: Disk>(
 {
     let _booked = core.table.booked(); // any table is one as it should be
     let at = prime_of(&core.versions, key);
-    let words = match read_prime(disk, at, &core.versions, key, ppn, name) {
+    let words = match read_prime(disk, at, &core.versions, key, moved.ppn, &moved.name) {
         Ok(words) => words,
         Err(error) => {
             *failed = true; // nothing is known of the disk any more
@@ -243,9 +245,7 @@ fn move_across<D: Disk>(
         }
     };
     let mut set = ChangeSet::new();
-    move_to_directory(
-        core, ppn, name, to_ppn, to, protection, key, supplies, &words, &mut set,
-    );
+    move_to_directory(core, moved, key, supplies, &words, &mut set);
     commit_edit(disk, failed, &set)
 }
 
@@ -255,56 +255,51 @@ impl<D: Disk> Volume<D> {
     /// # Errors
     ///
     /// Those of `rename`.
-    pub(crate) fn rename_across(
-        &mut self,
-        alloc: Global,
-        ppn: Ppn,
-        name: &FileName,
-        to_ppn: Ppn,
-        to: &FileName,
-        protection: u16,
-    ) -> Result<(), CallError>
+    pub(crate) fn rename_across(&mut self, alloc: Global, moved: Move) -> Result<(), CallError>
         // What the caller sees to.
-        requires apart { to_ppn ≡ ppn → ⊥ }
-        requires named { 0 < to.now.name }
-        requires protection { protection < 512 }
-        requires unclaimed { claims self.old.core.pending (place_of ppn name.now) ≡ false }
+        requires apart { moved.to_ppn ≡ moved.ppn → ⊥ }
+        requires named { 0 < moved.to.name }
+        requires protection { moved.protection < 512 }
+        requires unclaimed { claims self.old.core.pending (place_of moved.ppn moved.name) ≡ false }
         // What it does to the files, and what stays meanwhile.
         ensures files { ChangesFiles (D.state self.old.disk) (D.state self.new.disk) self.old.core
-            (λ f. files_moved f ppn name.now to_ppn to.now protection) result }
+            (λ f. files_moved f moved.ppn moved.name moved.to_ppn moved.to moved.protection) result }
 
         // What it does to core, and to versions that are read and written.
         ensures moved { OnOk result ((key : ℕ) × (v : LiveVersion) × (words : List ℕ) × (puts : List Put)
-            × MovesAcross (D.state self.old.disk).size self.old.core self.new.core ppn name.now to_ppn to.now protection
-            key v words puts × ((D.state self.new.disk).honest → (D.state self.old.disk).contents v.at ≡ Some words)
-            × IsFilePrime words ppn name.now v) }
+            × MovesAcross (D.state self.old.disk).size self.old.core self.new.core moved.ppn moved.name moved.to_ppn
+            moved.to moved.protection key v words puts
+            × ((D.state self.new.disk).honest → (D.state self.old.disk).contents v.at ≡ Some words)
+            × IsFilePrime words moved.ppn moved.name v) }
         ensures pending { self.new.core.pending ≡ self.old.core.pending }
         ensures held { (k : ℕ) (v : LiveVersion) → slot self.old.core.live k ≡ Some v → 0 < v.readers
             → (prime : PrimeValue) × (slot self.new.core.live k ≡ Some (record v { prime = prime })) }
 
         // The new place has the prime block that the old one had, which has none then; each other place keeps its own.
-        ensures here { OnOk result (prime_at self.new.core to_ppn to.now ≡ prime_at self.old.core ppn name.now) }
-        ensures gone { OnOk result (prime_at self.new.core ppn name.now ≡ None) }
-        ensures primes { OnOk result ((q : ℕ) (n : FileName) → ((q ≡ ppn) × (n ≡ name.now) → ⊥)
-            → ((q ≡ to_ppn) × (n ≡ to.now) → ⊥) → prime_at self.new.core q n ≡ prime_at self.old.core q n) }
+        ensures here { OnOk result (prime_at self.new.core moved.to_ppn moved.to
+            ≡ prime_at self.old.core moved.ppn moved.name) }
+        ensures gone { OnOk result (prime_at self.new.core moved.ppn moved.name ≡ None) }
+        ensures primes { OnOk result ((q : ℕ) (n : FileName) → ((q ≡ moved.ppn) × (n ≡ moved.name) → ⊥)
+            → ((q ≡ moved.to_ppn) × (n ≡ moved.to) → ⊥) → prime_at self.new.core q n ≡ prime_at self.old.core q n) }
 
         // Which error comes when, and what it leaves.
         ensures failed { self.old.failed ≡ true → IsErrOf result Failed }
         ensures broken { self.old.failed ≡ true → (self.new.disk ≡ self.old.disk) × (self.new.core ≡ self.old.core) }
         ensures given_up { IsErrOf result Failed → (self.old.failed ≡ true) ⊎ ((D.state self.new.disk).honest → ⊥) }
         ensures no_directory { self.old.failed ≡ false
-            → (IsErrOf result (Refused NoDirectory) ↔ ((find nat_cmp ppn self.old.core.known.master.entries ≡ None)
-            ⊎ (HasFile self.old.core ppn name.now
-            × (find nat_cmp to_ppn self.old.core.known.master.entries ≡ None)))) }
+            → (IsErrOf result (Refused NoDirectory)
+            ↔ ((find nat_cmp moved.ppn self.old.core.known.master.entries ≡ None)
+            ⊎ (HasFile self.old.core moved.ppn moved.name
+            × (find nat_cmp moved.to_ppn self.old.core.known.master.entries ≡ None)))) }
         ensures not_found { self.old.failed ≡ false
-            → (IsErrOf result (Refused NotFound) ↔ ((d : KnownDirectory) × IsDirectoryOf self.old.core ppn d
-            × (find name_cmp name.now d.chain.entries ≡ None))) }
+            → (IsErrOf result (Refused NotFound) ↔ ((d : KnownDirectory) × IsDirectoryOf self.old.core moved.ppn d
+            × (find name_cmp moved.name d.chain.entries ≡ None))) }
         ensures exists { self.old.failed ≡ false
-            → (IsErrOf result (Refused NameExists) ↔ (HasFile self.old.core ppn name.now
-            × HasFile self.old.core to_ppn to.now)) }
+            → (IsErrOf result (Refused NameExists) ↔ (HasFile self.old.core moved.ppn moved.name
+            × HasFile self.old.core moved.to_ppn moved.to)) }
         ensures no_room { self.old.failed ≡ false
-            → (IsErrOf result (Refused NoRoom) ↔ (HasFile self.old.core ppn name.now
-            × HasNoRoom (D.state self.old.disk).size self.old.core to_ppn to.now)) }
+            → (IsErrOf result (Refused NoRoom) ↔ (HasFile self.old.core moved.ppn moved.name
+            × HasNoRoom (D.state self.old.disk).size self.old.core moved.to_ppn moved.to)) }
         ensures codes { (code : ErrorCode) → IsErrOf result (Refused code)
             → (code ≡ NoDirectory) ⊎ (code ≡ NotFound) ⊎ (code ≡ NameExists) ⊎ (code ≡ NoRoom) }
         ensures refused { (code : ErrorCode) → IsErrOf result (Refused code) → (self.new.disk ≡ self.old.disk)
@@ -318,26 +313,22 @@ impl<D: Disk> Volume<D> {
         if self.failed {
             return Err(CallError::Failed);
         }
-        let key = match find_version(&self.map, ppn, name) {
+        let key = match find_version(&self.map, moved.ppn, &moved.name) {
             Ok(key) => key,
             Err(error) => return Err(error),
         };
-        let place = match find_target(&self.map, to_ppn, to) {
+        let place = match find_target(&self.map, moved.to_ppn, &moved.to) {
             Ok(place) => place,
             Err(error) => return Err(error),
         };
-        let Ok(supplies) = find_entry_supplies(&self.map, alloc, place, *to) else {
+        let Ok(supplies) = find_entry_supplies(&self.map, alloc, place, moved.to) else {
             return Err(CallError::NoMemory);
         };
         move_across(
             &mut self.disk,
             &mut self.map,
             &mut self.failed,
-            ppn,
-            name,
-            to_ppn,
-            to,
-            protection,
+            moved,
             key,
             supplies,
         )

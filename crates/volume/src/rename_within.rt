@@ -36,6 +36,7 @@ use crate::CallError;
 use crate::current::{file_entry, place_of};
 use crate::live::{LiveDirectory, LiveMap, LiveVersion};
 use crate::map::Volume;
+use crate::moves::Move;
 use crate::pins::find_version;
 use crate::transaction::commit_edit;
 use blockdisk::{Disk, Fault};
@@ -264,29 +265,29 @@ fn rename_entry(
 
 /// Gives a file another name in its directory in core, or the same one, and another protection, with the puts that will
 /// make it so on the disk. The words of its prime block are `words`.
-fn move_in_core(
-    core: &mut LiveMap,
-    ppn: Ppn,
-    name: &FileName,
-    to: &FileName,
-    protection: u16,
-    key: usize,
-    words: &Block,
-    set: &mut ChangeSet,
-)
+fn move_in_core(core: &mut LiveMap, moved: Move, key: usize, words: &Block, set: &mut ChangeSet)
     requires whole { IsWholeCore core.old.table.size (core_of core.old) }
-    requires there { IsKeyOf (core_of core.old) ppn name.now key }
-    requires free { (d : KnownDirectory) → IsDirectoryOf (core_of core.old) ppn d → IsFreeFor d name.now to.now }
-    requires named { 0 < to.now.name }
-    requires protection { protection < 512 }
+    requires there { IsKeyOf (core_of core.old) moved.ppn moved.name key }
+    requires free { (d : KnownDirectory) → IsDirectoryOf (core_of core.old) moved.ppn d
+        → IsFreeFor d moved.name moved.to }
+    requires named { 0 < moved.to.name }
+    requires protection { moved.protection < 512 }
     requires empty { set.old ≡ [] }
-    ensures { (v : LiveVersion) × MovesWithin core.old.table.size (core_of core.old) (core_of core.new) ppn name.now
-        to.now protection key v words.now set.new }
+    ensures { (v : LiveVersion) × MovesWithin core.old.table.size (core_of core.old) (core_of core.new) moved.ppn
+        moved.name moved.to moved.protection key v words.now set.new }
 {
-    let place = place_of(&core.master, ppn);
-    let entry = file_entry(*to, prime_of(&core.versions, key));
-    rename_entry(&mut core.directories[place], name, entry, set);
-    move_version(&mut core.versions, key, ppn, to, protection, words, set);
+    let place = place_of(&core.master, moved.ppn);
+    let entry = file_entry(moved.to, prime_of(&core.versions, key));
+    rename_entry(&mut core.directories[place], &moved.name, entry, set);
+    move_version(
+        &mut core.versions,
+        key,
+        moved.ppn,
+        &moved.to,
+        moved.protection,
+        words,
+        set,
+    );
 }
 
 /// Gives a file another name in its directory, or the same one, and another protection, once nothing refuses it: the
@@ -301,28 +302,27 @@ fn move_within<D: Disk>(
     disk: &mut D,
     map: &mut LiveMap,
     failed: &mut bool,
-    ppn: Ppn,
-    name: &FileName,
-    to: &FileName,
-    protection: u16,
+    moved: Move,
     key: usize,
 ) -> Result<(), CallError>
     // What the caller sees to.
     requires sound { IsSoundCore (D.state disk.old) (core_of map.old) false }
     requires alive { failed.old ≡ false }
-    requires there { IsKeyOf (core_of map.old) ppn name.now key }
-    requires free { (d : KnownDirectory) → IsDirectoryOf (core_of map.old) ppn d → IsFreeFor d name.now to.now }
-    requires named { 0 < to.now.name }
-    requires protection { protection < 512 }
-    requires unclaimed { claims (core_of map.old).pending (place_of ppn name.now) ≡ false }
+    requires there { IsKeyOf (core_of map.old) moved.ppn moved.name key }
+    requires free { (d : KnownDirectory) → IsDirectoryOf (core_of map.old) moved.ppn d
+        → IsFreeFor d moved.name moved.to }
+    requires named { 0 < moved.to.name }
+    requires protection { moved.protection < 512 }
+    requires unclaimed { claims (core_of map.old).pending (place_of moved.ppn moved.name) ≡ false }
 
     // What it does to core and disk.
     ensures edited { IsEdited (D.state disk.old) (D.state disk.new) (core_of map.old) (core_of map.new)
-        (λ f. files_moved f ppn name.now ppn to.now protection) failed.new result }
+        (λ f. files_moved f moved.ppn moved.name moved.ppn moved.to moved.protection) failed.new result }
     ensures moved { OnOk result ((v : LiveVersion) × (words : List ℕ) × (puts : List Put)
-        × MovesWithin (D.state disk.old).size (core_of map.old) (core_of map.new) ppn name.now to.now protection key v
-        words puts × ((D.state disk.new).honest → (D.state disk.old).contents v.at ≡ Some words)
-        × IsFilePrime words ppn name.now v) }
+        × MovesWithin (D.state disk.old).size (core_of map.old) (core_of map.new) moved.ppn moved.name moved.to
+        moved.protection key v words puts
+        × ((D.state disk.new).honest → (D.state disk.old).contents v.at ≡ Some words)
+        × IsFilePrime words moved.ppn moved.name v) }
     ensures pending { (core_of map.new).pending ≡ (core_of map.old).pending }
     ensures held { (k : ℕ) (v : LiveVersion) → slot (core_of map.old).live k ≡ Some v
         → (prime : PrimeValue) × (slot (core_of map.new).live k ≡ Some (record v { prime = prime })) }
@@ -334,7 +334,7 @@ fn move_within<D: Disk>(
 {
     let _booked = map.table.booked(); // any table is one as it should be
     let at = prime_of(&map.versions, key);
-    let words = match read_prime(disk, at, &map.versions, key, ppn, name) {
+    let words = match read_prime(disk, at, &map.versions, key, moved.ppn, &moved.name) {
         Ok(words) => words,
         Err(error) => {
             *failed = true; // nothing is known of the disk any more
@@ -342,14 +342,15 @@ fn move_within<D: Disk>(
         }
     };
     let mut set = ChangeSet::new();
-    move_in_core(map, ppn, name, to, protection, key, &words, &mut set);
+    move_in_core(map, moved, key, &words, &mut set);
     commit_edit(disk, failed, &set)
 }
 
 impl<D: Disk> Volume<D> {
     /// Gives a file another name in its directory, or the same one, and another protection, by one change of its
     /// directory and its prime block. A crash finds the files from before, or those with the file so. Its version
-    /// stays, and its readers hold it. It takes no memory.
+    /// stays, and its readers hold it. It takes no memory. The directory is that of `moved.ppn`; `moved.to_ppn` isn't
+    /// read.
     ///
     /// # Errors
     ///
@@ -358,50 +359,47 @@ impl<D: Disk> Volume<D> {
     /// already. All is as before then. `Device` where the device failed, and the volume with it: a later start finds
     /// the files with the file so, or those from before. `Failed`, and the volume with it, where the file's prime block
     /// is damaged, which no honest disk shows.
-    pub(crate) fn rename_within(
-        &mut self,
-        ppn: Ppn,
-        name: &FileName,
-        to: &FileName,
-        protection: u16,
-    ) -> Result<(), CallError>
-        requires named { 0 < to.now.name }
-        requires protection { protection < 512 }
+    pub(crate) fn rename_within(&mut self, moved: Move) -> Result<(), CallError>
+        requires named { 0 < moved.to.name }
+        requires protection { moved.protection < 512 }
         // No version is being written for its place, as claims see to: it may have blocks of the file.
-        requires unclaimed { claims self.old.core.pending (place_of ppn name.now) ≡ false }
+        requires unclaimed { claims self.old.core.pending (place_of moved.ppn moved.name) ≡ false }
         // What it does to the files, and what stays meanwhile.
         ensures files { ChangesFiles (D.state self.old.disk) (D.state self.new.disk) self.old.core
-            (λ f. files_moved f ppn name.now ppn to.now protection) result }
+            (λ f. files_moved f moved.ppn moved.name moved.ppn moved.to moved.protection) result }
 
         // What it does to core, and what it puts, where the prime block had these words.
         ensures moved { OnOk result ((key : ℕ) × (v : LiveVersion) × (words : List ℕ) × (puts : List Put)
-            × MovesWithin (D.state self.old.disk).size self.old.core self.new.core ppn name.now to.now protection key v
-            words puts × ((D.state self.new.disk).honest → (D.state self.old.disk).contents v.at ≡ Some words)
-            × IsFilePrime words ppn name.now v) }
+            × MovesWithin (D.state self.old.disk).size self.old.core self.new.core moved.ppn moved.name moved.to
+            moved.protection key v words puts
+            × ((D.state self.new.disk).honest → (D.state self.old.disk).contents v.at ≡ Some words)
+            × IsFilePrime words moved.ppn moved.name v) }
         // All versions in use stay, whatever the answer; and their blocks do, but where the device failed, since they
         // may have been open then.
         ensures pending { self.new.core.pending ≡ self.old.core.pending }
         ensures held { (k : ℕ) (v : LiveVersion) → slot self.old.core.live k ≡ Some v → 0 < v.readers
             → (prime : PrimeValue) × (slot self.new.core.live k ≡ Some (record v { prime = prime })) }
         // The new place has the prime block that the old one had, which has none then; each other place keeps its own.
-        ensures here { OnOk result (prime_at self.new.core ppn to.now ≡ prime_at self.old.core ppn name.now) }
-        ensures gone { OnOk result ((to.now ≡ name.now → ⊥) → prime_at self.new.core ppn name.now ≡ None) }
-        ensures primes { OnOk result ((q : ℕ) (n : FileName) → ((q ≡ ppn) × (n ≡ name.now) → ⊥)
-            → ((q ≡ ppn) × (n ≡ to.now) → ⊥) → prime_at self.new.core q n ≡ prime_at self.old.core q n) }
+        ensures here { OnOk result (prime_at self.new.core moved.ppn moved.to
+            ≡ prime_at self.old.core moved.ppn moved.name) }
+        ensures gone { OnOk result ((moved.to ≡ moved.name → ⊥) → prime_at self.new.core moved.ppn moved.name ≡ None) }
+        ensures primes { OnOk result ((q : ℕ) (n : FileName) → ((q ≡ moved.ppn) × (n ≡ moved.name) → ⊥)
+            → ((q ≡ moved.ppn) × (n ≡ moved.to) → ⊥) → prime_at self.new.core q n ≡ prime_at self.old.core q n) }
 
         // Which error comes when, and what it leaves.
         ensures failed { self.old.failed ≡ true → IsErrOf result Failed }
         ensures broken { self.old.failed ≡ true → (self.new.disk ≡ self.old.disk) × (self.new.core ≡ self.old.core) }
         ensures given_up { IsErrOf result Failed → (self.old.failed ≡ true) ⊎ ((D.state self.new.disk).honest → ⊥) }
         ensures no_directory { self.old.failed ≡ false
-            → (IsErrOf result (Refused NoDirectory) ↔ (find nat_cmp ppn self.old.core.known.master.entries ≡ None)) }
+            → (IsErrOf result (Refused NoDirectory)
+            ↔ (find nat_cmp moved.ppn self.old.core.known.master.entries ≡ None)) }
         ensures not_found { self.old.failed ≡ false
-            → (IsErrOf result (Refused NotFound) ↔ ((d : KnownDirectory) × IsDirectoryOf self.old.core ppn d
-            × (find name_cmp name.now d.chain.entries ≡ None))) }
+            → (IsErrOf result (Refused NotFound) ↔ ((d : KnownDirectory) × IsDirectoryOf self.old.core moved.ppn d
+            × (find name_cmp moved.name d.chain.entries ≡ None))) }
         ensures exists { self.old.failed ≡ false
-            → (IsErrOf result (Refused NameExists) ↔ ((d : KnownDirectory) × IsDirectoryOf self.old.core ppn d
-            × (find name_cmp name.now d.chain.entries ≡ None → ⊥) × (to.now ≡ name.now → ⊥)
-            × (find name_cmp to.now d.chain.entries ≡ None → ⊥))) }
+            → (IsErrOf result (Refused NameExists) ↔ ((d : KnownDirectory) × IsDirectoryOf self.old.core moved.ppn d
+            × (find name_cmp moved.name d.chain.entries ≡ None → ⊥) × (moved.to ≡ moved.name → ⊥)
+            × (find name_cmp moved.to d.chain.entries ≡ None → ⊥))) }
         ensures codes { (code : ErrorCode) → IsErrOf result (Refused code)
             → (code ≡ NoDirectory) ⊎ (code ≡ NotFound) ⊎ (code ≡ NameExists) }
         ensures refused { (code : ErrorCode) → IsErrOf result (Refused code) → (self.new.disk ≡ self.old.disk)
@@ -414,19 +412,10 @@ impl<D: Disk> Volume<D> {
         if self.failed {
             return Err(CallError::Failed);
         }
-        let key = match find_movable(&self.map, ppn, name, to) {
+        let key = match find_movable(&self.map, moved.ppn, &moved.name, &moved.to) {
             Ok(key) => key,
             Err(error) => return Err(error),
         };
-        move_within(
-            &mut self.disk,
-            &mut self.map,
-            &mut self.failed,
-            ppn,
-            name,
-            to,
-            protection,
-            key,
-        )
+        move_within(&mut self.disk, &mut self.map, &mut self.failed, moved, key)
     }
 }

@@ -1,69 +1,132 @@
-use Rattle.std.proofs.Common.{◌≡◌, false, Some, refl, subst, ap, slice_set}
-use Rattle.meaning.proofs.SlotLaws.{slot-set_other}
-use Rattle.volume.specs.Rest.{IsSoundCore}
-use Rattle.monitor.proofs.Called.{decided_serves}
-use Rattle.monitor.proofs.DeleteDirAnswers.{never_failed, takes_none, refused_so, fails_by, idle_same, still_placed}
-use Rattle.monitor.proofs.DeleteDirAnswers.{crashes_by, delete_dir_answered}
-use Rattle.monitor.proofs.Dropped.{keeps_keyed}
-use Rattle.monitor.proofs.ReadingJobs.{keeps_reading}
-use Rattle.monitor.proofs.Refusals.{delete_dir_decided}
-use Rattle.monitor.proofs.Slots.{unchanged}
+use Rattle.std.proofs.Common.{◌≡◌, ◌⊎◌, false, None, refl, sym, ap, subst, ◌∙◌, inl, rules}
+use Rattle.std.specs.Ordering.{nat_cmp}
+use Rattle.std.specs.FinMap.Entries.{find}
+use Rattle.words36.specs.Words.{IsPpn}
+use Rattle.meaning.specs.Codes.{number_of}
+use Rattle.meaning.specs.Files.{File, Files}
+use Rattle.meaning.specs.declared.code.ErrorCode.TheVariants.{NoDirectory, NotEmpty}
+use Rattle.volume.specs.Edits.{ChangesFiles}
+use Rattle.volume.specs.RemovingDirectories.{directory_removed, HasEntries}
+use Rattle.monitor.specs.DeleteDirRows.{IsNowhere, IsThere, IsRemovable, IsKeptBy, is_kept_from}
+use Rattle.monitor.specs.DirectoryRows.{asked_owner}
+use Rattle.monitor.proofs.DeleteDirs.{nowhere_numbered, nowhere_known, there_by, kept_by}
+use Rattle.monitor.proofs.DeleteDirServing.{checked_serves, kept_serves, removal_broken, removal_done}
 use Rattle.monitor.proofs.deletedir.serve_delete_dir.Goals as goal
 
-pub returns-clause-serving : goal.returns-clause-serving
-returns-clause-serving g c = λ moment timely jobs n among.
-    let state = g.D.Disk.state in
-    let old = c.args.volume.now in
-    let new = c.delete_dir.new.volume in
-    let d = state old.disk in
+pub returns-then-lies_outside-clause-serving : goal.returns-then-lies_outside-clause-serving
+returns-then-lies_outside-clause-serving g c =
+    let volume = c.args.volume.now in
+    checked_serves g.D.Disk.state g.met.D.Disk.only_now volume.disk volume.core volume.failed c.args.job.now
+    c.requires.ready c.args.address (sym c.lies_outside.ensures.value ∙ c.if-lies_outside.true)
+
+pub returns-in_default-clause-serving : goal.returns-in_default-clause-serving
+returns-in_default-clause-serving g c =
+    let volume = c.args.volume.now in
+    let d = g.D.Disk.state volume.disk in
     let job = c.args.job.now in
-    let job' = c.delete_dir.new.job in
-    let jobs' = slice_set jobs n (Some job') in
-    let is = c.delete_dir.ensures in
-    let reply = c.delete_dir.result in
-    let sound = subst (IsSoundCore d old.core) c.requires.ready.alive c.requires.ready.sound in
-    let keyed = keeps_keyed old.core.pending new.core.pending jobs n job job' among.keyed among.there is.keeps in
-    let reading = keeps_reading old.core.live new.core.live jobs n job job' among.reading among.there is.reads in
-    let fails = fails_by d old.core (new.disk ≡ old.disk) (new.core ≡ old.core) job job' c.args.address reply
-    is.outcome new.failed is.failed in
-    record {
-      keyed = λ serves. keyed;
-      placed = λ serves. still_placed state old.disk new.disk old.core new.core jobs jobs' n job job' c.args.address
-          moment among.there refl timely sound reply is.outcome is.pending is.directories c.requires.ready.placed;
-      reading = λ serves. reading;
-      others = λ m other. slot-set_other jobs n m (Some job') other;
-      answered = λ h.
-          delete_dir_answered state old.disk new.disk old.core new.core jobs jobs' n job job' c.args.address moment
-          among.there refl timely sound false new.failed refl keyed reading (is.same.was_honest h) is.live is.pending
-          is.primes (is.readers h) (is.writers h) reply is.outcome is.failed (is.done h);
-      crash = crashes_by state old.disk new.disk old.core new.core jobs jobs' n job job' c.args.address moment
-          among.there refl timely sound is.same.was_honest
-          (λ h x left. g.met.D.Disk.only_now old.disk x h left) is.crash reply is.outcome;
-      idle = idle_same d old.core (new.disk ≡ old.disk) (new.core ≡ old.core) job job' c.args.address reply
-          is.outcome;
-      light = λ light. absurd light;
-      kept = λ kept. absurd kept;
-      memory = λ none. absurd (takes_none d old.core (new.disk ≡ old.disk) (new.core ≡ old.core) job job'
-          c.args.address reply is.outcome none);
-      decided = λ decided.
-          let left = delete_dir_decided d old.core ((new.disk ≡ old.disk) × (new.core ≡ old.core)) job job'
-          c.args.address reply is.outcome decided in (
-            left.1.0,
-            left.1.1,
-            decided_serves false new.failed reply refl fails decided,
-            unchanged jobs jobs' n job job' among.there refl left.0,
-          );
-      refused = λ code refused. record {
-        job = job;
-        there = among.there;
-        jobs_are = ap (λ j. slice_set jobs n (Some j))
-            (refused_so d old.core (new.disk ≡ old.disk) (new.core ≡ old.core) job job' c.args.address reply
-            is.outcome code refused);
-      };
-      failed = fails;
-      blamed = λ h. never_failed d old.core (new.disk ≡ old.disk) (new.core ≡ old.core) job job' c.args.address
-          reply is.outcome;
-      counted = is.counted;
-      served = is.served;
-      same = is.same;
-    }
+    let owner = asked_owner job.core c.args.address in
+    let none : IsPpn c.word_at.result → ⊥ = search rules in
+    let nowhere : IsNowhere d owner = subst (IsNowhere d) c.word_at.ensures.value
+    (nowhere_numbered d volume.core volume.failed c.requires.ready.sound c.requires.ready.alive c.word_at.result none)
+    in
+    kept_serves g.D.Disk.state g.met.D.Disk.only_now volume.disk volume.core volume.failed job c.requires.ready
+    c.args.address 1 (sym c.lies_outside.ensures.value ∙ c.if-lies_outside.false) (inl (refl, nowhere)) volume.disk
+    volume.core volume.failed (refl, refl, refl) (record job { core = c.refuse.new.core }) c.refuse.result
+    (ap (λ core. record job { core = core }) c.refuse.ensures.kept) c.refuse.ensures.answered
+
+pub returns-then-is_err-clause-serving : goal.returns-then-is_err-clause-serving
+returns-then-is_err-clause-serving g c =
+    let volume = c.args.volume.now in
+    let d = g.D.Disk.state volume.disk in
+    let job = c.args.job.now in
+    let owner = asked_owner job.core c.args.address in
+    let why : IsKeptBy d volume.core job.ppn owner 1 = search rules in
+    kept_serves g.D.Disk.state g.met.D.Disk.only_now volume.disk volume.core volume.failed job c.requires.ready
+    c.args.address 1 (sym c.lies_outside.ensures.value ∙ c.if-lies_outside.false) why volume.disk volume.core
+    volume.failed (refl, refl, refl) (record job { core = c.refuse-then-is_err.new.core }) c.refuse-then-is_err.result
+    (ap (λ core. record job { core = core }) c.refuse-then-is_err.ensures.kept) c.refuse-then-is_err.ensures.answered
+
+pub returns-then-is_kept_from-clause-serving : goal.returns-then-is_kept_from-clause-serving
+returns-then-is_kept_from-clause-serving g c =
+    let volume = c.args.volume.now in
+    let d = g.D.Disk.state volume.disk in
+    let job = c.args.job.now in
+    let owner = asked_owner job.core c.args.address in
+    let why : IsKeptBy d volume.core job.ppn owner 2 = search rules in
+    kept_serves g.D.Disk.state g.met.D.Disk.only_now volume.disk volume.core volume.failed job c.requires.ready
+    c.args.address 2 (sym c.lies_outside.ensures.value ∙ c.if-lies_outside.false) why volume.disk volume.core
+    volume.failed (refl, refl, refl) (record job { core = c.refuse-then-is_kept_from.new.core })
+    c.refuse-then-is_kept_from.result
+    (ap (λ core. record job { core = core }) c.refuse-then-is_kept_from.ensures.kept)
+    c.refuse-then-is_kept_from.ensures.answered
+
+pub returns-in-Err-Refused-clause-serving : goal.returns-in-Err-Refused-clause-serving
+returns-in-Err-Refused-clause-serving g c =
+    let volume = c.args.volume.now in
+    let new = c.delete_dir.new.self in
+    let d = g.D.Disk.state volume.disk in
+    let job = c.args.job.now in
+    let code = c.in-Err-Refused.code in
+    let same : (new.disk ≡ volume.disk) × (new.core ≡ volume.core) × (new.failed ≡ volume.failed) = search rules in
+    let there : IsThere d c.in-Some.owner = there_by d c.in-Some.owner volume.failed c.directory.result
+    c.requires.ready.alive c.directory.ensures.value (sym c.is_err.ensures.value ∙ c.if-is_err.false) in
+    let own : is_kept_from volume.core job.ppn c.in-Some.owner ≡ false =
+    sym c.is_kept_from.ensures ∙ c.if-is_kept_from.false in
+    let codes : (code ≡ NoDirectory) ⊎ (code ≡ NotEmpty) = search rules in
+    let nowhere : code ≡ NoDirectory → IsNowhere d c.in-Some.owner = λ is.
+    let none : find nat_cmp c.in-Some.owner volume.core.known.master.entries ≡ None = search rules in
+    nowhere_known d volume.core volume.failed c.requires.ready.sound c.requires.ready.alive c.in-Some.owner none in
+    let filled : code ≡ NotEmpty → HasEntries volume.core c.in-Some.owner = search rules in
+    let why = subst (λ n. IsKeptBy d volume.core job.ppn n (number_of code))
+    (c.in-Some.ensures.value ∙ c.word_at.ensures.value)
+    (kept_by d volume.core job.ppn c.in-Some.owner code codes nowhere filled there own) in
+    kept_serves g.D.Disk.state g.met.D.Disk.only_now volume.disk volume.core volume.failed job c.requires.ready
+    c.args.address (number_of code) (sym c.lies_outside.ensures.value ∙ c.if-lies_outside.false) why new.disk new.core
+    new.failed same (record job { core = c.refuse-in-Err-Refused.new.core }) c.refuse-in-Err-Refused.result
+    (ap (λ core. record job { core = core }) c.refuse-in-Err-Refused.ensures.kept)
+    c.refuse-in-Err-Refused.ensures.answered
+
+pub returns-in-Ok-clause-serving : goal.returns-in-Ok-clause-serving
+returns-in-Ok-clause-serving g c =
+    let state = g.D.Disk.state in
+    let volume = c.args.volume.now in
+    let new = c.delete_dir.new.self in
+    let d = state volume.disk in
+    let job = c.args.job.now in
+    let owner = asked_owner job.core c.args.address in
+    let whose : c.in-Some.owner ≡ owner = c.in-Some.ensures.value ∙ c.word_at.ensures.value in
+    let there : IsThere d c.in-Some.owner = there_by d c.in-Some.owner volume.failed c.directory.result
+    c.requires.ready.alive c.directory.ensures.value (sym c.is_err.ensures.value ∙ c.if-is_err.false) in
+    let own : is_kept_from volume.core job.ppn c.in-Some.owner ≡ false =
+    sym c.is_kept_from.ensures ∙ c.if-is_kept_from.false in
+    let bare : HasEntries volume.core c.in-Some.owner → ⊥ = search rules in
+    let may = subst (IsRemovable d volume.core job.ppn) whose (there, own, bare) in
+    removal_done state g.met.D.Disk.only_now volume.disk volume.core volume.failed job c.requires.ready c.args.address
+    (sym c.lies_outside.ensures.value ∙ c.if-lies_outside.false) may new.disk new.core new.failed c.delete_dir.result
+    (subst (λ (f : Files File → Files File). ChangesFiles d (state new.disk) volume.core f c.delete_dir.result)
+    (λ i f. directory_removed f (whose i)) c.delete_dir.ensures.files)
+    c.delete_dir.ensures.answer c.in-Ok.is c.delete_dir.ensures.live c.delete_dir.ensures.pending
+    (λ ppn x at other. c.delete_dir.ensures.directories ppn x at (λ same. other (same ∙ whose)))
+    c.delete_dir.ensures.primes
+
+pub returns-in-Err-Device-clause-serving : goal.returns-in-Err-Device-clause-serving
+returns-in-Err-Device-clause-serving g c =
+    let state = g.D.Disk.state in
+    let volume = c.args.volume.now in
+    let new = c.delete_dir.new.self in
+    let d = state volume.disk in
+    let job = c.args.job.now in
+    let owner = asked_owner job.core c.args.address in
+    let whose : c.in-Some.owner ≡ owner = c.in-Some.ensures.value ∙ c.word_at.ensures.value in
+    let there : IsThere d c.in-Some.owner = there_by d c.in-Some.owner volume.failed c.directory.result
+    c.requires.ready.alive c.directory.ensures.value (sym c.is_err.ensures.value ∙ c.if-is_err.false) in
+    let own : is_kept_from volume.core job.ppn c.in-Some.owner ≡ false =
+    sym c.is_kept_from.ensures ∙ c.if-is_kept_from.false in
+    let bare : HasEntries volume.core c.in-Some.owner → ⊥ = search rules in
+    let may = subst (IsRemovable d volume.core job.ppn) whose (there, own, bare) in
+    removal_broken state g.met.D.Disk.only_now volume.disk volume.core volume.failed job c.requires.ready
+    c.args.address (sym c.lies_outside.ensures.value ∙ c.if-lies_outside.false) may new.disk new.core new.failed
+    c.delete_dir.result
+    (subst (λ (f : Files File → Files File). ChangesFiles d (state new.disk) volume.core f c.delete_dir.result)
+    (λ i f. directory_removed f (whose i)) c.delete_dir.ensures.files)
+    c.delete_dir.ensures.answer (search rules)

@@ -89,7 +89,7 @@ returns-in-Moved-clause-outcome g c =
 pub returns-in-Moved-clause-reads : goal.returns-in-Moved-clause-reads
 returns-in-Moved-clause-reads g c =
     subst (λ m. KeepsReading c.args.volume.now.core.live m.live c.args.job.now c.set_channel.new.self)
-    (sym c.read_in.ensures.core)
+    (sym c.read_in.ensures.left.volume)
     (in_reads (g.D.Disk.state c.args.volume.now.disk) (g.D.Disk.state c.read_in.new.volume.disk) c.args.volume.now.core
     c.args.job.now c.set_channel.new.self c.args.number c.args.address Done
     (returns-in-Moved-clause-outcome g c) c.args.volume.now.core.live)
@@ -118,7 +118,7 @@ returns-in-AtEnd-clause-outcome g c =
             core = ws;
             channels = slice_set c.args.job.now.channels c.args.number
                 (Some (record c.in-Some.channel { status = status }));
-          }) (c.read_in.ensures.kept (λ n some is. let wrong = sym c.in-AtEnd.is ∙ is in cc wrong)),
+          }) (c.read_in.ensures.left.kept (λ n some is. let wrong = sym c.in-AtEnd.is ∙ is in cc wrong)),
       λ v at body long. c.read_in.ensures.at_end v (ap (version_under c.args.volume.now.core)
           c.handle_read-handle.ensures ∙ at) body long asked.0 asked.1 c.in-AtEnd.is,
     )
@@ -126,14 +126,14 @@ returns-in-AtEnd-clause-outcome g c =
 pub returns-in-AtEnd-clause-reads : goal.returns-in-AtEnd-clause-reads
 returns-in-AtEnd-clause-reads g c =
     subst (λ m. KeepsReading c.args.volume.now.core.live m.live c.args.job.now c.stop.new.job)
-    (sym c.read_in.ensures.core)
+    (sym c.read_in.ensures.left.volume)
     (in_reads (g.D.Disk.state c.args.volume.now.disk) (g.D.Disk.state c.read_in.new.volume.disk) c.args.volume.now.core
     c.args.job.now c.stop.new.job c.args.number c.args.address c.stop.result
     (returns-in-AtEnd-clause-outcome g c) c.args.volume.now.core.live)
 
 pub returns-in-AddressCheck-clause-outcome : goal.returns-in-AddressCheck-clause-outcome
 returns-in-AddressCheck-clause-outcome g c = (
-  ap (λ ws. record c.args.job.now { core = ws }) (c.read_in.ensures.kept (λ n some is.
+  ap (λ ws. record c.args.job.now { core = ws }) (c.read_in.ensures.left.kept (λ n some is.
       let wrong = sym c.in-AddressCheck.is ∙ is in cc wrong)),
   record {
     channel = c.in-Some.channel;
@@ -149,7 +149,7 @@ pub returns-in-NoMemory-clause-outcome : goal.returns-in-NoMemory-clause-outcome
 returns-in-NoMemory-clause-outcome g c =
     let asked = is_asked c.read_in.result NoMemory (asked_at c.args.job.now.core c.in-Some.channel c.args.address)
     c.in-NoMemory.is (λ e. cc e) c.read_in.ensures.checked in (
-      ap (λ ws. record c.args.job.now { core = ws }) (c.read_in.ensures.kept (λ n some is.
+      ap (λ ws. record c.args.job.now { core = ws }) (c.read_in.ensures.left.kept (λ n some is.
           let wrong = sym c.in-NoMemory.is ∙ is in cc wrong)),
       record {
         at = record {
@@ -168,7 +168,7 @@ pub returns-in-Device-clause-outcome : goal.returns-in-Device-clause-outcome
 returns-in-Device-clause-outcome g c =
     let asked = is_asked c.read_in.result Device (asked_at c.args.job.now.core c.in-Some.channel c.args.address)
     c.in-Device.is (λ e. cc e) c.read_in.ensures.checked in (
-      ap (λ ws. record c.args.job.now { core = ws }) (c.read_in.ensures.kept (λ n some is.
+      ap (λ ws. record c.args.job.now { core = ws }) (c.read_in.ensures.left.kept (λ n some is.
           let wrong = sym c.in-Device.is ∙ is in cc wrong)),
       record {
         at = record {

@@ -36,7 +36,8 @@ returns-in-Err-clause-given_up g c is h =
     let core = core_of c.args.core.now in
     let same = c.read_prime.ensures.same in
     let file = c.requires.there in
-    let holds = prime_holds s core c.requires.sound (same.was_honest h) c.args.ppn c.args.name.now c.args.key file in
+    let holds = prime_holds s core c.requires.sound (same.was_honest h) c.args.moved.ppn c.args.moved.name c.args.key
+    file in
     c.in-Err.ensures.broken h (err_on c.in-Err.error Failed is) file.version holds.0 file.here
     (ap s.contents (c.prime_of-at.ensures file.version file.here) ∙ holds.1) holds.2
 
@@ -44,13 +45,13 @@ returns-in-Err-clause-given_up g c is h =
 
 pub commit_edit-requires-clause-in_range : goal.commit_edit-requires-clause-in_range
 commit_edit-requires-clause-in_range g c =
-    edit_in_range (across_edit c.requires.sound.whole c.move_to_directory.ensures.1 c.requires.protection c.requires.unclaimed 0
-    c.booked-booked.ensures.sound) c.read_prime.ensures.same
+    edit_in_range (across_edit c.requires.sound.whole c.move_to_directory.ensures.1 c.requires.protection
+    c.requires.unclaimed 0 c.booked-booked.ensures.sound) c.read_prime.ensures.same
 
 pub commit_edit-requires-clause-few : goal.commit_edit-requires-clause-few
 commit_edit-requires-clause-few g c =
-    edit_few (across_edit c.requires.sound.whole c.move_to_directory.ensures.1 c.requires.protection c.requires.unclaimed 0
-    c.booked-booked.ensures.sound) c.read_prime.ensures.same
+    edit_few (across_edit c.requires.sound.whole c.move_to_directory.ensures.1 c.requires.protection
+    c.requires.unclaimed 0 c.booked-booked.ensures.sound) c.read_prime.ensures.same
 
 pub returns-clause-edited : goal.returns-clause-edited
 returns-clause-edited g c =

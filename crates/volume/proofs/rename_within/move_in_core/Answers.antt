@@ -12,7 +12,7 @@ rename_entry-requires-clause-there c =
     let stands = c.place_of-place.ensures in
     let d = c.index_mut.result.now in
     let at = directory_read m c.requires.whole stands.1 _ c.index_mut.ensures.value in
-    renames_there m c.requires.whole c.args.ppn c.args.name.now c.args.to.now c.args.key c.requires.there
+    renames_there m c.requires.whole c.args.moved.ppn c.args.moved.name c.args.moved.to c.args.key c.requires.there
     c.requires.free place stands.0 stands.1 d at
 
 pub rename_entry-requires-clause-free : goal.rename_entry-requires-clause-free
@@ -22,8 +22,8 @@ rename_entry-requires-clause-free c =
     let stands = c.place_of-place.ensures in
     let d = c.index_mut.result.now in
     let at = directory_read m c.requires.whole stands.1 _ c.index_mut.ensures.value in
-    renames_free m c.requires.whole c.args.ppn c.args.name.now c.args.to.now c.args.key c.requires.there c.requires.free
-    place stands.0 stands.1 d at c.file_entry-entry.result.name c.file_entry-entry.ensures.name
+    renames_free m c.requires.whole c.args.moved.ppn c.args.moved.name c.args.moved.to c.args.key c.requires.there
+    c.requires.free place stands.0 stands.1 d at c.file_entry-entry.result.name c.file_entry-entry.ensures.name
 
 pub returns : goal.returns
 returns c =
@@ -44,11 +44,11 @@ returns c =
       table = m.table;
     } in (
       u,
-      moves_within m c.requires.whole c.args.ppn c.args.name.now c.args.to.now c.args.key c.requires.there
+      moves_within m c.requires.whole c.args.moved.ppn c.args.moved.name c.args.moved.to c.args.key c.requires.there
           c.requires.free place stands.0 stands.1 d at d' c.file_entry-entry.result.name c.file_entry-entry.result.prime
           c.file_entry-entry.ensures.name
           (c.file_entry-entry.ensures.prime ∙ c.prime_of.ensures u c.requires.there.here) out.items out.map out.blocks
-          (ap (λ v. v.items) out.keys) out.chain c.rename_entry.new.set out.put out.few c.args.protection moved.0
+          (ap (λ v. v.items) out.keys) out.chain c.rename_entry.new.set out.put out.few c.args.moved.protection moved.0
           moved.1 c.args.words.now moved.3 moved.4 m' c.move_version.new.set moved.5 refl refl refl refl moved.2
           c.move_version.ensures.others,
     )

@@ -22,22 +22,22 @@ pub returns-in-Err-clause-no_directory : goal.returns-in-Err-clause-no_directory
 returns-in-Err-clause-no_directory g c = rw (← c.self.view_is) (λ alive.
     let s = g.D.Disk.state c.self.inside.disk in
     let core = core_of c.self.inside.map in
-    no_file_homeless s.size core c.self.invariant.core.whole c.args.ppn c.args.name.now c.args.to_ppn c.args.to.now
-    c.in-Err.error c.in-Err.ensures.none)
+    no_file_homeless s.size core c.self.invariant.core.whole c.args.moved.ppn c.args.moved.name c.args.moved.to_ppn
+    c.args.moved.to c.in-Err.error c.in-Err.ensures.none)
 
 pub returns-in-Err-clause-exists : goal.returns-in-Err-clause-exists
 returns-in-Err-clause-exists g c = rw (← c.self.view_is) (λ alive.
     let s = g.D.Disk.state c.self.inside.disk in
     let core = core_of c.self.inside.map in
-    no_file_exists s.size core c.self.invariant.core.whole c.args.ppn c.args.name.now c.args.to_ppn c.args.to.now
-    c.in-Err.error c.in-Err.ensures.none)
+    no_file_exists s.size core c.self.invariant.core.whole c.args.moved.ppn c.args.moved.name c.args.moved.to_ppn
+    c.args.moved.to c.in-Err.error c.in-Err.ensures.none)
 
 pub returns-in-Err-clause-no_room : goal.returns-in-Err-clause-no_room
 returns-in-Err-clause-no_room g c = rw (← c.self.view_is) (λ alive.
     let s = g.D.Disk.state c.self.inside.disk in
     let core = core_of c.self.inside.map in
-    no_file_no_room s.size core c.self.invariant.core.whole c.args.ppn c.args.name.now c.args.to_ppn c.args.to.now
-    c.in-Err.error c.in-Err.ensures.none)
+    no_file_no_room s.size core c.self.invariant.core.whole c.args.moved.ppn c.args.moved.name c.args.moved.to_ppn
+    c.args.moved.to c.in-Err.error c.in-Err.ensures.none)
 
 pub returns-in-Err-find_target-clause-held : goal.returns-in-Err-find_target-clause-held
 returns-in-Err-find_target-clause-held g c = rw (← c.self.view_is) (λ k v is some. (v.prime, is))
@@ -46,31 +46,31 @@ pub returns-in-Err-find_target-clause-no_directory : goal.returns-in-Err-find_ta
 returns-in-Err-find_target-clause-no_directory g c = rw (← c.self.view_is) (λ alive.
     let s = g.D.Disk.state c.self.inside.disk in
     let core = core_of c.self.inside.map in
-    target_homeless s.size core c.self.invariant.core.whole c.args.ppn c.args.name.now c.args.to_ppn c.args.to.now
-    c.in-Ok.key c.in-Ok.ensures.found c.in-Err-find_target.error c.in-Err-find_target.ensures.only
+    target_homeless s.size core c.self.invariant.core.whole c.args.moved.ppn c.args.moved.name c.args.moved.to_ppn
+    c.args.moved.to c.in-Ok.key c.in-Ok.ensures.found c.in-Err-find_target.error c.in-Err-find_target.ensures.only
     c.in-Err-find_target.ensures.no_directory)
 
 pub returns-in-Err-find_target-clause-not_found : goal.returns-in-Err-find_target-clause-not_found
 returns-in-Err-find_target-clause-not_found g c = rw (← c.self.view_is) (λ alive.
     let s = g.D.Disk.state c.self.inside.disk in
     let core = core_of c.self.inside.map in
-    target_lacking s.size core c.self.invariant.core.whole c.args.ppn c.args.name.now c.args.to_ppn c.args.to.now
-    c.in-Ok.key c.in-Ok.ensures.found c.in-Err-find_target.error c.in-Err-find_target.ensures.only)
+    target_lacking s.size core c.self.invariant.core.whole c.args.moved.ppn c.args.moved.name c.args.moved.to_ppn
+    c.args.moved.to c.in-Ok.key c.in-Ok.ensures.found c.in-Err-find_target.error c.in-Err-find_target.ensures.only)
 
 pub returns-in-Err-find_target-clause-exists : goal.returns-in-Err-find_target-clause-exists
 returns-in-Err-find_target-clause-exists g c = rw (← c.self.view_is) (λ alive.
     let s = g.D.Disk.state c.self.inside.disk in
     let core = core_of c.self.inside.map in
-    target_exists s.size core c.self.invariant.core.whole c.args.ppn c.args.name.now c.args.to_ppn c.args.to.now
-    c.in-Ok.key c.in-Ok.ensures.found c.in-Err-find_target.error c.in-Err-find_target.ensures.only
+    target_exists s.size core c.self.invariant.core.whole c.args.moved.ppn c.args.moved.name c.args.moved.to_ppn
+    c.args.moved.to c.in-Ok.key c.in-Ok.ensures.found c.in-Err-find_target.error c.in-Err-find_target.ensures.only
     c.in-Err-find_target.ensures.exists)
 
 pub returns-in-Err-find_target-clause-no_room : goal.returns-in-Err-find_target-clause-no_room
 returns-in-Err-find_target-clause-no_room g c = rw (← c.self.view_is) (λ alive.
     let s = g.D.Disk.state c.self.inside.disk in
     let core = core_of c.self.inside.map in
-    target_no_room s.size core c.self.invariant.core.whole c.args.ppn c.args.name.now c.args.to_ppn c.args.to.now
-    c.in-Ok.key c.in-Ok.ensures.found c.in-Err-find_target.error c.in-Err-find_target.ensures.only
+    target_no_room s.size core c.self.invariant.core.whole c.args.moved.ppn c.args.moved.name c.args.moved.to_ppn
+    c.args.moved.to c.in-Ok.key c.in-Ok.ensures.found c.in-Err-find_target.error c.in-Err-find_target.ensures.only
     c.in-Err-find_target.ensures.no_room)
 
 pub returns-in_default-clause-held : goal.returns-in_default-clause-held
@@ -80,23 +80,23 @@ pub returns-in_default-clause-not_found : goal.returns-in_default-clause-not_fou
 returns-in_default-clause-not_found g c = rw (← c.self.view_is) (λ alive.
     let s = g.D.Disk.state c.self.inside.disk in
     let core = core_of c.self.inside.map in
-    moved_lacking s.size core c.self.invariant.core.whole c.args.ppn c.args.name.now c.args.to_ppn c.args.to.now
-    c.in-Ok.key c.in-Ok.ensures.found _ memory_plain c.in-Ok-find_target.place)
+    moved_lacking s.size core c.self.invariant.core.whole c.args.moved.ppn c.args.moved.name c.args.moved.to_ppn
+    c.args.moved.to c.in-Ok.key c.in-Ok.ensures.found _ memory_plain c.in-Ok-find_target.place)
 
 pub returns-in_default-clause-exists : goal.returns-in_default-clause-exists
 returns-in_default-clause-exists g c = rw (← c.self.view_is) (λ alive.
     let s = g.D.Disk.state c.self.inside.disk in
     let core = core_of c.self.inside.map in
-    moved_exists s.size core c.self.invariant.core.whole c.args.ppn c.args.name.now c.args.to_ppn c.args.to.now
-    c.in-Ok.key c.in-Ok.ensures.found _ memory_plain c.in-Ok-find_target.place
+    moved_exists s.size core c.self.invariant.core.whole c.args.moved.ppn c.args.moved.name c.args.moved.to_ppn
+    c.args.moved.to c.in-Ok.key c.in-Ok.ensures.found _ memory_plain c.in-Ok-find_target.place
     c.in-Ok-find_target.ensures.exists)
 
 pub returns-in_default-clause-no_room : goal.returns-in_default-clause-no_room
 returns-in_default-clause-no_room g c = rw (← c.self.view_is) (λ alive.
     let s = g.D.Disk.state c.self.inside.disk in
     let core = core_of c.self.inside.map in
-    moved_no_room s.size core c.self.invariant.core.whole c.args.ppn c.args.name.now c.args.to_ppn c.args.to.now
-    c.in-Ok.key c.in-Ok.ensures.found _ memory_plain c.in-Ok-find_target.place
+    moved_no_room s.size core c.self.invariant.core.whole c.args.moved.ppn c.args.moved.name c.args.moved.to_ppn
+    c.args.moved.to c.in-Ok.key c.in-Ok.ensures.found _ memory_plain c.in-Ok-find_target.place
     c.in-Ok-find_target.ensures.no_room)
 
 pub move_across-requires-clause-may_arrive : goal.move_across-requires-clause-may_arrive
@@ -109,8 +109,8 @@ move_across-requires-clause-may_arrive g c =
       free = target.free;
       room = target.room;
       fits = λ d place v stands is.
-          let same = one_place (core_of m).known.master.entries c.in-Ok-find_target.place place c.args.to_ppn found.0 v
-          c.self.invariant.core.whole.map.chain.each_once found.1.is stands.is in
+          let same = one_place (core_of m).known.master.entries c.in-Ok-find_target.place place c.args.moved.to_ppn
+          found.0 v c.self.invariant.core.whole.map.chain.each_once found.1.is stands.is in
           let at = ap (slice_get m.directories.items) same ∙ is in
           (c.in-Ok-find_entry_supplies.ensures.fits d at, c.in-Ok-find_entry_supplies.ensures.roomy d at);
     }
@@ -129,10 +129,10 @@ returns-clause-here g c = rw (← c.self.view_is) (
     let core = core_of c.self.inside.map in
     let new = core_of c.move_across.new.core in
     on_ok c.move_across.result _ _ (λ found.
-    across_here s.size core.known new.known c.args.ppn c.args.name.now c.args.to_ppn
-    c.args.to.now (found.0.at, as_known found.0) _ found.1 found.2 found.3.moved
-    ∙ sym (across_before s.size core.known new.known c.args.ppn c.args.name.now c.args.to_ppn
-    c.args.to.now (found.0.at, as_known found.0) _ found.1 found.2 found.3.moved)) c.move_across.ensures.moved)
+    across_here s.size core.known new.known c.args.moved.ppn c.args.moved.name c.args.moved.to_ppn
+    c.args.moved.to (found.0.at, as_known found.0) _ found.1 found.2 found.3.moved
+    ∙ sym (across_before s.size core.known new.known c.args.moved.ppn c.args.moved.name c.args.moved.to_ppn
+    c.args.moved.to (found.0.at, as_known found.0) _ found.1 found.2 found.3.moved)) c.move_across.ensures.moved)
 
 pub returns-clause-gone : goal.returns-clause-gone
 returns-clause-gone g c =
@@ -140,8 +140,8 @@ returns-clause-gone g c =
     let core = core_of c.self.inside.map in
     let new = core_of c.move_across.new.core in
     on_ok c.move_across.result _ _ (λ found.
-    across_gone s.size core.known new.known c.args.ppn c.args.name.now c.args.to_ppn
-    c.args.to.now (found.0.at, as_known found.0) _ found.1 found.2 found.3.moved)
+    across_gone s.size core.known new.known c.args.moved.ppn c.args.moved.name c.args.moved.to_ppn
+    c.args.moved.to (found.0.at, as_known found.0) _ found.1 found.2 found.3.moved)
     c.move_across.ensures.moved
 
 pub returns-clause-primes : goal.returns-clause-primes
@@ -150,24 +150,24 @@ returns-clause-primes g c = rw (← c.self.view_is) (
     let core = core_of c.self.inside.map in
     let new = core_of c.move_across.new.core in
     on_ok c.move_across.result _ _ (λ found q n differ apart.
-    across_elsewhere s.size core.known new.known c.args.ppn c.args.name.now c.args.to_ppn
-    c.args.to.now (found.0.at, as_known found.0) _ found.1 found.2 found.3.moved q n differ apart)
+    across_elsewhere s.size core.known new.known c.args.moved.ppn c.args.moved.name c.args.moved.to_ppn
+    c.args.moved.to (found.0.at, as_known found.0) _ found.1 found.2 found.3.moved q n differ apart)
     c.move_across.ensures.moved)
 
 pub returns-clause-not_found : goal.returns-clause-not_found
 returns-clause-not_found g c = rw (← c.self.view_is) (λ alive.
     let s = g.D.Disk.state c.self.inside.disk in
     let core = core_of c.self.inside.map in
-    moved_lacking s.size core c.self.invariant.core.whole c.args.ppn c.args.name.now c.args.to_ppn c.args.to.now
-    c.in-Ok.key c.in-Ok.ensures.found c.move_across.result
+    moved_lacking s.size core c.self.invariant.core.whole c.args.moved.ppn c.args.moved.name c.args.moved.to_ppn
+    c.args.moved.to c.in-Ok.key c.in-Ok.ensures.found c.move_across.result
     (not_refused c.move_across.result c.move_across.ensures.only) c.in-Ok-find_target.place)
 
 pub returns-clause-exists : goal.returns-clause-exists
 returns-clause-exists g c = rw (← c.self.view_is) (λ alive.
     let s = g.D.Disk.state c.self.inside.disk in
     let core = core_of c.self.inside.map in
-    moved_exists s.size core c.self.invariant.core.whole c.args.ppn c.args.name.now c.args.to_ppn c.args.to.now
-    c.in-Ok.key c.in-Ok.ensures.found c.move_across.result
+    moved_exists s.size core c.self.invariant.core.whole c.args.moved.ppn c.args.moved.name c.args.moved.to_ppn
+    c.args.moved.to c.in-Ok.key c.in-Ok.ensures.found c.move_across.result
     (not_refused c.move_across.result c.move_across.ensures.only) c.in-Ok-find_target.place
     c.in-Ok-find_target.ensures.exists)
 
@@ -175,8 +175,8 @@ pub returns-clause-no_room : goal.returns-clause-no_room
 returns-clause-no_room g c = rw (← c.self.view_is) (λ alive.
     let s = g.D.Disk.state c.self.inside.disk in
     let core = core_of c.self.inside.map in
-    moved_no_room s.size core c.self.invariant.core.whole c.args.ppn c.args.name.now c.args.to_ppn c.args.to.now
-    c.in-Ok.key c.in-Ok.ensures.found c.move_across.result
+    moved_no_room s.size core c.self.invariant.core.whole c.args.moved.ppn c.args.moved.name c.args.moved.to_ppn
+    c.args.moved.to c.in-Ok.key c.in-Ok.ensures.found c.move_across.result
     (not_refused c.move_across.result c.move_across.ensures.only) c.in-Ok-find_target.place
     c.in-Ok-find_target.ensures.no_room)
 

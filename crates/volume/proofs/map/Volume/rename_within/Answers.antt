@@ -21,37 +21,37 @@ pub returns-in-Err-clause-not_found : goal.returns-in-Err-clause-not_found
 returns-in-Err-clause-not_found g c = rw (← c.self.view_is) (λ alive.
     let s = g.D.Disk.state c.self.inside.disk in
     let core = core_of c.self.inside.map in
-    refused_not_found s.size core c.self.invariant.core.whole c.args.ppn c.args.name.now c.args.to.now c.in-Err.error
-    c.in-Err.ensures.refused)
+    refused_not_found s.size core c.self.invariant.core.whole c.args.moved.ppn c.args.moved.name c.args.moved.to
+    c.in-Err.error c.in-Err.ensures.refused)
 
 pub returns-in-Err-clause-exists : goal.returns-in-Err-clause-exists
 returns-in-Err-clause-exists g c = rw (← c.self.view_is) (λ alive.
     let s = g.D.Disk.state c.self.inside.disk in
     let core = core_of c.self.inside.map in
-    refused_exists s.size core c.self.invariant.core.whole c.args.ppn c.args.name.now c.args.to.now c.in-Err.error
-    c.in-Err.ensures.refused)
+    refused_exists s.size core c.self.invariant.core.whole c.args.moved.ppn c.args.moved.name c.args.moved.to
+    c.in-Err.error c.in-Err.ensures.refused)
 
 pub returns-in-Err-clause-no_directory : goal.returns-in-Err-clause-no_directory
 returns-in-Err-clause-no_directory g c = rw (← c.self.view_is) (λ alive.
     let s = g.D.Disk.state c.self.inside.disk in
     let core = core_of c.self.inside.map in
-    refused_no_directory s.size core c.self.invariant.core.whole c.args.ppn c.args.name.now c.args.to.now c.in-Err.error
-    c.in-Err.ensures.refused)
+    refused_no_directory s.size core c.self.invariant.core.whole c.args.moved.ppn c.args.moved.name c.args.moved.to
+    c.in-Err.error c.in-Err.ensures.refused)
 
 pub returns-in-Err-clause-codes : goal.returns-in-Err-clause-codes
 returns-in-Err-clause-codes g c code is =
     let s = g.D.Disk.state c.self.inside.disk in
     let core = core_of c.self.inside.map in
-    refused_codes s.size core c.self.invariant.core.whole c.args.ppn c.args.name.now c.args.to.now c.in-Err.error
-    c.in-Err.ensures.refused
+    refused_codes s.size core c.self.invariant.core.whole c.args.moved.ppn c.args.moved.name c.args.moved.to
+    c.in-Err.error c.in-Err.ensures.refused
     code is
 
 pub returns-in-Err-clause-memory : goal.returns-in-Err-clause-memory
 returns-in-Err-clause-memory g c is =
     let s = g.D.Disk.state c.self.inside.disk in
     let core = core_of c.self.inside.map in
-    absurd ((refused_plain s.size core c.self.invariant.core.whole c.args.ppn c.args.name.now c.args.to.now c.in-Err.error
-    c.in-Err.ensures.refused).0 is)
+    absurd ((refused_plain s.size core c.self.invariant.core.whole c.args.moved.ppn c.args.moved.name c.args.moved.to
+    c.in-Err.error c.in-Err.ensures.refused).0 is)
 
 pub returns-clause-moved : goal.returns-clause-moved
 returns-clause-moved g c = rw (← c.self.view_is)
@@ -67,10 +67,10 @@ returns-clause-here g c = rw (← c.self.view_is) (
     let core = core_of c.self.inside.map in
     let new = core_of c.move_within.new.map in
     on_ok c.move_within.result _ _ (λ found.
-    moved_here (g.D.Disk.state c.self.inside.disk).size core.known new.known c.args.ppn c.args.name.now c.args.to.now
-    (found.0.at, as_known found.0) _ found.1 found.2 found.3.moved
-    ∙ sym (moved_before (g.D.Disk.state c.self.inside.disk).size core.known new.known c.args.ppn c.args.name.now
-    c.args.to.now
+    moved_here (g.D.Disk.state c.self.inside.disk).size core.known new.known c.args.moved.ppn c.args.moved.name
+    c.args.moved.to (found.0.at, as_known found.0) _ found.1 found.2 found.3.moved
+    ∙ sym (moved_before (g.D.Disk.state c.self.inside.disk).size core.known new.known c.args.moved.ppn c.args.moved.name
+    c.args.moved.to
     (found.0.at, as_known found.0) _ found.1 found.2 found.3.moved)) c.move_within.ensures.moved)
 
 pub returns-clause-gone : goal.returns-clause-gone
@@ -78,8 +78,8 @@ returns-clause-gone g c =
     let core = core_of c.self.inside.map in
     let new = core_of c.move_within.new.map in
     on_ok c.move_within.result _ _ (λ found differ.
-    moved_gone (g.D.Disk.state c.self.inside.disk).size core.known new.known c.args.ppn c.args.name.now c.args.to.now
-    (found.0.at, as_known found.0) _ found.1 found.2 found.3.moved differ)
+    moved_gone (g.D.Disk.state c.self.inside.disk).size core.known new.known c.args.moved.ppn c.args.moved.name
+    c.args.moved.to (found.0.at, as_known found.0) _ found.1 found.2 found.3.moved differ)
     c.move_within.ensures.moved
 
 pub returns-clause-primes : goal.returns-clause-primes
@@ -87,8 +87,8 @@ returns-clause-primes g c = rw (← c.self.view_is) (
     let core = core_of c.self.inside.map in
     let new = core_of c.move_within.new.map in
     on_ok c.move_within.result _ _ (λ found q n differ apart.
-    moved_elsewhere (g.D.Disk.state c.self.inside.disk).size core.known new.known c.args.ppn c.args.name.now
-    c.args.to.now
+    moved_elsewhere (g.D.Disk.state c.self.inside.disk).size core.known new.known c.args.moved.ppn c.args.moved.name
+    c.args.moved.to
     (found.0.at, as_known found.0) _ found.1 found.2 found.3.moved q n differ apart)
     c.move_within.ensures.moved)
 
@@ -97,7 +97,7 @@ returns-clause-not_found g c = rw (← c.self.view_is) (λ alive.
     let s = g.D.Disk.state c.self.inside.disk in
     let core = core_of c.self.inside.map in (
       λ is. absurd (not_refused c.move_within.result c.move_within.ensures.only NotFound is),
-      λ lacks. absurd (key_there s.size core c.self.invariant.core.whole c.args.ppn c.args.name.now c.in-Ok.key
+      λ lacks. absurd (key_there s.size core c.self.invariant.core.whole c.args.moved.ppn c.args.moved.name c.in-Ok.key
           c.in-Ok.ensures.found lacks),
     ))
 
