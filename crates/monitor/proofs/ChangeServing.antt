@@ -1,6 +1,6 @@
 -- A call that asks the volume for a change of the files: what it promises, from what the volume says of the change and
 -- what the machine does.
-use Rattle.std.proofs.Common.{◌≡◌, ◌⊎◌, ℕ, Bool, true, false, List, Option, Some, Result, Ok, Err, refl, sym, ap, subst}
+use Rattle.std.proofs.Common.{◌≡◌, ℕ, Bool, false, List, Option, Some, Result, Ok, Err, refl, sym, ap, subst}
 use Rattle.std.specs.Prelude.{not}
 use Rattle.std.proofs.Common.{◌∙◌, inl, inr, ⊎_elim, slice_set, IsErrOf}
 use Rattle.words36.specs.declared.moment.Moment.{Moment}
@@ -21,7 +21,7 @@ use Rattle.meaning.proofs.SlotLaws.{slot-set_other, set-slot}
 use Rattle.meaning.specs.Sound.{IsSound}
 use Rattle.volume.specs.Edits.{ChangesFiles, DeviceAnswer}
 use Rattle.volume.specs.Live.{VolumeCore}
-use Rattle.volume.specs.Rest.{RestsAt, StandsForOneOf}
+use Rattle.volume.specs.Rest.{StandsForOneOf}
 use Rattle.volume.specs.declared.error.CallError.{CallError}
 use Rattle.volume.specs.declared.error.CallError.TheVariants.{Device, Failed}
 use Rattle.monitor.specs.Calls.{IsLight, KeepsCore}

@@ -1,32 +1,22 @@
 -- What MakeDir keeps, and what the other calls that change a directory take from it.
-use Rattle.std.proofs.Common.{◌≡◌, ◌↔◌, ◌⊎◌, ℕ, Bool, true, false, List, [], ◌∷◌, ◌++◌, map, flat_map, cond, Option}
-use Rattle.std.proofs.Common.{None, Some, refl, sym, ap, subst, ◌∙◌, inl, inr}
-use Rattle.std.specs.Prelude.{is_some, option_map, IsTrue}
+use Rattle.std.proofs.Common.{◌≡◌, ℕ, true, List, [], ◌∷◌, ◌++◌, map, flat_map, cond, Option}
+use Rattle.std.proofs.Common.{None, Some, refl, sym, ap, subst, ◌∙◌, inr}
+use Rattle.std.specs.Prelude.{is_some, option_map}
 use Rattle.std.specs.Cmp.{nat_cmp_total}
 use Rattle.std.specs.FinMap.Entries.{find, put, by_order}
 use Rattle.std.specs.Ordering.{nat_cmp, is_eq}
 use Rattle.std.specs.declared.cmp.Ordering.TheVariants.{Less, Equal, Greater}
-use Rattle.words36.specs.declared.moment.Moment.{Moment}
-use Rattle.blockdisk.specs.Disk.{Contents, DiskState, MayLeave}
-use Rattle.blockdisk.specs.Laws.{leaves_start}
-use Rattle.changeset.specs.Rest.{rest_settles}
+use Rattle.blockdisk.specs.Disk.{DiskState}
 use Rattle.meaning.specs.Files.{Files, Directory, map_directory, name_cmp}
-use Rattle.meaning.specs.Layouts.{pack_of, SettledStandsOn, StandsOn}
 use Rattle.meaning.specs.Maps.{entries, values, get, insert, empty}
 use Rattle.meaning.specs.Published.{Version, without_serials}
 use Rattle.meaning.specs.Stands.{StoredDirectory, directory_of, entry_of}
-use Rattle.meaning.specs.Step.{step}
-use Rattle.meaning.specs.declared.call.Call.{Call}
-use Rattle.meaning.specs.declared.call.Event.TheVariants.{Call as Calls}
-use Rattle.meaning.specs.declared.call.Reply.{Reply}
-use Rattle.meaning.specs.declared.call.Reply.TheVariants.{Device}
 use Rattle.meaning.proofs.MapLaws.{some_none, entries-insert, entries-empty, get-entries}
 use Rattle.meaning.proofs.MapLists.{get-map_values, get-from_entries}
 use Rattle.volume.specs.Live.{VolumeCore}
 use Rattle.volume.specs.declared.pending.PendingVersion.{PendingVersion}
 use Rattle.volume.proofs.Answering.{Holds, directory_none}
 use Rattle.monitor.specs.DirectoryRows.{IsAbsent}
-use Rattle.monitor.specs.Events.{CallCrashes}
 use Rattle.monitor.specs.Rows.{KeepsSides}
 use Rattle.monitor.specs.declared.job.Job.{Job}
 use Rattle.monitor.proofs.Growths.{shown_at}
@@ -36,21 +26,6 @@ pub keeps_core : (pending pending' : List (Option PendingVersion)) (job : Job) (
     → KeepsSides pending pending' job (record job { core = core })
 keeps_core pending pending' job core same = subst (λ ps. KeepsSides pending ps job (record job { core = core }))
     (sym same) (record { once = λ key. refl; known = λ key p at. inr (p, at, refl); each = λ all. all })
-
--- Where the disk isn't touched, a crash leaves the files from before.
-pub idle_crashes : (d : DiskState) (c : VolumeCore) (jobs : List (Option Job)) (n : ℕ) (call : Call) (moment : Moment)
-    → (d.honest → (x : Contents) → d.left_since d.clock x → MayLeave d x) → CallCrashes d d c jobs n call moment
-idle_crashes d c jobs n call moment only_now honest s state =
-    leaves_start d (λ contents. StandsOn (pack_of d) contents (without_serials s.files)
-    ⊎ ((serial : ℕ) × StandsOn (pack_of d) contents
-    (without_serials ((step (pack_of d) serial s (Calls n call moment)).1.files)))) (only_now honest)
-    (λ x left. inl (rest_settles d (λ y. SettledStandsOn (pack_of d) y (without_serials s.files)) state.files x left))
-
--- it failed just where the device did
-pub not_failed : (failed' : Bool) (reply : Reply) → IsTrue failed' ↔ (reply ≡ Device) → (reply ≡ Device → ⊥)
-    → failed' ≡ false
-not_failed false reply exact not_device = refl
-not_failed true reply exact not_device = absurd (not_device (exact.0 refl))
 
 -- The files with one directory more, which has none.
 

@@ -1,20 +1,20 @@
 -- Quota is answered as the machine answers it.
-use Rattle.std.proofs.Common.{◌≡◌, ℕ, Bool, true, false, if◌then◌else◌, not, List, Option, None, Some, refl, sym, ap, subst}
+use Rattle.std.proofs.Common.{◌≡◌, ℕ, Bool, true, false, if◌then◌else◌, not, List, Option, None, Some, refl, sym, ap}
 use Rattle.std.proofs.Common.{◌∙◌}
 use Rattle.std.proofs.Common.{inl, inr}
 use Rattle.std.specs.Prelude.{◌==◌, is_none, option_map}
-use Rattle.blockdisk.specs.Disk.{DiskState, LeavesOnly}
+use Rattle.blockdisk.specs.Disk.{DiskState}
 use Rattle.meaning.specs.Cores.{lies_outside}
-use Rattle.meaning.specs.Files.{File, Files, Directory, map_directory}
+use Rattle.meaning.specs.Files.{Files, Directory, map_directory}
 use Rattle.meaning.specs.Jobs.{State}
 use Rattle.meaning.specs.Layouts.{pack_of}
-use Rattle.meaning.specs.Making.{limit_answer, files_limited}
+use Rattle.meaning.specs.Making.{limit_answer}
 use Rattle.meaning.specs.Maps.{get}
 use Rattle.meaning.specs.Published.{Version, without_serials}
 use Rattle.meaning.specs.Rights.{system}
 use Rattle.meaning.specs.declared.call.Reply.{Reply}
 use Rattle.meaning.specs.declared.call.Reply.TheVariants.{Done, Refused, AddressCheck}
-use Rattle.volume.specs.Rest.{RestsAt, StandsForOneOf}
+use Rattle.volume.specs.Rest.{RestsAt}
 use Rattle.monitor.specs.DeleteDirRows.{IsNowhere, IsThere}
 use Rattle.monitor.specs.QuotaRows.{IsDenied, IsLimitable}
 use Rattle.monitor.specs.Sides.{UnderKeys, job_of, state_of}

@@ -3,18 +3,11 @@ use Rattle.std.specs.Prelude.{◌≡◌, ◌⊎◌, ℕ, ◌+◌, ◌==◌, List
 use Rattle.words36.specs.Words.{left}
 use Rattle.blockdisk.specs.Disk.{DiskState}
 use Rattle.meaning.specs.Charges.{charge}
-use Rattle.meaning.specs.Cores.{lies_outside}
 use Rattle.meaning.specs.Jobs.{State}
 use Rattle.meaning.specs.Maps.{get}
 use Rattle.meaning.specs.Rights.{system}
-use Rattle.meaning.specs.declared.call.Reply.{Reply}
-use Rattle.meaning.specs.declared.call.Reply.TheVariants.{Done, Value, Refused, Stopped, NoChannel, AddressCheck, NoJob}
-use Rattle.meaning.specs.declared.call.Reply.TheVariants.{NoMemory, Device, Failed, DateRange}
 use Rattle.volume.specs.declared.charge.Charge.{Charge}
 use Rattle.monitor.specs.DeleteDirRows.{IsNowhere, IsThere}
-use Rattle.monitor.specs.DirectoryRows.{asked_owner}
-use Rattle.monitor.specs.Refusals.{with_code}
-use Rattle.monitor.specs.declared.job.Job.{Job}
 
 -- what a directory is charged for, and its quota
 abbrev pub charge_told : State → ℕ → Option Charge

@@ -9,10 +9,10 @@ use Rattle.meaning.specs.Making.{files_limited}
 use Rattle.meaning.specs.declared.code.ErrorCode.TheVariants.{NoDirectory}
 use Rattle.volume.specs.Edits.{ChangesFiles}
 use Rattle.volume.specs.Rest.{IsSoundCore}
-use Rattle.monitor.specs.DeleteDirRows.{IsNowhere, IsThere}
+use Rattle.monitor.specs.DeleteDirRows.{IsNowhere}
 use Rattle.monitor.specs.DirectoryRows.{asked_owner}
 use Rattle.monitor.specs.QuotaRows.{IsDenied, IsLimitable, asked_quota}
-use Rattle.monitor.proofs.DeleteDirs.{nowhere_numbered, nowhere_known, there_by}
+use Rattle.monitor.proofs.DeleteDirs.{nowhere_numbered, nowhere_known}
 use Rattle.monitor.proofs.QuotaServing.{checked_serves, denied_serves, limit_broken, limit_done}
 use Rattle.monitor.proofs.quota.serve_quota.Goals as goal
 
