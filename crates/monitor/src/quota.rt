@@ -12,8 +12,8 @@ use meaning::{ErrorCode, Reply};
 use volume::{CallError, Layout, Volume};
 use words36::Ppn;
 
-/// Quota: gives a directory the quota that the left half of the second of the two words at an address has, whose it is by
-/// the first. It is refused in a layout without quotas, then where there is no such directory, then to anybody but
+/// Quota: gives a directory the quota that the left half of the second of the two words at an address has, whose it is
+/// by the first. It is refused in a layout without quotas, then where there is no such directory, then to anybody but
 /// [1,2]. Its row is `limits`.
 pub fn serve_quota<D: Disk>(volume: &mut Volume<D>, job: &mut Job, address: u32) -> Reply
     requires ready { IsCallReady (D.state volume.old.disk) volume.old.core volume.old.failed job.old }

@@ -28,7 +28,8 @@ use Rattle.volume.specs.declared.error.CallError.TheVariants.{Device}
 use Rattle.volume.proofs.HomesKept.{homes_start, homes_modified, homes_written, homes_stay, past_homes, clear_past}
 use Rattle.volume.proofs.KeptBlocks.{IsKept, read_kept, written_kept}
 use Rattle.volume.proofs.LiveBodies.{HaveBodies, body_stays}
-use Rattle.volume.proofs.MakingDirectories.{err_of, files_are, crash_for, rest_for, sound_for, sound_failed, whole_fixed}
+use Rattle.volume.proofs.MakingDirectories.{err_of, files_are, crash_for, rest_for, sound_for, sound_failed}
+use Rattle.volume.proofs.MakingDirectories.{whole_fixed}
 use Rattle.volume.proofs.MakingHeld.{ignores_log}
 use Rattle.volume.proofs.Packs.{pack_held}
 use Rattle.volume.proofs.Publications.{quiet_leaves_either, unchanged_leaves}
@@ -190,7 +191,8 @@ module _ {s mid : DiskState} {c : VolumeCore} {Quiet : ℕ → Type 0} {alive : 
           (files_are s c.known now.map f now.rest rests) (names f rests) led.3
           (transaction_leaves Quiet puts s mid s' (IsHeld s.size c.known now.map) (IsHeld s.size c'.known led.0)
           (ignores_clear s.size c.known now.map Quiet sound.whole.map.aligned (λ n is. (free n is).clear))
-          (λ is. let none = (free 3 is).clear in let set = gate in omega arith) (ignores_log s.size c.known now.map sound.whole.map.aligned) ignores_new
+          (λ is. let none = (free 3 is).clear in let set = gate in omega arith)
+          (ignores_log s.size c.known now.map sound.whole.map.aligned) ignores_new
           same.size now.rest (only_now h) (written m) led.1 (committed.crash h' (mid_rest h (written m)).shut))
 
       -- and at Ok the latter

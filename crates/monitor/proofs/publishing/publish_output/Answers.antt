@@ -65,7 +65,8 @@ returns-in-Err-clause-answered g c =
     (λ lacks. other ((c.publish.ensures.room c.requires.serves p at).1 lacks))
     (λ barred. both_ways c.is_barred.result c.if-is_barred.false ((c.is_barred.ensures p at).1 barred)))
     c.publish.ensures.codes c.publish.ensures.given_up c.publish.ensures.answer.device
-    c.publish.ensures.answer.ended c.publish.ensures.answer.counted c.in-Err.error c.unpublished_by.result c.in-Err.is c.unpublished_by.ensures
+    c.publish.ensures.answer.ended c.publish.ensures.answer.counted c.in-Err.error c.unpublished_by.result c.in-Err.is
+    c.unpublished_by.ensures
 
 pub returns-then-is_barred-clause-answered : goal.returns-then-is_barred-clause-answered
 returns-then-is_barred-clause-answered g c =

@@ -84,8 +84,10 @@ returns-then-not-is_system-clause-serving g c =
     denied_serves g.D.Disk.state g.met.D.Disk.only_now volume.disk volume.core volume.failed job c.requires.ready layout
     (λ h. ap layout_number (sym c.layout-layout.ensures.value) ∙ c.layout-layout.ensures.disk h c.requires.ready.alive)
     c.args.address 2 (sym c.lies_outside.ensures.value ∙ c.if-lies_outside.false) why volume.disk volume.core
-    volume.failed (refl, refl, refl) (record job { core = c.refuse-then-not-is_system.new.core }) c.refuse-then-not-is_system.result
-    (ap (λ core. record job { core = core }) c.refuse-then-not-is_system.ensures.kept) c.refuse-then-not-is_system.ensures.answered
+    volume.failed (refl, refl, refl) (record job { core = c.refuse-then-not-is_system.new.core })
+    c.refuse-then-not-is_system.result
+    (ap (λ core. record job { core = core }) c.refuse-then-not-is_system.ensures.kept)
+    c.refuse-then-not-is_system.ensures.answered
 
 pub returns-in-Err-Refused-clause-serving : goal.returns-in-Err-Refused-clause-serving
 returns-in-Err-Refused-clause-serving g c =
@@ -106,9 +108,12 @@ returns-in-Err-Refused-clause-serving g c =
     let why : IsDenied d layout job.ppn owner (number_of code) = inr (inl (ap number_of is, two, nowhere)) in
     denied_serves g.D.Disk.state g.met.D.Disk.only_now volume.disk volume.core volume.failed job c.requires.ready layout
     (λ h. ap layout_number (sym c.layout-layout.ensures.value) ∙ c.layout-layout.ensures.disk h c.requires.ready.alive)
-    c.args.address (number_of code) (sym c.lies_outside.ensures.value ∙ c.if-lies_outside.false) why c.set_quota.new.self.disk c.set_quota.new.self.core
-    c.set_quota.new.self.failed same (record job { core = c.refuse-in-Err-Refused.new.core }) c.refuse-in-Err-Refused.result
-    (ap (λ core. record job { core = core }) c.refuse-in-Err-Refused.ensures.kept) c.refuse-in-Err-Refused.ensures.answered
+    c.args.address (number_of code) (sym c.lies_outside.ensures.value ∙ c.if-lies_outside.false) why
+    c.set_quota.new.self.disk c.set_quota.new.self.core
+    c.set_quota.new.self.failed same (record job { core = c.refuse-in-Err-Refused.new.core })
+    c.refuse-in-Err-Refused.result
+    (ap (λ core. record job { core = core }) c.refuse-in-Err-Refused.ensures.kept)
+    c.refuse-in-Err-Refused.ensures.answered
 
 pub returns-in-Ok-clause-serving : goal.returns-in-Ok-clause-serving
 returns-in-Ok-clause-serving g c =

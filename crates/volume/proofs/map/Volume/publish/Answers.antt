@@ -175,7 +175,8 @@ returns-in-Err-clause-homes g c = rw (← c.self.view_is) (record {
 
 pub returns-in-Ok-put-clause-whole : goal.returns-in-Ok-put-clause-whole
 returns-in-Ok-put-clause-whole g c = rw (← c.self.view_is) (λ h some p there.
-    ok_anyway c.publish_written.result _ (c.in-Ok-put.ensures.whole (c.publish_written.ensures.answer.same.was_honest h) some p
+    ok_anyway c.publish_written.result _
+    (c.in-Ok-put.ensures.whole (c.publish_written.ensures.answer.same.was_honest h) some p
     (ap (λ (x : VolumeCore). pending_at x.pending c.args.pending.key) c.find_supplies.ensures.core ∙ there)))
 
 -- The layout stays.
