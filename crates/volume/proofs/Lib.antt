@@ -116,3 +116,5 @@ pub mod SetQuotaEntries
 pub mod SetQuotaCore
 pub mod SetQuotaLaw
 pub mod SetQuotaTransactions
+pub mod Reordered
+pub mod ReadTurns

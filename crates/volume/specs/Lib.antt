@@ -28,3 +28,4 @@ pub mod Quotas
 pub mod Migrating
 pub mod Charging
 pub mod Edits
+pub mod Turns

@@ -105,6 +105,7 @@ mod set_quota;
 mod start;
 mod supplies;
 mod transaction;
+mod turns;
 mod words;
 
 pub use charge::Charge;

@@ -1,4 +1,4 @@
-ghost use Rattle.std.specs.Prelude.{◌≡◌, ◌+◌, ℕ, map, length, IfOk, OnOk, IfErr, IsErrOf};
+ghost use Rattle.std.specs.Prelude.{◌≡◌, ◌+◌, ◌∷◌, ◌++◌, [], ℕ, map, length, IfOk, OnOk, IfErr, IsErrOf};
 ghost use Rattle.std.specs.List.{AllByRecursion};
 ghost use Rattle.blockdisk.specs.Disk.{Keeps, SameDisk, one_more};
 ghost use Rattle.meaning.specs.Blocks.{head_or_zero};
@@ -20,11 +20,13 @@ ghost use Rattle.volume.specs.Found.{IsOnlySpace, IsAdded, IsMarkedFile, AreFile
 ghost use Rattle.volume.specs.Found.{AreDirectoriesRead};
 ghost use Rattle.volume.specs.FaultsFound.{NamesInSpace, IsFaultOfFile, IsFaultOfFiles, IsFaultOfDirectory};
 ghost use Rattle.volume.specs.FaultsFound.{IsFaultOfDirectories};
+ghost use Rattle.volume.specs.Turns.{turn_view, placed_known};
 ghost use Rattle.volume.specs.declared.error.VolumeError.TheVariants.{Device};
 
 use crate::VolumeError;
 use crate::files::{StoredVersion, read_file};
 use crate::map::StoredDirectory;
+use crate::turns::{PlacedVersion, Turn, by_place, rising_turns};
 use alloctab::Reached;
 use blockdisk::Disk;
 use directory::{Chain, FileEntry, MasterEntry};
@@ -74,34 +76,36 @@ fn load_files<D: Disk>(
     }
 }
 
-/// Reads the file of an entry in a layout, and puts its version behind the others.
+/// Reads the file whose turn it is in a layout, and puts its version behind the others.
 fn add_file<D: Disk>(
     alloc: Global,
     disk: &mut D,
     layout: Layout,
     ppn: Ppn,
-    entry: &FileEntry,
+    turn: &Turn,
     reached: &mut Reached,
-    versions: &mut Vec<StoredVersion>,
+    read: &mut Vec<PlacedVersion>,
 ) -> Result<(), VolumeError>
     // What the caller sees to.
     requires volume { IsVolumeSize (D.state disk.old).size }
-    requires inside { InSpace (D.state disk.old).size entry.now.prime }
+    requires inside { InSpace (D.state disk.old).size turn.now.entry.prime }
     requires marks { length reached.old ≡ (D.state disk.old).size }
     // What was read, or met where it is refused.
     ensures read { (D.state disk.new).honest
-        → OnOk result (IsAdded known_version versions.old.items versions.new.items
-        (IsMarkedFile (layout_number layout) (D.state disk.old).contents ppn (file_view entry.now)
+        → OnOk result (IsAdded placed_known read.old.items read.new.items
+        (IsMarkedFile (layout_number layout) (D.state disk.old).contents ppn (turn_view turn.now)
         (digit_at reached.old) (digit_at reached.new))) }
-    ensures marked { OnOk result (IsAdded known_version versions.old.items versions.new.items (λ v. (n : ℕ)
-        → digit_at reached.new n ≡ digit_at reached.old n + times n (blocks_reached entry.now.prime v.version))) }
+    ensures marked { OnOk result (IsAdded placed_known read.old.items read.new.items (λ v. (n : ℕ)
+        → digit_at reached.new n ≡ digit_at reached.old n + times n (blocks_reached turn.now.entry.prime v.version))) }
     ensures fault { (D.state disk.new).honest
         → IfErr result (IsFaultOfFile (D.state disk.old).size (layout_number layout) (D.state disk.old).contents
-        reached.old (place_of ppn entry.now.name) entry.now.prime) }
+        reached.old (place_of ppn turn.now.entry.name) turn.now.entry.prime) }
     ensures named { IfErr result (NamesInSpace (D.state disk.old).size) }
     // It is as a map has to be.
-    ensures whole { OnOk result (IsAdded known_version versions.old.items versions.new.items IsWholeVersion) }
-    ensures aligned { OnOk result (length versions.new.items ≡ length versions.old.items + 1) }
+    ensures whole { OnOk result (IsAdded placed_known read.old.items read.new.items IsWholeVersion) }
+    ensures aligned { OnOk result (length read.new.items ≡ length read.old.items + 1) }
+    ensures placed { OnOk result (map (λ p. p.place) read.new.items
+        ≡ map (λ p. p.place) read.old.items ++ turn.now.place ∷ []) }
     ensures space { IsOnlySpace (D.state disk.old).size reached.old
         → OnOk result (IsOnlySpace (D.state disk.old).size reached.new) }
     // The device: what failed, and how often.
@@ -111,14 +115,60 @@ fn add_file<D: Disk>(
     ensures failed { IsErrOf result Device → (D.state disk.new).failures ≡ one_more (D.state disk.old).failures }
     ensures served { (IsErrOf result Device → ⊥) → (D.state disk.new).failures ≡ (D.state disk.old).failures }
 {
-    let version = read_file(alloc, disk, layout, ppn, entry.name, entry.prime, reached)?;
-    if versions.push(version).is_err() {
+    let entry = turn.entry;
+    let stored = read_file(alloc, disk, layout, ppn, entry.name, entry.prime, reached)?;
+    let place = turn.place;
+    if read.push(PlacedVersion { place, stored }).is_err() {
         return Err(VolumeError::NoMemory);
     }
     Ok(())
 }
 
-/// Reads the files of these entries of a directory in a layout, in their order.
+/// Reads the files of entries of a directory in a layout, each in its turn.
+fn read_turns<D: Disk>(
+    alloc: Global,
+    disk: &mut D,
+    layout: Layout,
+    ppn: Ppn,
+    turns: &[Turn],
+    reached: &mut Reached,
+) -> Result<Vec<PlacedVersion>, VolumeError>
+    // What the caller sees to.
+    requires volume { IsVolumeSize (D.state disk.old).size }
+    requires inside { AllByRecursion (λ e. InSpace (D.state disk.old).size e.1) (map turn_view turns.now) }
+    requires once { EachOnce name_cmp (map turn_view turns.now) }
+    requires marks { length reached.old ≡ (D.state disk.old).size }
+    // What was read, or met where it is refused.
+    ensures read { (D.state disk.new).honest
+        → IfOk result (λ read. AreFilesRead (layout_number layout) (D.state disk.old).contents ppn (map turn_view
+        turns.now) (map placed_known read.items) (digit_at reached.old) (digit_at reached.new)) }
+    ensures marked { IfOk result (λ read. (n : ℕ) → digit_at reached.new n ≡ digit_at reached.old n
+        + reaches_in_entries n (map turn_view turns.now) (map placed_known read.items)) }
+    ensures fault { (D.state disk.new).honest
+        → IfErr result (IsFaultOfFiles (D.state disk.old).size (layout_number layout) (D.state disk.old).contents
+        (digit_at reached.old) ppn (map turn_view turns.now)) }
+    ensures named { IfErr result (NamesInSpace (D.state disk.old).size) }
+    // It is as a map has to be.
+    ensures whole { IfOk result (λ read. AllByRecursion IsWholeVersion (map placed_known read.items)) }
+    ensures placed { IfOk result (λ read. map (λ p. p.place) read.items ≡ map (λ t. t.place) turns.now) }
+    ensures space { IsOnlySpace (D.state disk.old).size reached.old
+        → IfOk result (λ read. IsOnlySpace (D.state disk.old).size reached.new) }
+    // The device: what failed, and how often.
+    ensures length { length reached.new ≡ length reached.old }
+    ensures keeps { (D.state disk.new).honest → Keeps (D.state disk.old) (D.state disk.new) }
+    ensures same { SameDisk (D.state disk.old) (D.state disk.new) }
+    ensures failed { IsErrOf result Device → (D.state disk.new).failures ≡ one_more (D.state disk.old).failures }
+    ensures served { (IsErrOf result Device → ⊥) → (D.state disk.new).failures ≡ (D.state disk.old).failures }
+{
+    let mut read = Vec::new(alloc);
+    for turn in turns {
+        add_file(alloc, disk, layout, ppn, turn, reached, &mut read)?;
+    }
+    Ok(read)
+}
+
+/// Reads the files of these entries of a directory in a layout. They are read by rising prime blocks, and their versions
+/// stand in the order of the entries.
 fn read_files<D: Disk>(
     alloc: Global,
     disk: &mut D,
@@ -154,10 +204,9 @@ fn read_files<D: Disk>(
     ensures failed { IsErrOf result Device → (D.state disk.new).failures ≡ one_more (D.state disk.old).failures }
     ensures served { (IsErrOf result Device → ⊥) → (D.state disk.new).failures ≡ (D.state disk.old).failures }
 {
-    let mut versions = Vec::new(alloc);
-    for entry in entries {
-        add_file(alloc, disk, layout, ppn, entry, reached, &mut versions)?;
-    }
+    let turns = rising_turns(alloc, entries)?;
+    let read = read_turns(alloc, disk, layout, ppn, &turns, reached)?;
+    let versions = by_place(alloc, read)?;
     Ok(versions)
 }
 

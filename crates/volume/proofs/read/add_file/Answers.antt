@@ -8,54 +8,54 @@ use Rattle.volume.proofs.FoundDirectories.{space_more, all_behind_all}
 use Rattle.volume.proofs.Handing.{handed, file_met_by}
 use Rattle.volume.proofs.read.add_file.Goals as goal
 
-pub returns-in_err-version-clause-fault : goal.returns-in_err-version-clause-fault
-returns-in_err-version-clause-fault g c h =
+pub returns-in_err-stored-clause-fault : goal.returns-in_err-stored-clause-fault
+returns-in_err-stored-clause-fault g c h =
     let s = g.D.Disk.state c.args.disk.now in
     let p = err_from_is_err_and c.from_residual.result c.from_residual.ensures.1 in
-    let place = place_of c.args.ppn c.args.entry.now.name in
-    handed (IsFaultOfFile s.size (layout_number c.args.layout) s.contents c.args.reached.now place c.args.entry.now.prime) c.from_residual.result
-    c.read_file.result p.0 c.in_err-version.field-0.0 p.1 p.2 c.in_err-version.was
-    (file_met_by s.size (layout_number c.args.layout) s.contents c.args.reached.now place c.args.entry.now.prime c.read_file.result
+    let place = place_of c.args.ppn c.args.turn.now.entry.name in
+    handed (IsFaultOfFile s.size (layout_number c.args.layout) s.contents c.args.reached.now place c.args.turn.now.entry.prime) c.from_residual.result
+    c.read_file.result p.0 c.in_err-stored.field-0.0 p.1 p.2 c.in_err-stored.was
+    (file_met_by s.size (layout_number c.args.layout) s.contents c.args.reached.now place c.args.turn.now.entry.prime c.read_file.result
     c.read_file.ensures.only (c.read_file.ensures.bad_version h) (c.read_file.ensures.twice h)
     (c.read_file.ensures.bad_data h))
 
 pub returns-clause-read : goal.returns-clause-read
 returns-clause-read g c h = record {
-  added = c.in_ok-version.version;
+  added = record { place = c.args.turn.now.place; stored = c.in_ok-stored.stored };
   pushed = search rules;
-  is = record { found = c.in_ok-version.ensures.ok h; marked = c.in_ok-version.ensures.marks };
+  is = record { found = c.in_ok-stored.ensures.ok h; marked = c.in_ok-stored.ensures.marks };
 }
 
 pub returns-clause-whole : goal.returns-clause-whole
 returns-clause-whole g c = record {
-  added = c.in_ok-version.version;
+  added = record { place = c.args.turn.now.place; stored = c.in_ok-stored.stored };
   pushed = search rules;
   is = record {
-    counted = c.in_ok-version.ensures.counted;
-    few = c.in_ok-version.ensures.few;
-    few_ribs = c.in_ok-version.ensures.few_ribs;
+    counted = c.in_ok-stored.ensures.counted;
+    few = c.in_ok-stored.ensures.few;
+    few_ribs = c.in_ok-stored.ensures.few_ribs;
   };
 }
 
 pub returns-clause-space : goal.returns-clause-space
 returns-clause-space g c only =
     let s = g.D.Disk.state c.args.disk.now in
-    let v = c.in_ok-version.version.version in
-    space_more s.size c.args.reached.now c.read_file.new.reached (c.args.entry.now.prime ∷ (v.ribs ++ v.blocks)) only (
+    let v = c.in_ok-stored.stored.version in
+    space_more s.size c.args.reached.now c.read_file.new.reached (c.args.turn.now.entry.prime ∷ (v.ribs ++ v.blocks)) only (
       c.requires.inside,
-      all_behind_all (InSpace s.size) v.ribs v.blocks c.in_ok-version.ensures.ribs_inside
-          c.in_ok-version.ensures.blocks_inside,
-    ) c.in_ok-version.ensures.marks
+      all_behind_all (InSpace s.size) v.ribs v.blocks c.in_ok-stored.ensures.ribs_inside
+          c.in_ok-stored.ensures.blocks_inside,
+    ) c.in_ok-stored.ensures.marks
 
 pub returns-clause-marked : goal.returns-clause-marked
 returns-clause-marked g c = record {
-  added = c.in_ok-version.version;
+  added = record { place = c.args.turn.now.place; stored = c.in_ok-stored.stored };
   pushed = search rules;
-  is = c.in_ok-version.ensures.marks;
+  is = c.in_ok-stored.ensures.marks;
 }
 
-pub returns-in_err-version-clause-named : goal.returns-in_err-version-clause-named
-returns-in_err-version-clause-named g c =
+pub returns-in_err-stored-clause-named : goal.returns-in_err-stored-clause-named
+returns-in_err-stored-clause-named g c =
     let p = err_from_is_err_and c.from_residual.result c.from_residual.ensures.1 in
     handed (NamesInSpace (g.D.Disk.state c.args.disk.now).size) c.from_residual.result c.read_file.result
-    p.0 c.in_err-version.field-0.0 p.1 p.2 c.in_err-version.was c.read_file.ensures.named
+    p.0 c.in_err-stored.field-0.0 p.1 p.2 c.in_err-stored.was c.read_file.ensures.named

@@ -1,104 +1,90 @@
-use Rattle.std.proofs.Common.{◌+◌, ℕ, map, take, drop, sym, ap, subst, ◌∙◌}
+use Rattle.std.proofs.Common.{◌+◌, List, map, ap, subst, sym, ◌∙◌}
 use Rattle.std.proofs.lemmas.Result.{err_from_is_err_and}
-use Rattle.blockdisk.specs.Laws.{same_contents, same_disk_on}
-use Rattle.meaning.specs.Layouts.{layout_number}
-use Rattle.meaning.specs.Stands.{place_of}
-use Rattle.meaning.specs.Faults.{InSpace}
-use Rattle.meaning.specs.Directories.{FileEntry}
+use Rattle.std.specs.List.{AllByRecursion}
 use Rattle.alloctab.specs.Lists.{digit_at}
-use Rattle.blockdisk.specs.Laws.{keeps_on}
-use Rattle.volume.specs.Cores.{file_view, known_version}
-use Rattle.volume.specs.FaultsFound.{NamesInSpace, IsFaultOfFile, IsFaultOfFiles}
-use Rattle.volume.specs.declared.error.VolumeError.TheVariants.{Device}
-use Rattle.volume.proofs.Handing.{handed, handed_back, found_on, named_on}
-use Rattle.volume.proofs.Lookups.{viewed_at, viewed_split}
-use Rattle.volume.specs.Known.{IsWholeVersion}
-use Rattle.volume.specs.Found.{IsOnlySpace}
-use Rattle.volume.proofs.FoundDirectories.{all_added}
-use Rattle.volume.proofs.Reaching.{entries_marked}
-use Rattle.volume.proofs.FoundFiles.{file_fault, files_go_on}
+use Rattle.meaning.specs.Directories.{FileEntry}
+use Rattle.meaning.specs.Faults.{InSpace}
+use Rattle.meaning.specs.Files.{name_cmp}
+use Rattle.meaning.specs.Layouts.{layout_number}
+use Rattle.meaning.specs.Maps.{EachOnce}
+use Rattle.meaning.proofs.Names.{name_exact, name_total}
+use Rattle.volume.specs.declared.turns.Turn.{Turn}
+use Rattle.volume.specs.Cores.{file_view}
+use Rattle.volume.specs.Turns.{turn_view, placed_known}
+use Rattle.volume.specs.Known.{IsWholeVersion, reaches_in_entries}
+use Rattle.volume.specs.Found.{AreFilesRead}
+use Rattle.volume.specs.FaultsFound.{IsFaultOfFiles}
+use Rattle.volume.proofs.Handing.{handed, found_on}
+use Rattle.volume.proofs.ReadTurns.{as_many_versions, entries_moved, fault_moved, places_read, read_the_same}
+use Rattle.volume.proofs.ReadTurns.{reached_the_same, whole_the_same}
+use Rattle.volume.proofs.Reordered.{all_moved, once_moved}
 use Rattle.volume.proofs.read.read_files.Goals as goal
 
-pub add_file-requires-clause-inside : goal.add_file-requires-clause-inside
-add_file-requires-clause-inside g c =
+pub read_turns-requires-clause-inside : goal.read_turns-requires-clause-inside
+read_turns-requires-clause-inside g c =
+    let inside : FileEntry → Type 0 = λ e. InSpace (g.D.Disk.state c.args.disk.now).size e.1 in
+    subst (λ (ts : List Turn). AllByRecursion inside (map turn_view ts)) (sym c.deref.ensures.value)
+    (all_moved (map file_view c.args.entries.now) (map turn_view c.in_ok-turns.turns.items)
+    (entries_moved c.args.entries.now c.in_ok-turns.turns.items c.in_ok-turns.ensures.all) inside c.requires.inside)
+
+pub read_turns-requires-clause-once : goal.read_turns-requires-clause-once
+read_turns-requires-clause-once g c =
+    subst (λ (ts : List Turn). EachOnce name_cmp (map turn_view ts)) (sym c.deref.ensures.value)
+    (once_moved name_total name_exact (map file_view c.args.entries.now) (map turn_view c.in_ok-turns.turns.items)
+    (entries_moved c.args.entries.now c.in_ok-turns.turns.items c.in_ok-turns.ensures.all) c.requires.once)
+
+pub returns-in_err-read-clause-fault : goal.returns-in_err-read-clause-fault
+returns-in_err-read-clause-fault g c h =
     let s = g.D.Disk.state c.args.disk.now in
-    subst (λ (n : ℕ). InSpace n c.entry-item.result.prime) (sym c.loop-entry.invariant.same.size)
-    (viewed_at file_view c.args.entries.now c.loop-entry.entry-index c.entry-item.result c.loop-entry-test.true
-    c.entry-item.is (λ (e : FileEntry). InSpace s.size e.1) c.requires.inside)
+    let layout = layout_number c.args.layout in
+    let marks = digit_at c.args.reached.now in
+    let turns = c.in_ok-turns.turns.items in
+    let p = err_from_is_err_and c.from_residual-in_err-read.result c.from_residual-in_err-read.ensures.1 in
+    handed (IsFaultOfFiles s.size layout s.contents marks c.args.ppn (map file_view c.args.entries.now))
+    c.from_residual-in_err-read.result c.read_turns.result p.0 c.in_err-read.field-0.0 p.1 p.2 c.in_err-read.was
+    (found_on (IsFaultOfFiles s.size layout s.contents marks c.args.ppn (map turn_view c.deref.result.now))
+    (IsFaultOfFiles s.size layout s.contents marks c.args.ppn (map file_view c.args.entries.now)) c.read_turns.result
+    (λ error met. fault_moved s.size layout s.contents marks c.args.ppn (map file_view c.args.entries.now)
+    (map turn_view turns) (entries_moved c.args.entries.now turns c.in_ok-turns.ensures.all) c.requires.once error
+    (subst (λ (ts : List Turn). IsFaultOfFiles s.size layout s.contents marks c.args.ppn (map turn_view ts) error)
+    c.deref.ensures.value met))
+    (c.read_turns.ensures.fault h))
 
-pub returns-in_err-add_file-clause-fault : goal.returns-in_err-add_file-clause-fault
-returns-in_err-add_file-clause-fault g c h =
+pub by_place-requires : goal.by_place-requires
+by_place-requires g c =
+    places_read c.args.entries.now c.in_ok-turns.turns.items c.in_ok-turns.ensures.all c.in_ok-read.read.items
+    (c.in_ok-read.ensures.placed ∙ ap (λ (ts : List Turn). map (λ t. t.place) ts) c.deref.ensures.value)
+
+pub returns-clause-aligned : goal.returns-clause-aligned
+returns-clause-aligned g c =
+    as_many_versions c.args.entries.now c.in_ok-turns.turns.items c.in_ok-turns.ensures.all c.in_ok-read.read.items
+    (c.in_ok-read.ensures.placed ∙ ap (λ (ts : List Turn). map (λ t. t.place) ts) c.deref.ensures.value)
+    c.in_ok-versions.versions.items c.in_ok-versions.ensures
+
+pub returns-clause-whole : goal.returns-clause-whole
+returns-clause-whole g c =
+    whole_the_same c.args.entries.now c.in_ok-turns.turns.items c.in_ok-turns.ensures.all c.in_ok-read.read.items
+    (c.in_ok-read.ensures.placed ∙ ap (λ (ts : List Turn). map (λ t. t.place) ts) c.deref.ensures.value)
+    c.in_ok-versions.versions.items c.in_ok-versions.ensures IsWholeVersion c.in_ok-read.ensures.whole
+
+pub returns-clause-marked : goal.returns-clause-marked
+returns-clause-marked g c n =
+    let placed = c.in_ok-read.ensures.placed ∙ ap (λ (ts : List Turn). map (λ t. t.place) ts) c.deref.ensures.value in
+    c.in_ok-read.ensures.marked n
+    ∙ ap (λ (ts : List Turn). digit_at c.args.reached.now n
+    + reaches_in_entries n (map turn_view ts) (map placed_known c.in_ok-read.read.items)) c.deref.ensures.value
+    ∙ ap (λ m. digit_at c.args.reached.now n + m)
+    (reached_the_same c.args.entries.now c.in_ok-turns.turns.items c.in_ok-turns.ensures.all
+    c.in_ok-read.read.items placed c.in_ok-versions.versions.items c.in_ok-versions.ensures n)
+
+pub returns-clause-read : goal.returns-clause-read
+returns-clause-read g c h =
     let s = g.D.Disk.state c.args.disk.now in
-    let now = g.D.Disk.state c.loop-entry.disk in
-    let i = c.loop-entry.entry-index in
-    let e = c.entry-item.result in
-    let p = err_from_is_err_and c.from_residual.result c.from_residual.ensures.1 in
-    let same = same_contents s.contents now.contents
-    (c.loop-entry.invariant.keeps (c.add_file.ensures.same.was_honest h)).contents in
-    handed (IsFaultOfFiles s.size (layout_number c.args.layout) s.contents (digit_at c.args.reached.now) c.args.ppn
-    (map file_view c.args.entries.now)) c.from_residual.result c.add_file.result p.0 c.in_err-add_file.field-0.0
-    p.1 p.2 c.in_err-add_file.was
-    (found_on (IsFaultOfFile now.size (layout_number c.args.layout) now.contents c.loop-entry.reached (place_of c.args.ppn e.name) e.prime)
-    (IsFaultOfFiles s.size (layout_number c.args.layout) s.contents (digit_at c.args.reached.now) c.args.ppn (map file_view c.args.entries.now))
-    c.add_file.result
-    (λ error met. file_fault s.size (layout_number c.args.layout) s.contents c.args.ppn (map file_view c.args.entries.now)
-    (map file_view (take i c.args.entries.now)) (map file_view (drop (i + 1) c.args.entries.now))
-    (map known_version c.loop-entry.versions.items)
-    (digit_at c.args.reached.now) (file_view e) error c.loop-entry.reached
-    (viewed_split file_view c.args.entries.now i e c.loop-entry-test.true c.entry-item.is) c.requires.once
-    (c.loop-entry.invariant.read (c.add_file.ensures.same.was_honest h))
-    (subst (λ contents. IsFaultOfFile s.size (layout_number c.args.layout) contents c.loop-entry.reached (place_of c.args.ppn e.name) e.prime error)
-    same (subst (λ (n : ℕ). IsFaultOfFile n (layout_number c.args.layout) now.contents c.loop-entry.reached
-    (place_of c.args.ppn e.name) e.prime error) c.loop-entry.invariant.same.size met)))
-    (c.add_file.ensures.fault h))
-
-pub returns-in_err-add_file-clause-keeps : goal.returns-in_err-add_file-clause-keeps
-returns-in_err-add_file-clause-keeps g c h =
-    keeps_on (g.D.Disk.state c.args.disk.now) (g.D.Disk.state c.loop-entry.disk) (g.D.Disk.state c.add_file.new.disk)
-    (c.loop-entry.invariant.keeps (c.add_file.ensures.same.was_honest h)) (c.add_file.ensures.keeps h)
-
-pub returns-in_err-add_file-clause-served : goal.returns-in_err-add_file-clause-served
-returns-in_err-add_file-clause-served g c other =
-    let p = err_from_is_err_and c.from_residual.result c.from_residual.ensures.1 in
-    c.add_file.ensures.served (λ is. other
-    (handed_back c.from_residual.result c.add_file.result p.0 c.in_err-add_file.field-0.0 Device p.1 p.2
-    c.in_err-add_file.was is)) ∙ c.loop-entry.invariant.served
-
-pub loop-entry-preserved : goal.loop-entry-preserved
-loop-entry-preserved g c =
-    let s = g.D.Disk.state c.args.disk.now in
-    let now = g.D.Disk.state c.loop-entry.disk in
-    let new = g.D.Disk.state c.add_file.new.disk in
-    record {
-      same = same_disk_on s now new c.loop-entry.invariant.same c.add_file.ensures.same;
-      served = c.in_ok-add_file.ensures.served (λ is. cc) ∙ c.loop-entry.invariant.served;
-      keeps = λ h. keeps_on s now new (c.loop-entry.invariant.keeps (c.add_file.ensures.same.was_honest h))
-          (c.add_file.ensures.keeps h);
-      marks = c.add_file.ensures.length ∙ c.loop-entry.invariant.marks;
-      whole = all_added known_version IsWholeVersion c.loop-entry.versions.items c.add_file.new.versions.items
-          c.loop-entry.invariant.whole c.in_ok-add_file.ensures.whole;
-      space = λ only. subst (λ (n : ℕ). IsOnlySpace n c.add_file.new.reached) c.loop-entry.invariant.same.size
-          (c.in_ok-add_file.ensures.space (subst (λ (n : ℕ). IsOnlySpace n c.loop-entry.reached)
-          (sym c.loop-entry.invariant.same.size) (c.loop-entry.invariant.space only)));
-      aligned = c.in_ok-add_file.ensures.aligned ∙ ap (λ (n : ℕ). n + 1) c.loop-entry.invariant.aligned;
-      marked = entries_marked known_version file_view c.args.entries.now c.loop-entry.entry-index c.entry-item.result
-          c.loop-entry.versions.items c.add_file.new.versions.items
-          (digit_at c.args.reached.now) (digit_at c.loop-entry.reached) (digit_at c.add_file.new.reached)
-          c.loop-entry-test.true c.entry-item.is c.loop-entry.invariant.aligned c.loop-entry.invariant.marked
-          c.in_ok-add_file.ensures.marked;
-      read = λ h. files_go_on known_version (layout_number c.args.layout) s.contents now.contents c.args.ppn file_view c.args.entries.now
-          c.loop-entry.entry-index c.entry-item.result c.loop-entry.versions.items c.add_file.new.versions.items
-          (digit_at c.args.reached.now) (digit_at c.loop-entry.reached) (digit_at c.add_file.new.reached)
-          c.loop-entry-test.true c.entry-item.is (same_contents s.contents now.contents
-          (c.loop-entry.invariant.keeps (c.add_file.ensures.same.was_honest h)).contents)
-          (c.loop-entry.invariant.read (c.add_file.ensures.same.was_honest h)) (c.in_ok-add_file.ensures.read h);
-    }
-
-pub returns-in_err-add_file-clause-named : goal.returns-in_err-add_file-clause-named
-returns-in_err-add_file-clause-named g c =
-    let size = (g.D.Disk.state c.args.disk.now).size in
-    let p = err_from_is_err_and c.from_residual.result c.from_residual.ensures.1 in
-    handed (NamesInSpace size) c.from_residual.result c.add_file.result p.0 c.in_err-add_file.field-0.0
-    p.1 p.2 c.in_err-add_file.was
-    (named_on (g.D.Disk.state c.loop-entry.disk).size size c.add_file.result c.loop-entry.invariant.same.size
-    c.add_file.ensures.named)
+    let layout = layout_number c.args.layout in
+    let placed = c.in_ok-read.ensures.placed ∙ ap (λ (ts : List Turn). map (λ t. t.place) ts) c.deref.ensures.value in
+    read_the_same c.args.entries.now c.in_ok-turns.turns.items c.in_ok-turns.ensures.all c.in_ok-read.read.items
+    placed c.in_ok-versions.versions.items c.in_ok-versions.ensures layout s.contents c.args.ppn
+    (digit_at c.args.reached.now) (digit_at c.read_turns.new.reached)
+    (subst (λ (ts : List Turn). AreFilesRead layout s.contents c.args.ppn (map turn_view ts)
+    (map placed_known c.in_ok-read.read.items) (digit_at c.args.reached.now) (digit_at c.read_turns.new.reached))
+    c.deref.ensures.value (c.in_ok-read.ensures.read h)) (returns-clause-marked g c)

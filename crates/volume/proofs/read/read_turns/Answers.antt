@@ -1,0 +1,108 @@
+use Rattle.std.proofs.Common.{◌+◌, ℕ, map, take, drop, sym, ap, subst, ◌∙◌}
+use Rattle.std.proofs.lemmas.Result.{err_from_is_err_and}
+use Rattle.blockdisk.specs.Laws.{same_contents, same_disk_on}
+use Rattle.meaning.specs.Layouts.{layout_number}
+use Rattle.meaning.specs.Stands.{place_of}
+use Rattle.meaning.specs.Faults.{InSpace}
+use Rattle.meaning.specs.Directories.{FileEntry}
+use Rattle.alloctab.specs.Lists.{digit_at}
+use Rattle.blockdisk.specs.Laws.{keeps_on}
+use Rattle.volume.specs.Turns.{turn_view, placed_known}
+use Rattle.volume.specs.FaultsFound.{NamesInSpace, IsFaultOfFile, IsFaultOfFiles}
+use Rattle.volume.specs.declared.error.VolumeError.TheVariants.{Device}
+use Rattle.volume.proofs.Handing.{handed, handed_back, found_on, named_on}
+use Rattle.volume.proofs.Lookups.{viewed_at, viewed_split}
+use Rattle.volume.specs.Known.{IsWholeVersion}
+use Rattle.volume.specs.Found.{IsOnlySpace}
+use Rattle.volume.proofs.FoundDirectories.{all_added}
+use Rattle.volume.proofs.Reaching.{entries_marked}
+use Rattle.volume.proofs.FoundFiles.{file_fault, files_go_on}
+use Rattle.volume.proofs.ReadTurns.{places_more}
+use Rattle.volume.proofs.read.read_turns.Goals as goal
+
+pub add_file-requires-clause-inside : goal.add_file-requires-clause-inside
+add_file-requires-clause-inside g c =
+    let s = g.D.Disk.state c.args.disk.now in
+    subst (λ (n : ℕ). InSpace n c.turn-item.result.entry.prime) (sym c.loop-turn.invariant.same.size)
+    (viewed_at turn_view c.args.turns.now c.loop-turn.turn-index c.turn-item.result c.loop-turn-test.true
+    c.turn-item.is (λ (e : FileEntry). InSpace s.size e.1) c.requires.inside)
+
+pub returns-in_err-add_file-clause-fault : goal.returns-in_err-add_file-clause-fault
+returns-in_err-add_file-clause-fault g c h =
+    let s = g.D.Disk.state c.args.disk.now in
+    let now = g.D.Disk.state c.loop-turn.disk in
+    let i = c.loop-turn.turn-index in
+    let e = c.turn-item.result in
+    let p = err_from_is_err_and c.from_residual.result c.from_residual.ensures.1 in
+    let same = same_contents s.contents now.contents
+    (c.loop-turn.invariant.keeps (c.add_file.ensures.same.was_honest h)).contents in
+    handed (IsFaultOfFiles s.size (layout_number c.args.layout) s.contents (digit_at c.args.reached.now) c.args.ppn
+    (map turn_view c.args.turns.now)) c.from_residual.result c.add_file.result p.0 c.in_err-add_file.field-0.0
+    p.1 p.2 c.in_err-add_file.was
+    (found_on (IsFaultOfFile now.size (layout_number c.args.layout) now.contents c.loop-turn.reached (place_of c.args.ppn e.entry.name) e.entry.prime)
+    (IsFaultOfFiles s.size (layout_number c.args.layout) s.contents (digit_at c.args.reached.now) c.args.ppn (map turn_view c.args.turns.now))
+    c.add_file.result
+    (λ error met. file_fault s.size (layout_number c.args.layout) s.contents c.args.ppn (map turn_view c.args.turns.now)
+    (map turn_view (take i c.args.turns.now)) (map turn_view (drop (i + 1) c.args.turns.now))
+    (map placed_known c.loop-turn.read.items)
+    (digit_at c.args.reached.now) (turn_view e) error c.loop-turn.reached
+    (viewed_split turn_view c.args.turns.now i e c.loop-turn-test.true c.turn-item.is) c.requires.once
+    (c.loop-turn.invariant.read (c.add_file.ensures.same.was_honest h))
+    (subst (λ contents. IsFaultOfFile s.size (layout_number c.args.layout) contents c.loop-turn.reached (place_of c.args.ppn e.entry.name) e.entry.prime error)
+    same (subst (λ (n : ℕ). IsFaultOfFile n (layout_number c.args.layout) now.contents c.loop-turn.reached
+    (place_of c.args.ppn e.entry.name) e.entry.prime error) c.loop-turn.invariant.same.size met)))
+    (c.add_file.ensures.fault h))
+
+pub returns-in_err-add_file-clause-keeps : goal.returns-in_err-add_file-clause-keeps
+returns-in_err-add_file-clause-keeps g c h =
+    keeps_on (g.D.Disk.state c.args.disk.now) (g.D.Disk.state c.loop-turn.disk) (g.D.Disk.state c.add_file.new.disk)
+    (c.loop-turn.invariant.keeps (c.add_file.ensures.same.was_honest h)) (c.add_file.ensures.keeps h)
+
+pub returns-in_err-add_file-clause-served : goal.returns-in_err-add_file-clause-served
+returns-in_err-add_file-clause-served g c other =
+    let p = err_from_is_err_and c.from_residual.result c.from_residual.ensures.1 in
+    c.add_file.ensures.served (λ is. other
+    (handed_back c.from_residual.result c.add_file.result p.0 c.in_err-add_file.field-0.0 Device p.1 p.2
+    c.in_err-add_file.was is)) ∙ c.loop-turn.invariant.served
+
+pub loop-turn-preserved : goal.loop-turn-preserved
+loop-turn-preserved g c =
+    let s = g.D.Disk.state c.args.disk.now in
+    let now = g.D.Disk.state c.loop-turn.disk in
+    let new = g.D.Disk.state c.add_file.new.disk in
+    record {
+      same = same_disk_on s now new c.loop-turn.invariant.same c.add_file.ensures.same;
+      served = c.in_ok-add_file.ensures.served (λ is. cc) ∙ c.loop-turn.invariant.served;
+      keeps = λ h. keeps_on s now new (c.loop-turn.invariant.keeps (c.add_file.ensures.same.was_honest h))
+          (c.add_file.ensures.keeps h);
+      marks = c.add_file.ensures.length ∙ c.loop-turn.invariant.marks;
+      whole = all_added placed_known IsWholeVersion c.loop-turn.read.items c.add_file.new.read.items
+          c.loop-turn.invariant.whole c.in_ok-add_file.ensures.whole;
+      space = λ only. subst (λ (n : ℕ). IsOnlySpace n c.add_file.new.reached) c.loop-turn.invariant.same.size
+          (c.in_ok-add_file.ensures.space (subst (λ (n : ℕ). IsOnlySpace n c.loop-turn.reached)
+          (sym c.loop-turn.invariant.same.size) (c.loop-turn.invariant.space only)));
+      aligned = c.in_ok-add_file.ensures.aligned ∙ ap (λ (n : ℕ). n + 1) c.loop-turn.invariant.aligned;
+      placed = places_more (λ p. p.place) (λ t. t.place) c.args.turns.now c.loop-turn.turn-index c.turn-item.result
+          c.loop-turn.read.items c.add_file.new.read.items c.loop-turn-test.true c.turn-item.is
+          c.loop-turn.invariant.placed c.in_ok-add_file.ensures.placed;
+      marked = entries_marked placed_known turn_view c.args.turns.now c.loop-turn.turn-index c.turn-item.result
+          c.loop-turn.read.items c.add_file.new.read.items
+          (digit_at c.args.reached.now) (digit_at c.loop-turn.reached) (digit_at c.add_file.new.reached)
+          c.loop-turn-test.true c.turn-item.is c.loop-turn.invariant.aligned c.loop-turn.invariant.marked
+          c.in_ok-add_file.ensures.marked;
+      read = λ h. files_go_on placed_known (layout_number c.args.layout) s.contents now.contents c.args.ppn turn_view c.args.turns.now
+          c.loop-turn.turn-index c.turn-item.result c.loop-turn.read.items c.add_file.new.read.items
+          (digit_at c.args.reached.now) (digit_at c.loop-turn.reached) (digit_at c.add_file.new.reached)
+          c.loop-turn-test.true c.turn-item.is (same_contents s.contents now.contents
+          (c.loop-turn.invariant.keeps (c.add_file.ensures.same.was_honest h)).contents)
+          (c.loop-turn.invariant.read (c.add_file.ensures.same.was_honest h)) (c.in_ok-add_file.ensures.read h);
+    }
+
+pub returns-in_err-add_file-clause-named : goal.returns-in_err-add_file-clause-named
+returns-in_err-add_file-clause-named g c =
+    let size = (g.D.Disk.state c.args.disk.now).size in
+    let p = err_from_is_err_and c.from_residual.result c.from_residual.ensures.1 in
+    handed (NamesInSpace size) c.from_residual.result c.add_file.result p.0 c.in_err-add_file.field-0.0
+    p.1 p.2 c.in_err-add_file.was
+    (named_on (g.D.Disk.state c.loop-turn.disk).size size c.add_file.result c.loop-turn.invariant.same.size
+    c.add_file.ensures.named)

@@ -1,0 +1,25 @@
+-- The turns in which the files of a directory are read, and what was read in them.
+use Rattle.std.specs.Prelude.{ℕ}
+use Rattle.meaning.specs.Directories.{FileEntry}
+use Rattle.directory.specs.declared.file.FileEntry.{FileEntry as EntryValue}
+use Rattle.volume.specs.declared.files.StoredVersion.{StoredVersion}
+use Rattle.volume.specs.declared.turns.Turn.{Turn}
+use Rattle.volume.specs.declared.turns.PlacedVersion.{PlacedVersion}
+use Rattle.volume.specs.Known.{KnownVersion}
+use Rattle.volume.specs.Cores.{file_view, known_version}
+
+-- an entry in its turn, as a directory on the disk has it
+abbrev pub turn_view : Turn → FileEntry
+turn_view t = file_view t.entry
+
+-- a version that was read, as it is known in core
+abbrev pub placed_known : PlacedVersion → KnownVersion
+placed_known p = known_version p.stored
+
+-- Beside its place in the directory.
+
+abbrev pub numbered_entry : Turn → ℕ × EntryValue
+numbered_entry t = (t.place, t.entry)
+
+abbrev pub numbered_version : PlacedVersion → ℕ × StoredVersion
+numbered_version p = (p.place, p.stored)
