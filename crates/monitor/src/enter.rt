@@ -63,7 +63,7 @@ pub fn serve_enter<D: Disk>(
     ensures layout { volume.new.layout ≡ volume.old.layout }
 {
     match reading_side(job, channel) {
-        Some((open, input)) => update(alloc, volume, job, channel, address, moment, open, input),
+        Some(reading) => update(alloc, volume, job, channel, address, moment, reading),
         None => enter(alloc, volume, job, channel, address, moment),
     }
 }

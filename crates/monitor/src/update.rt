@@ -238,15 +238,14 @@ pub fn update<D: Disk>(
     number: u32,
     address: u32,
     moment: Moment,
-    channel: Channel,
-    input: Input,
+    reading: (Channel, Input),
 ) -> Reply
     requires sound { IsSoundCore (D.state volume.old.disk) volume.old.core volume.old.failed }
     // The volume serves, and knows what the job reads.
     requires timely { IsTimely (D.state volume.old.disk) moment }
     requires alive { volume.old.failed ≡ false }
-    requires there { slot job.old.channels number ≡ Some channel }
-    requires side { channel.input ≡ Some input }
+    requires there { slot job.old.channels number ≡ Some reading.0 }
+    requires side { reading.0.input ≡ Some reading.1 }
     requires held { (key : ℕ) → times key (pins_of (readers_in (Some job.old)))
         ≤ readers_of (version_at volume.old.core.live key) }
     requires few { (key : ℕ) (v : LiveVersion) → version_at volume.old.core.live key ≡ Some v
@@ -257,10 +256,10 @@ pub fn update<D: Disk>(
     ensures only { (result ≡ Failed → ⊥) × (result ≡ Device → ⊥) }
     // What it leaves, by its answer.
     ensures begun { result ≡ Done → (key : ℕ)
-        × (is : IsUpdating volume.old.core volume.new.core job.old job.new number address channel input key)
+        × (is : IsUpdating volume.old.core volume.new.core job.old job.new number address reading.0 reading.1 key)
         × IsWholeCore (D.state volume.old.disk).size is.between
         × ((D.state volume.new.disk).honest → (files : Files File) → RestsAt (D.state volume.old.disk) files
-        → IsUpdateOf (D.state volume.old.disk).contents job.old input is.kind is.version is.renews.between
+        → IsUpdateOf (D.state volume.old.disk).contents job.old reading.1 is.kind is.version is.renews.between
         is.renewed files) }
     ensures placed { ArePlaced volume.old.core → ArePlaced volume.new.core }
     ensures kept { (result ≡ Done → ⊥) → (volume.new.core ≡ volume.old.core)
@@ -274,6 +273,7 @@ pub fn update<D: Disk>(
     ensures refused { (code : ℕ) → result ≡ Refused code → job.new ≡ with_code job.old address code }
     ensures decided { IsDecided result → job.new ≡ job.old }
 {
+    let (channel, input) = reading;
     if lies_outside(&job.core, address, 4) {
         return Reply::AddressCheck;
     }

@@ -36,15 +36,15 @@ returns-in-Some-clause-serving g c = λ jobs n among.
     c.update.ensures.refused
     (λ is. ((c.update.ensures.kept (λ e. subst IsDecided e is)).0, c.update.ensures.decided is)) jobs n among
     (updates_keyed (state old.disk) (state new.disk) map map' jobs jobs' n job job' c.args.channel c.args.address
-    moment c.in-Some.open c.in-Some.input c.update.result among.there refl among.keyed among.reading
+    moment c.in-Some.reading.0 c.in-Some.reading.1 c.update.result among.there refl among.keyed among.reading
     c.update.ensures.begun c.update.ensures.kept)
     (updates_reading (state old.disk) (state new.disk) map map' jobs jobs' n job job' c.args.channel c.args.address
-    moment c.in-Some.open c.in-Some.input c.update.result among.there refl among.keyed among.reading
+    moment c.in-Some.reading.0 c.in-Some.reading.1 c.update.result among.there refl among.keyed among.reading
     c.update.ensures.begun c.update.ensures.kept)
     (λ h s serves.
     let was : (state old.disk).honest = subst (λ disk. (state disk).honest) c.update.ensures.untouched.0 h in
     update_answered (state old.disk) (state new.disk) map map' jobs jobs' n job job' c.args.channel c.args.address
-    moment c.in-Some.open c.in-Some.input c.update.result among.there refl among.keyed among.reading
+    moment c.in-Some.reading.0 c.in-Some.reading.1 c.update.result among.there refl among.keyed among.reading
     c.update.ensures.begun c.update.ensures.kept false refl sound was h c.requires.timely (c.update.ensures.row h)
     s serves)
 

@@ -44,14 +44,14 @@ pub renew-renewed-requires-clause-there : goal.renew-renewed-requires-clause-the
 renew-renewed-requires-clause-there g c none =
     let begins = c.in-Ok.ensures.begun in
     let between = c.begin_update.new.volume.core in
-    let ppn : begins.1.ppn ≡ c.args.input.ppn = begins.2 in
-    let file : begins.1.file ≡ c.args.input.file = begins.3 in
+    let ppn : begins.1.ppn ≡ c.args.reading.1.ppn = begins.2 in
+    let file : begins.1.file ≡ c.args.reading.1.file = begins.3 in
     begun_named c.args.volume.now.core between c.in-Ok.pending.key c.in-Ok.kind begins.1 begins.4
     (no_creation c.in-Ok.kind begins.0) ((λ i. prime_at between (ppn i) (file i)) ∙ none)
 
 pub renew-renewed-requires-clause-held : goal.renew-renewed-requires-clause-held
 renew-renewed-requires-clause-held g c =
-    reader_held c.begin_update.new.volume.core.live c.args.job.now c.args.number c.args.channel c.args.input
+    reader_held c.begin_update.new.volume.core.live c.args.job.now c.args.number c.args.reading.0 c.args.reading.1
     c.requires.there c.requires.side
     (subst (λ (live : List (Option LiveVersion)). (key : ℕ) → times key (pins_of (readers_in (Some c.args.job.now)))
     ≤ readers_of (version_at live key)) (sym c.in-Ok.ensures.begun.4.live) c.requires.held)
@@ -63,8 +63,8 @@ returns-in-Ok-clause-begun g c is =
     let version = begun c.in-Ok.kind begins.1 begins.4.old in
     let renews = c.renew-renewed.ensures.renews in
     let prime : c.prime_of-prime.result ≡ version.prime = c.prime_of-prime.ensures version begins.4.here in
-    let held = renews_with c.begin_update.new.volume.core c.renew-renewed.new.volume.core c.args.input
-    c.renew-renewed.result c.args.input.ppn c.args.input.file c.prime_of-prime.result.protection
+    let held = renews_with c.begin_update.new.volume.core c.renew-renewed.new.volume.core c.args.reading.1
+    c.renew-renewed.result c.args.reading.1.ppn c.args.reading.1.file c.prime_of-prime.result.protection
     version.prime.protection (ap (λ (p : Prime). p.protection) prime) renews.0 in
     let side : c.side_of-output.result ≡ updating_side c.in-Ok.pending.key c.in-Ok.kind version.kept_blocks =
     c.side_of-output.ensures version begins.4.here in
@@ -75,7 +75,7 @@ returns-in-Ok-clause-begun g c is =
       record {
         there = c.requires.there;
         side = c.requires.side;
-        free = no_side c.args.channel.output (sym c.is_some.ensures ∙ c.if-is_some.false);
+        free = no_side c.args.reading.0.output (sym c.is_some.ensures ∙ c.if-is_some.false);
         named = λ w. same_place-equal _ _ (sym (c.names_input.ensures w) ∙ c.if-not-names_input.false);
         kind = c.in-Ok.kind;
         updates = begins.0;
@@ -90,7 +90,7 @@ returns-in-Ok-clause-begun g c is =
         job_is = c.set_channel.ensures ∙ (λ i. record c.args.job.now {
           core = core i;
           channels = slice_set c.args.job.now.channels c.args.number
-              (Some (record c.args.channel {
+              (Some (record c.args.reading.0 {
                 status = status i;
                 input = Some c.renew-renewed.result;
                 output = Some (side i);
@@ -102,27 +102,27 @@ returns-in-Ok-clause-begun g c is =
       λ h files rests.
           let between = subst (λ disk. (state disk).honest) c.renew-renewed.ensures.untouched.0 h in
           let same = c.in-Ok.ensures.untouched.0 in
-          is_update_of (state c.args.volume.now.disk).contents c.args.job.now c.args.input c.in-Ok.kind version _
+          is_update_of (state c.args.volume.now.disk).contents c.args.job.now c.args.reading.1 c.in-Ok.kind version _
           c.begin_update.new.volume.core c.renew-renewed.new.volume.core c.renew-renewed.result files held
           begins.4.here (c.in-Ok.ensures.file between c.requires.alive files rests)
           (c.in-Ok.ensures.kind between c.requires.alive files rests)
-          (subst (λ disk. IsPinAnswer (state disk).contents renews.0.between.live c.args.input.file
-          (Ok renews.0.held.pin) (get files c.args.input.ppn)) same
+          (subst (λ disk. IsPinAnswer (state disk).contents renews.0.between.live c.args.reading.1.file
+          (Ok renews.0.held.pin) (get files c.args.reading.1.ppn)) same
           (renews.1 h files (subst (λ disk. RestsAt (state disk) files) (sym same) rests))),
     )
 
 pub returns-in-Ok-clause-placed : goal.returns-in-Ok-clause-placed
 returns-in-Ok-clause-placed g c placed =
     let begins = c.in-Ok.ensures.begun in
-    let ppn : begins.1.ppn ≡ c.args.input.ppn = begins.2 in
-    let file : begins.1.file ≡ c.args.input.file = begins.3 in
+    let ppn : begins.1.ppn ≡ c.args.reading.1.ppn = begins.2 in
+    let file : begins.1.file ≡ c.args.reading.1.file = begins.3 in
     let between = c.begin_update.new.volume.core in
     let new = c.renew-renewed.new.volume.core in
     let renews = c.renew-renewed.ensures.renews.0 in
     placed_still between new
-    (renewed_pending between new c.args.input c.renew-renewed.result c.args.input.ppn c.args.input.file
+    (renewed_pending between new c.args.reading.1 c.renew-renewed.result c.args.reading.1.ppn c.args.reading.1.file
     c.prime_of-prime.result.protection renews)
-    (renewed_known between new c.args.input c.renew-renewed.result c.args.input.ppn c.args.input.file
+    (renewed_known between new c.args.reading.1 c.renew-renewed.result c.args.reading.1.ppn c.args.reading.1.file
     c.prime_of-prime.result.protection renews)
     (placed_begun c.args.volume.now.core between c.in-Ok.pending.key c.in-Ok.kind begins.1 begins.4
     (ap (λ (x : FileName). x.name == 0) file ∙ c.in-Ok.ensures.free.0)
@@ -135,17 +135,17 @@ returns-in-Ok-clause-reads g c =
     let new = c.renew-renewed.new.volume.core in
     subst (λ live. KeepsReading live new.live c.args.job.now c.set_channel.new.self) begins.4.live
     (subst (KeepsReading between.live new.live c.args.job.now) (sym c.set_channel.ensures)
-    (renewed_reading between new c.args.input c.renew-renewed.result c.args.input.ppn c.args.input.file
-    c.prime_of-prime.result.protection c.renew-renewed.ensures.renews.0 c.args.job.now c.args.number _ c.args.channel _
+    (renewed_reading between new c.args.reading.1 c.renew-renewed.result c.args.reading.1.ppn c.args.reading.1.file
+    c.prime_of-prime.result.protection c.renew-renewed.ensures.renews.0 c.args.job.now c.args.number _ c.args.reading.0 _
     c.requires.there
     c.requires.side refl))
 
 pub returns-then-is_some-clause-row : goal.returns-then-is_some-clause-row
 returns-then-is_some-clause-row g c h s known w =
-    let place = place_of c.args.input.ppn c.args.input.file in
+    let place = place_of c.args.reading.1.ppn c.args.reading.1.file in
     let other = place_at (job_of w c.args.job.now) c.args.address in
     out_of_order (pack_of (g.D.Disk.state c.args.volume.now.disk)) s w c.args.job.now c.args.number c.args.address
-    c.args.channel c.args.input c.requires.there (sym c.lies_outside.ensures.value ∙ c.if-lies_outside.false)
+    c.args.reading.0 c.args.reading.1 c.requires.there (sym c.lies_outside.ensures.value ∙ c.if-lies_outside.false)
     c.requires.side c.refuse.new.core c.refuse.result
     (elim c.then-is_some.branch [
       | then-is_some-via-then-is_some b ↦ ap (λ t. t || not (same_place place other))
@@ -160,10 +160,10 @@ pub returns-in-Ok-clause-row : goal.returns-in-Ok-clause-row
 returns-in-Ok-clause-row g c h s known w =
     let there = sym (c.names_input.ensures w) ∙ c.if-not-names_input.false in
     let free = sym c.is_some.ensures ∙ c.if-is_some.false in
-    let place = place_of c.args.input.ppn c.args.input.file in
+    let place = place_of c.args.reading.1.ppn c.args.reading.1.file in
     let other = place_at (job_of w c.args.job.now) c.args.address in
     done (pack_of (g.D.Disk.state c.args.volume.now.disk)) s w c.args.job.now c.args.number c.args.address
-    c.args.channel c.args.input c.requires.there (sym c.lies_outside.ensures.value ∙ c.if-lies_outside.false)
+    c.args.reading.0 c.args.reading.1 c.requires.there (sym c.lies_outside.ensures.value ∙ c.if-lies_outside.false)
     c.requires.side (ap (λ t. t || not (same_place place other)) free ∙ ap not there)
     (same_place-equal place other there) (job_of w c.set_channel.new.self)
     (c.in-Ok.ensures.answered (subst (λ disk. (g.D.Disk.state disk).honest) c.renew-renewed.ensures.untouched.0 h)
@@ -173,10 +173,10 @@ pub returns-in-Err-Refused-clause-row : goal.returns-in-Err-Refused-clause-row
 returns-in-Err-Refused-clause-row g c h s known w =
     let there = sym (c.names_input.ensures w) ∙ c.if-not-names_input.false in
     let free = sym c.is_some.ensures ∙ c.if-is_some.false in
-    let place = place_of c.args.input.ppn c.args.input.file in
+    let place = place_of c.args.reading.1.ppn c.args.reading.1.file in
     let other = place_at (job_of w c.args.job.now) c.args.address in
     refused (pack_of (g.D.Disk.state c.args.volume.now.disk)) s w c.args.job.now c.args.number c.args.address
-    c.args.channel c.args.input c.requires.there (sym c.lies_outside.ensures.value ∙ c.if-lies_outside.false)
+    c.args.reading.0 c.args.reading.1 c.requires.there (sym c.lies_outside.ensures.value ∙ c.if-lies_outside.false)
     c.requires.side (ap (λ t. t || not (same_place place other)) free ∙ ap not there)
     (same_place-equal place other there) c.refuse-in-Err-Refused.new.core
     c.refuse-in-Err-Refused.result c.in-Err-Refused.code (c.refuse-in-Err-Refused.ensures.answered
@@ -191,10 +191,10 @@ pub returns-in-Err-NoMemory-clause-row : goal.returns-in-Err-NoMemory-clause-row
 returns-in-Err-NoMemory-clause-row g c h s known w =
     let there = sym (c.names_input.ensures w) ∙ c.if-not-names_input.false in
     let free = sym c.is_some.ensures ∙ c.if-is_some.false in
-    let place = place_of c.args.input.ppn c.args.input.file in
+    let place = place_of c.args.reading.1.ppn c.args.reading.1.file in
     let other = place_at (job_of w c.args.job.now) c.args.address in
     wanting (pack_of (g.D.Disk.state c.args.volume.now.disk)) s w c.args.job.now c.args.number c.args.address
-    c.args.channel c.args.input c.requires.there (sym c.lies_outside.ensures.value ∙ c.if-lies_outside.false)
+    c.args.reading.0 c.args.reading.1 c.requires.there (sym c.lies_outside.ensures.value ∙ c.if-lies_outside.false)
     c.requires.side (ap (λ t. t || not (same_place place other)) free ∙ ap not there)
     (same_place-equal place other there)
     (subst (λ x. IsAnswer {X = ℕ} (Err x) (update_answer_at (pack_of (g.D.Disk.state c.args.volume.now.disk)) s
