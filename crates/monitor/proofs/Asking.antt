@@ -1,19 +1,18 @@
 -- What an IN asks for, by the channel's mode.
-use Rattle.std.proofs.Common.{◌≡◌, ◌<◌, ◌≤◌, ◌-◌, ℕ, Bool, true, false, if◌then◌else◌, List, [], ◌∷◌, length, min, take}
+use Rattle.std.proofs.Common.{◌≡◌, ◌<◌, ◌≤◌, ℕ, Bool, true, false, if◌then◌else◌, List, [], ◌∷◌, take}
 use Rattle.std.proofs.Common.{Option, None, Some, refl, sym, ap, subst, ◌∙◌, arith}
-use Rattle.std.proofs.lemmas.List.{drop_all}
+use Rattle.std.specs.List.{All}
 use Rattle.std.specs.Prelude.{◌↔◌, option_map, Result, Ok, Err, IfOk, is_err}
 use Rattle.meaning.specs.CommandLists.{dump_list, word_count}
-use Rattle.meaning.specs.Cores.{after_writes}
+use Rattle.meaning.specs.Cores.{after_writes, dealt}
 use Rattle.meaning.specs.Jobs.{cleared}
 use Rattle.meaning.specs.Rings.{is_buffered, byte_size, data_words, in_ready, in_writes}
-use Rattle.meaning.specs.Splices.{block_start, words_from}
 use Rattle.meaning.specs.declared.area.Area.{Area}
 use Rattle.meaning.proofs.MapLaws.{some_same, some_none}
 use Rattle.retrieval.specs.Modes.{mode_number}
 use Rattle.monitor.specs.Reading.{Asked, areas_asked, buffer_asked, names_none, asked_at}
 use Rattle.monitor.specs.declared.channel.Channel.{Channel}
-use Rattle.monitor.proofs.Inputs.{take_front}
+use Rattle.monitor.proofs.Inputs.{dealt_enough, no_area, take_front}
 use Rattle.monitor.proofs.ReadWords.{few_named}
 
 -- What is asked for is told by what core has.
@@ -56,17 +55,10 @@ buffer_enough c ready words = ap (λ xs. after_writes ready
     (in_writes ready c.input_header (byte_size (mode_number c.mode)) (cleared c.status) xs))
     (take_front data_words data_words words (omega arith))
 
--- where a buffer would get no words, the body has none
-pub buffer_ends : (found body : List ℕ) (words block : ℕ) → length body ≡ words → found ≡ []
-    → length found ≡ min data_words (words - block_start block) → words_from body block ≡ []
-buffer_ends found body words block long none many =
-    let empty : length found ≡ 0 = ap length none in
-    drop_all (block_start block) body (omega (arith, long, empty, many))
-
--- a command list that names words
-pub names_some : (areas : List Area) → 0 < word_count areas → names_none areas ≡ false
-names_some [] some = absurd (omega arith)
-names_some (area ∷ areas) some = refl
+-- a command list that names nothing
+names_nothing : (areas : List Area) → names_none areas ≡ true → word_count areas ≡ 0
+names_nothing [] none = refl
+names_nothing (area ∷ areas) none = absurd (cc none)
 
 module _ (core : List ℕ) (c : Channel) (a : ℕ) where
   abbrev by_mode : Bool → Option Asked
@@ -83,6 +75,62 @@ module _ (core : List ℕ) (c : Channel) (a : ℕ) where
   pub asks_areas : is_buffered (mode_number c.mode) ≡ false
       → asked_at core c a ≡ option_map (areas_asked core) (dump_list core a)
   asks_areas dump = ap by_mode dump
+
+  -- What is asked for, with the number of its words.
+  abbrev pub IsAsked : ℕ → Type 0
+  IsAsked count = (k : Asked) × (asked_at core c a ≡ Some k) × (k.count ≡ count) × ((count ≡ 0) ↔ (k.none ≡ true))
+
+  pub ring_asked : is_buffered (mode_number c.mode) ≡ true → (ready : List ℕ)
+      → in_ready core c.input_header (byte_size (mode_number c.mode)) ≡ Some ready → IsAsked data_words
+  ring_asked buffered ready is = (
+    buffer_asked c ready,
+    asks_buffer buffered ∙ ap (option_map (buffer_asked c)) is,
+    refl,
+    (λ zero. absurd (omega (arith, zero)), λ none. absurd (cc none)),
+  )
+
+  pub list_asked : is_buffered (mode_number c.mode) ≡ false → (areas : List Area) → dump_list core a ≡ Some areas
+      → All (λ area. 0 < area.count) areas → IsAsked (word_count areas)
+  list_asked dump areas listed some = (
+    areas_asked core areas,
+    asks_areas dump ∙ ap (option_map (areas_asked core)) listed,
+    refl,
+    (λ zero. ap names_none (no_area areas some zero), names_nothing areas),
+  )
+
+  -- The words of a body that are moved in are those that are asked for; nothing is moved where none are.
+  module _ (k : Asked) (at : asked_at core c a ≡ Some k) (words : List ℕ) where
+    pub enough_asked : k.filled (take k.count words) ≡ k.filled words
+    enough_asked = by (is_buffered (mode_number c.mode)) refl
+      where
+        by : (b : Bool) → is_buffered (mode_number c.mode) ≡ b → k.filled (take k.count words) ≡ k.filled words
+        by true buffered =
+            let from = asked_of (buffer_asked c) (in_ready core c.input_header (byte_size (mode_number c.mode)))
+            (asked_at core c a) (asks_buffer buffered) k at in
+            subst (λ (x : Asked). x.filled (take x.count words) ≡ x.filled words) from.2
+            (buffer_enough c from.0 words)
+        by false dump =
+            let from = asked_of (areas_asked core) (dump_list core a) (asked_at core c a) (asks_areas dump) k at in
+            subst (λ (x : Asked). x.filled (take x.count words) ≡ x.filled words) from.2
+            (ap (after_writes core) (dealt_enough from.0 words))
+
+    pub none_asked : k.none ≡ true → core ≡ k.filled words
+    none_asked none = by (is_buffered (mode_number c.mode)) refl
+      where
+        none_named : (areas : List Area) → names_none areas ≡ true → core ≡ after_writes core (dealt areas words)
+        none_named [] is = refl
+        none_named (area ∷ areas) is = absurd (cc is)
+
+        by : (b : Bool) → is_buffered (mode_number c.mode) ≡ b → core ≡ k.filled words
+        by true buffered =
+            let from = asked_of (buffer_asked c) (in_ready core c.input_header (byte_size (mode_number c.mode)))
+            (asked_at core c a) (asks_buffer buffered) k at in
+            let wrong : false ≡ true = ap (λ (x : Asked). x.none) from.2 ∙ none in
+            absurd (cc wrong)
+        by false dump =
+            let from = asked_of (areas_asked core) (dump_list core a) (asked_at core c a) (asks_areas dump) k at in
+            subst (λ (x : Asked). core ≡ x.filled words) from.2
+            (none_named from.0 (ap (λ (x : Asked). x.none) from.2 ∙ none))
 
   -- no more words than a core has
   pub few_asked : (k : Asked) → asked_at core c a ≡ Some k → k.count ≤ 0o400000

@@ -1,28 +1,28 @@
-use Rattle.std.proofs.Common.{sym, ap, ◌∙◌}
-use Rattle.meaning.specs.CommandLists.{dump_list}
-use Rattle.meaning.specs.Rings.{byte_size, in_ready}
-use Rattle.meaning.specs.Splices.{words_from}
-use Rattle.retrieval.specs.Modes.{mode_number}
-use Rattle.monitor.specs.Reading.{Asked, areas_asked, buffer_asked, asked_at}
-use Rattle.monitor.proofs.Asking.{asked_of, asks_areas, asks_buffer}
+use Rattle.std.proofs.Common.{◌≡◌, ◌-◌, length, min, take, sym, ap, ◌∙◌, arith}
+use Rattle.meaning.proofs.MapLaws.{some_same}
+use Rattle.meaning.specs.Splices.{block_start, words_from}
+use Rattle.monitor.specs.Reading.{Asked}
+use Rattle.monitor.proofs.Asking.{enough_asked}
+use Rattle.monitor.proofs.Inputs.{version_there}
 use Rattle.monitor.proofs.read_in.read_in.Goals as goal
 
-pub returns-then-is_buffered-clause-moved : goal.returns-then-is_buffered-clause-moved
-returns-then-is_buffered-clause-moved g c honest v there body long has k asks n is =
-    let core = c.args.core.now in
-    let channel = c.args.channel.now in
-    let from = asked_of (buffer_asked channel)
-    (in_ready core channel.input_header (byte_size (mode_number channel.mode)))
-    (asked_at core channel c.args.address)
-    (asks_buffer core channel c.args.address (sym c.is_buffered.ensures ∙ c.if-is_buffered.true)) k asks in
-    c.read_buffer.ensures.moved honest v there body long has from.0 from.1 n is
-    ∙ ap (λ (x : Asked). x.filled (words_from body c.args.block)) from.2
+pub returns-in-Ok-2-clause-moved : goal.returns-in-Ok-2-clause-moved
+returns-in-Ok-2-clause-moved g c honest v there body long has k asks n is =
+    let words = words_from body c.args.block in
+    let asked = c.in-Ok.ensures.count in
+    let count : c.in-Ok.count ≡ k.count = sym asked.2 ∙ ap (λ (x : Asked). x.count) (some_same (sym asked.1 ∙ asks)) in
+    c.fill.ensures.filled k asks
+    ∙ ap k.filled (c.as_slice.ensures.value ∙ c.in-Ok-get_words.ensures.words honest v there body long has
+    ∙ ap (λ m. take m words) count)
+    ∙ enough_asked c.args.core.now c.args.channel.now c.args.address k asks words
 
-pub returns-else-is_buffered-clause-moved : goal.returns-else-is_buffered-clause-moved
-returns-else-is_buffered-clause-moved g c honest v there body long has k asks n is =
-    let core = c.args.core.now in
-    let channel = c.args.channel.now in
-    let from = asked_of (areas_asked core) (dump_list core c.args.address) (asked_at core channel c.args.address)
-    (asks_areas core channel c.args.address (sym c.is_buffered.ensures ∙ c.if-is_buffered.false)) k asks in
-    c.read_areas.ensures.moved honest v there body long has from.0 from.1 n is
-    ∙ ap (λ (x : Asked). x.filled (words_from body c.args.block)) from.2
+pub returns-in-Ok-2-clause-few : goal.returns-in-Ok-2-clause-few
+returns-in-Ok-2-clause-few g c k asks n is =
+    let asked = c.in-Ok.ensures.count in
+    let count : c.in-Ok.count ≡ k.count = sym asked.2 ∙ ap (λ (x : Asked). x.count) (some_same (sym asked.1 ∙ asks)) in
+    let found = version_there c.args.volume.now.core c.args.handle c.requires.live in
+    let many : length c.in-Ok-get_words.words.items ≡ min c.in-Ok.count (found.0.words - block_start c.args.block) =
+    c.in-Ok-get_words.ensures.few found.0 found.1 in
+    let same : n ≡ length c.in-Ok-get_words.words.items =
+    sym (cc is) ∙ c.len.ensures ∙ sym c.as_slice.ensures.len ∙ ap length c.as_slice.ensures.value in
+    omega (arith, count, many, same)
