@@ -83,8 +83,8 @@ use std::fmt::Display;
 use std::io::{self, ErrorKind, IsTerminal};
 use std::process::ExitCode;
 use std::rt::Env;
-pub use streams::MissingStreams;
 use streams::is_at_errors;
+pub use streams::{MissingStreams, Streams};
 pub use task::{NamedFile, Task};
 
 /// How many bytes the path of a file has at most, with its end.
@@ -148,23 +148,20 @@ fn run(rt: &HostRuntime, missing: &MissingStreams) -> io::Result<u8> {
     let alloc = rt.alloc();
     let words: Vec<String> = env::args(rt)?.collect(alloc)?;
     let texts: Vec<&str> = words.iter().map(|word| word.as_str()).collect(alloc)?;
-    let mut errors = rt.stderr();
+    let errors = rt.stderr();
     let telling = if errors.is_terminal() {
         Telling::Progress
     } else {
         Telling::Silent
     };
     let (host, image, new) = SystemHost::new(rt);
-    let run = work(
-        &host,
-        alloc,
-        texts.as_slice(),
-        missing,
-        telling,
-        Leaves { image, new },
-        &mut LineReader::new(rt.reader()),
-        &mut OutputWriter::new(rt.stdout()),
-        &mut errors,
-    );
+    let leaves = Leaves { image, new };
+    let mut streams = Streams {
+        reader: LineReader::new(rt.reader()),
+        writer: OutputWriter::new(rt.stdout()),
+        errors,
+    };
+    let texts = texts.as_slice();
+    let run = work(&host, alloc, texts, missing, telling, leaves, &mut streams);
     Ok(run.code)
 }

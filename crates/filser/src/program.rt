@@ -33,7 +33,7 @@ use crate::output::OutputWriter;
 use crate::salvaging::salvage_image;
 use crate::serving::{say, serve_fresh, serve_image};
 use crate::sparing::FreeStreams;
-use crate::streams::{is_at_errors, stream_at};
+use crate::streams::{Streams, is_at_errors, stream_at};
 use crate::{
     Disks, Host, HostFault, ImageDisks, ImageFault, Leaves, MakingLeave, MissingStreams, NewDisks,
     OpeningLeave, Request, RequestError, Run, Seen, Status, Telling, WrongArgument, request,
@@ -58,9 +58,7 @@ pub fn work<H: Host, R: Read, W: Write, E: Write>(
     missing: &MissingStreams,
     telling: Telling,
     leaves: Leaves,
-    reader: &mut LineReader<R>,
-    writer: &mut OutputWriter<W>,
-    errors: &mut E,
+    streams: &mut Streams<LineReader<R>, OutputWriter<W>, E>,
 ) -> Run
     ensures few { result.code ≤ 4 }
     ensures mistaken { AreMistaken (fault_of command_line (map (λ w. w.now) words.now))
@@ -72,7 +70,7 @@ pub fn work<H: Host, R: Read, W: Write, E: Write>(
     // What was done with the images, what was printed, and the status of that, unless the end of the text can't be
     // written.
     ensures ran { (status : Statuses) × (full : Option (List ℕ))
-        × ((result.code ≡ status_code status) ⊎ (result.code ≡ 4)) × Keeps full (W.contents writer.new.writer)
+        × ((result.code ≡ status_code status) ⊎ (result.code ≡ 4)) × Keeps full (W.contents streams.new.writer.writer)
         × WasRun (H.facts host.now) (⟦<Run as Seen>⟧.views) missing.now (record {
           opening = leaves.image;
           making = leaves.new;
@@ -83,14 +81,12 @@ pub fn work<H: Host, R: Read, W: Write, E: Write>(
           memory = result.memory;
         }) (fault_of command_line (map (λ w. w.now) words.now))
         (subcommand_of command_line (map (λ w. w.now) words.now)) (drop 1 (map (λ w. w.now) words.now))
-        (R.remaining reader.old.reader)
-        (R.remaining reader.new.reader) (W.contents writer.old.writer) full status }
+        (R.remaining streams.old.reader.reader)
+        (R.remaining streams.new.reader.reader) (W.contents streams.old.writer.writer) full status }
 {
-    let outcome = answer(
-        host, alloc, words, missing, telling, leaves, reader, writer, errors,
-    );
-    let flushed = writer.flush();
-    tell_streams(host, words, reader, writer, errors);
+    let outcome = answer(host, alloc, words, missing, telling, leaves, streams);
+    let flushed = streams.writer.flush();
+    tell_streams(host, words, streams);
     Run {
         code: exit_code(outcome.status, flushed),
         image: outcome.image,
@@ -104,19 +100,17 @@ pub fn work<H: Host, R: Read, W: Write, E: Write>(
 fn tell_streams<H: Host, R: Read, W: Write, E: Write>(
     host: &H,
     words: &[&str],
-    reader: &LineReader<R>,
-    writer: &OutputWriter<W>,
-    errors: &mut E,
+    streams: &mut Streams<LineReader<R>, OutputWriter<W>, E>,
 ) {
-    let (broken, failed) = (reader.fault(), writer.fault());
+    let (broken, failed) = (streams.reader.fault(), streams.writer.fault());
     if broken.is_none() && failed.is_none() || !FreeStreams::of_words(host, words).errors {
         return;
     }
     if let Some((line, fault)) = broken {
-        tell_input(errors, words, line, &fault);
+        tell_input(&mut streams.errors, words, line, &fault);
     }
     if let Some(fault) = failed {
-        report(errors, "standard output", &fault);
+        report(&mut streams.errors, "standard output", &fault);
     }
 }
 
@@ -176,9 +170,7 @@ fn answer<H: Host, R: Read, W: Write, E: Write>(
     missing: &MissingStreams,
     telling: Telling,
     leaves: Leaves,
-    reader: &mut R,
-    writer: &mut W,
-    errors: &mut E,
+    streams: &mut Streams<R, W, E>,
 ) -> Outcome
     ensures mistaken { AreMistaken (fault_of command_line (map (λ w. w.now) words.now))
         → (result.status ≡ BadArguments) ⊎ (result.status ≡ Fault) }
@@ -196,16 +188,15 @@ fn answer<H: Host, R: Read, W: Write, E: Write>(
       memory = result.memory;
     }) (fault_of command_line (map (λ w. w.now) words.now))
         (subcommand_of command_line (map (λ w. w.now) words.now)) (drop 1 (map (λ w. w.now) words.now))
-        (R.remaining reader.old) (R.remaining reader.new)
-        (W.contents writer.old) (W.contents writer.new) result.status }
+        (R.remaining streams.old.reader) (R.remaining streams.new.reader)
+        (W.contents streams.old.writer) (W.contents streams.new.writer) result.status }
 {
     match request(alloc, words) {
-        Ok(asked) => start(
-            host, alloc, &asked, missing, telling, leaves, reader, writer, errors,
-        ),
+        Ok(asked) => start(host, alloc, &asked, missing, telling, leaves, streams),
         Err(error) => {
             let free = FreeStreams::of_words(host, words);
-            without_disks(refuse(&error, free, writer, errors), leaves)
+            let status = refuse(&error, free, &mut streams.writer, &mut streams.errors);
+            without_disks(status, leaves)
         }
     }
 }
@@ -218,9 +209,7 @@ fn start<H: Host, R: Read, W: Write, E: Write>(
     missing: &MissingStreams,
     telling: Telling,
     leaves: Leaves,
-    reader: &mut R,
-    writer: &mut W,
-    errors: &mut E,
+    streams: &mut Streams<R, W, E>,
 ) -> Outcome
     requires { InRange asked.now }
     ensures serving { result.status ≢ BadArguments }
@@ -232,18 +221,19 @@ fn start<H: Host, R: Read, W: Write, E: Write>(
       image = result.image;
       new = result.new;
       memory = result.memory;
-    }) asked.now (R.remaining reader.old) (R.remaining reader.new) (W.contents writer.old) (W.contents writer.new)
-        result.status }
+    }) asked.now (R.remaining streams.old.reader) (R.remaining streams.new.reader) (W.contents streams.old.writer)
+        (W.contents streams.new.writer) result.status }
 {
     if let Some((path, stream)) = stream_named(host, asked) {
         let fault = ImageFault::from(stream);
-        return without_disks(refuse_image(fault, path, writer, errors), leaves);
+        let status = refuse_image(fault, path, &mut streams.writer, &mut streams.errors);
+        return without_disks(status, leaves);
     }
     if missing.are_needed() {
-        tell_closed(host, asked, errors);
+        tell_closed(host, asked, &mut streams.errors);
         return without_disks(Status::Fault, leaves);
     }
-    perform(host, alloc, asked, telling, leaves, reader, writer, errors)
+    perform(host, alloc, asked, telling, leaves, streams)
 }
 
 /// Tells people that there is nothing to read or to print to, unless that would land in the file that has the name of a
@@ -275,9 +265,7 @@ fn perform<H: Host, R: Read, W: Write, E: Write>(
     asked: &Request<'_>,
     telling: Telling,
     leaves: Leaves,
-    reader: &mut R,
-    writer: &mut W,
-    errors: &mut E,
+    streams: &mut Streams<R, W, E>,
 ) -> Outcome
     requires { InRange asked.now }
     ensures serving { result.status ≢ BadArguments }
@@ -289,42 +277,88 @@ fn perform<H: Host, R: Read, W: Write, E: Write>(
       image = result.image;
       new = result.new;
       memory = result.memory;
-    }) asked.now (R.remaining reader.old) (R.remaining reader.new) (W.contents writer.old) (W.contents writer.new)
-        result.status }
+    }) asked.now (R.remaining streams.old.reader) (R.remaining streams.new.reader) (W.contents streams.old.writer)
+        (W.contents streams.new.writer) result.status }
 {
     match *asked {
-        Request::Fresh => on_memory(serve_fresh(alloc, reader, writer, errors), leaves),
+        Request::Fresh => on_memory(serve_fresh(alloc, streams), leaves),
         Request::Init(path, blocks, form, layout) => {
             let volume = NewVolume::new(blocks, form, layout);
-            let made = init_image(host, path, &volume, leaves.new, writer, errors);
+            let made = init_image(
+                host,
+                path,
+                &volume,
+                leaves.new,
+                &mut streams.writer,
+                &mut streams.errors,
+            );
             on_new(made, leaves.image)
         }
         Request::Work(path, form, task) => {
-            let leave = leaves.image;
-            let served = serve_image(host, alloc, path, form, leave, task, reader, writer, errors);
+            let image = NamedImage { path, form };
+            let served = serve_image(host, alloc, &image, leaves.image, task, streams);
             on_image(served, leaves.new)
         }
         Request::Convert(path, new, form) => {
             let conversion = Conversion::new(path, form, new, telling);
-            convert_image(host, alloc, &conversion, leaves, writer, errors)
+            convert_image(
+                host,
+                alloc,
+                &conversion,
+                leaves,
+                &mut streams.writer,
+                &mut streams.errors,
+            )
         }
         Request::Migrate(path, form) => {
-            let migrated = migrate_image(host, alloc, path, form, leaves.image, writer, errors);
+            let migrated = migrate_image(
+                host,
+                alloc,
+                path,
+                form,
+                leaves.image,
+                &mut streams.writer,
+                &mut streams.errors,
+            );
             on_image(migrated, leaves.new)
         }
         Request::Import(path, form, ref task) => {
             let image = NamedImage { path, form };
-            let imported = import_image(host, alloc, &image, leaves.image, task, writer, errors);
+            let imported = import_image(
+                host,
+                alloc,
+                &image,
+                leaves.image,
+                task,
+                &mut streams.writer,
+                &mut streams.errors,
+            );
             on_image(imported, leaves.new)
         }
         Request::Export(path, form, ref task) => {
             let image = NamedImage { path, form };
-            let exported = export_image(host, alloc, &image, leaves.image, task, writer, errors);
+            let exported = export_image(
+                host,
+                alloc,
+                &image,
+                leaves.image,
+                task,
+                &mut streams.writer,
+                &mut streams.errors,
+            );
             on_image(exported, leaves.new)
         }
         Request::Salvage(path, form, ref task) => {
             let image = NamedImage { path, form };
-            let saved = salvage_image(host, alloc, &image, leaves.image, task, writer, errors);
+            let saved = salvage_image(
+                host,
+                alloc,
+                &image,
+                leaves.image,
+                task,
+                &mut streams.writer,
+                &mut streams.errors,
+            );
             on_image(saved, leaves.new)
         }
     }

@@ -9,18 +9,18 @@ ghost use Rattle.filser.specs.Tasks.{Attends, IsFirstMoment};
 ghost use Rattle.filser.specs.declared.status.Status.TheVariants.{BadArguments};
 
 use crate::fault::tell_no_memory;
-use crate::image::{open_image, tell_failure};
+use crate::image::{NamedImage, open_image, tell_failure};
 use crate::losses::give_back;
 use crate::message::print_line;
 use crate::program::refuse_image;
 use crate::reasons::{tell_ending, tell_late_date};
+use crate::streams::Streams;
 use crate::{Disks, Host, ImageDisks, OpeningLeave, Refusal, Run, Seen, Status, Task};
 use blockdisk::{Disk, MemDisk};
 use commands::{
     Monitor, Put, SessionError, Tally, Volume, check, delete, get, list, put, script, session,
 };
 use exchange::serve_wire;
-use imagefile::Form;
 use std::alloc::Global;
 use std::io::{Read, Write};
 use words36::Moment;
@@ -150,24 +150,27 @@ fn serve<D: Disk + Drop, R: Read, W: Write, E: Write>(
 pub(crate) fn serve_image<H: Host, R: Read, W: Write, E: Write>(
     host: &H,
     alloc: Global,
-    path: &str,
-    form: Form,
+    image: &NamedImage<'_>,
     leave: OpeningLeave,
     task: Task,
-    reader: &mut R,
-    writer: &mut W,
-    errors: &mut E,
+    streams: &mut Streams<R, W, E>,
 ) -> (Status, ImageDisks)
     ensures serving { result.0 ≢ BadArguments }
-    ensures ran { IsOnImage (H.facts host.now) (⟦<Run as Seen>⟧.views) path.now form (unseen_in leave.supposed) task
-        (R.remaining reader.old) (R.remaining reader.new) (W.contents writer.old) (W.contents writer.new) result.1
-        result.0 }
+    ensures ran { IsOnImage (H.facts host.now) (⟦<Run as Seen>⟧.views) image.now.path.now image.now.form
+        (unseen_in leave.supposed) task (R.remaining streams.old.reader) (R.remaining streams.new.reader)
+        (W.contents streams.old.writer) (W.contents streams.new.writer) result.1 result.0 }
 {
+    let (path, form) = (image.path, image.form);
+    let Streams {
+        reader,
+        writer,
+        errors,
+    } = streams;
     match open_image(host, alloc, path, form, task.access(), leave) {
-        Ok(image) => {
-            let (status, image) = serve(alloc, image, task, reader, writer, errors);
-            tell_failure(errors, path, &image);
-            (status, Disks::Served(image))
+        Ok(opened) => {
+            let (status, opened) = serve(alloc, opened, task, reader, writer, errors);
+            tell_failure(errors, path, &opened);
+            (status, Disks::Served(opened))
         }
         Err((fault, disks)) => (refuse_image(fault, path, writer, errors), disks),
     }
@@ -176,14 +179,17 @@ pub(crate) fn serve_image<H: Host, R: Read, W: Write, E: Write>(
 /// Serves the lines of the reader, at date 0 and minute 0, on a fresh volume in memory.
 pub(crate) fn serve_fresh<R: Read, W: Write, E: Write>(
     alloc: Global,
-    reader: &mut R,
-    writer: &mut W,
-    errors: &mut E,
+    streams: &mut Streams<R, W, E>,
 ) -> (Status, Option<MemDisk>)
     ensures serving { result.0 ≢ BadArguments }
-    ensures ran { IsOnFresh (⟦<Run as Seen>⟧.views) (R.remaining reader.old) (R.remaining reader.new)
-        (W.contents writer.old) (W.contents writer.new) result.1 result.0 }
+    ensures ran { IsOnFresh (⟦<Run as Seen>⟧.views) (R.remaining streams.old.reader) (R.remaining streams.new.reader)
+        (W.contents streams.old.writer) (W.contents streams.new.writer) result.1 result.0 }
 {
+    let Streams {
+        reader,
+        writer,
+        errors,
+    } = streams;
     let Ok(mut disk) = MemDisk::new(alloc, FRESH_BLOCKS, FRESH_CALLS) else {
         tell_no_memory(errors);
         return (Status::Fault, None);

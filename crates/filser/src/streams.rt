@@ -21,6 +21,17 @@ const ERRORS: RawFd = 2;
 /// written to it.
 const HOLDER: &str = "/";
 
+/// What a run reads and prints to.
+#[derive(Drop)]
+pub struct Streams<R, W, E> {
+    /// The input.
+    pub reader: R,
+    /// The output.
+    pub writer: W,
+    /// Where people are told what isn't part of the output.
+    pub errors: E,
+}
+
 /// The standard streams that the program was started without. An open file stands in the place of each, so that no
 /// file that is opened later gets its number, and what is printed can't land in an image.
 #[derive(Drop)]

@@ -14,7 +14,7 @@ returns-clause-asked g c r asks none = code_asked c.answer-outcome.result.status
 pub returns-clause-ran : goal.returns-clause-ran
 returns-clause-ran g c = (
   c.answer-outcome.result.status,
-  g.W.Write.contents c.answer-outcome.new.writer.writer,
+  g.W.Write.contents c.answer-outcome.new.streams.writer.writer,
   code_is c.flush-flushed.result c.answer-outcome.result.status c.exit_code.result c.exit_code.ensures,
   c.flush-flushed.ensures.bytes,
   c.answer-outcome.ensures.ran,
