@@ -68,10 +68,6 @@ pub found_on : {T E : Type 0} (P Q : E → Type 0) (result : Result T E) → ((e
 found_on P Q (Ok x) on met = tt
 found_on P Q (Err e) on met = on e met
 
-pub handed_back : {T U E : Type 0} (outer : Result T E) (inner : Result U E) (x y e : E) → outer ≡ Err x
-    → x ≡ y → inner ≡ Err y → inner ≡ Err e → outer ≡ Err e
-handed_back outer inner x y e is same was inner_is = cc
-
 -- The block that is named lies in the free space.
 
 pub version_named : {T : Type 0} (size prime : ℕ) (result : Result T VolumeError) → InSpace size prime

@@ -17,6 +17,7 @@ pub mod FaultyDirectories
 pub mod FaultyMaps
 pub mod FoundMaps
 pub mod Opening
+pub mod DisksAsked
 pub mod Starting
 pub mod CopiedImages
 pub mod CopyOrder

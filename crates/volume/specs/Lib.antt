@@ -1,4 +1,5 @@
 pub mod Facts
+pub mod DiskAnswers
 pub mod FileReading
 pub mod FileLaws
 pub mod Homes

@@ -5,6 +5,7 @@ ghost use Rattle.changeset.specs.Reads.{OnlyReads};
 ghost use Rattle.meaning.specs.Files.{File, Files};
 ghost use Rattle.meaning.specs.Layouts.{StandsOn, pack_of};
 ghost use Rattle.meaning.specs.Stands.{Stands};
+ghost use Rattle.volume.specs.DiskAnswers.{DiskAnswer};
 ghost use Rattle.volume.specs.Copying.{copied, AreCopied, ArePartlyCopied, HomesComeLast, IsCopyStep};
 ghost use Rattle.volume.specs.FaultsFound.{NamesInSpace, Refuses};
 ghost use Rattle.volume.specs.Rest.{RestsAt, StandsLike, StandsLikeBefore};
@@ -71,16 +72,8 @@ impl<D: Disk> Volume<D> {
             → to.new ≡ to.old }
 
         // On every disk.
-        ensures same_source { SameDisk (D.state from.old) (D.state from.new) }
-        ensures same_target { SameDisk (E.state to.old) (E.state to.new) }
-        ensures failed_source { IsErrOf result (Source Device)
-            → (D.state from.new).failures ≡ one_more (D.state from.old).failures }
-        ensures served_source { (IsErrOf result (Source Device) → ⊥)
-            → (D.state from.new).failures ≡ (D.state from.old).failures }
-        ensures failed_target { IsErrOf result Target
-            → (E.state to.new).failures ≡ one_more (E.state to.old).failures }
-        ensures served_target { (IsErrOf result Target → ⊥)
-            → (E.state to.new).failures ≡ (E.state to.old).failures }
+        ensures source { DiskAnswer (D.state from.old) (D.state from.new) (IsErrOf result (Source Device)) }
+        ensures target { DiskAnswer (E.state to.old) (E.state to.new) (IsErrOf result Target) }
     {
         match read_volume(alloc, from) {
             Ok(map) => {

@@ -1,7 +1,7 @@
 ghost use Rattle.std.specs.Prelude.{◌≡◌, ◌+◌, ◌*◌, ◌<◌, ◌≤◌, ◌⊎◌, ◌∷◌, ◌++◌, ℕ, None, IfOk, IfErr, OnOk, IsErrOf};
 ghost use Rattle.std.specs.Prelude.{length};
 ghost use Rattle.std.specs.List.{AllByRecursion};
-ghost use Rattle.blockdisk.specs.Disk.{Keeps, SameDisk, IsWholeBlock, one_more};
+ghost use Rattle.blockdisk.specs.Disk.{IsWholeBlock};
 ghost use Rattle.meaning.specs.Maps.{times};
 ghost use Rattle.meaning.specs.Costs.{blocks_of};
 ghost use Rattle.meaning.specs.Regions.{IsVolumeSize};
@@ -12,6 +12,7 @@ ghost use Rattle.meaning.specs.Faults.{InSpace, IsBadVersion};
 ghost use Rattle.alloctab.specs.Lists.{digit_at};
 ghost use Rattle.retrieval.specs.Reading.{IsVersionAt};
 ghost use Rattle.retrieval.specs.Writing.{rib_count};
+ghost use Rattle.volume.specs.DiskAnswers.{KeepsDisk};
 ghost use Rattle.volume.specs.FileReading.{IsFileFound, IsOtherPlace, IsReachedTwice, IsDamagedData};
 ghost use Rattle.volume.specs.FileReading.{IsVersionRefusal, IsDataRefusal, IsFileRefusal};
 ghost use Rattle.volume.specs.FaultsFound.{NamesInSpace};
@@ -72,10 +73,7 @@ pub fn read_named<D: Disk>(
     ensures only { IfErr result IsVersionRefusal }
     ensures named { (k : ℕ) → IsErrOf result (BadRetrieval k) → (k ≡ prime) ⊎ InSpace (D.state disk.old).size k }
     // The device: what failed, and how often.
-    ensures keeps { (D.state disk.new).honest → Keeps (D.state disk.old) (D.state disk.new) }
-    ensures same { SameDisk (D.state disk.old) (D.state disk.new) }
-    ensures failed { IsErrOf result Device → (D.state disk.new).failures ≡ one_more (D.state disk.old).failures }
-    ensures served { (IsErrOf result Device → ⊥) → (D.state disk.new).failures ≡ (D.state disk.old).failures }
+    ensures disk { KeepsDisk (D.state disk.old) (D.state disk.new) (IsErrOf result Device) }
 {
     let (facts, version) = match read_version(alloc, disk, prime, layout) {
         Ok(read) => read,
@@ -102,10 +100,7 @@ fn read_run<D: Disk>(disk: &mut D, run: Run) -> Result<(), VolumeError>
         → (D.state disk.old).contents k ≡ None }
     ensures only { IfErr result IsDataRefusal }
     ensures named { (k : ℕ) → IsErrOf result (BadData k) → (run.first ≤ k) × (k ≤ run.last) }
-    ensures keeps { (D.state disk.new).honest → Keeps (D.state disk.old) (D.state disk.new) }
-    ensures same { SameDisk (D.state disk.old) (D.state disk.new) }
-    ensures failed { IsErrOf result Device → (D.state disk.new).failures ≡ one_more (D.state disk.old).failures }
-    ensures served { (IsErrOf result Device → ⊥) → (D.state disk.new).failures ≡ (D.state disk.old).failures }
+    ensures disk { KeepsDisk (D.state disk.old) (D.state disk.new) (IsErrOf result Device) }
 {
     match disk.verify(run.first, run.last + 1) {
         Ok(None) => Ok(()),
@@ -128,10 +123,7 @@ pub fn read_data<D: Disk>(disk: &mut D, version: &Version) -> Result<(), VolumeE
         → (0 < times k version.now.blocks) × ((D.state disk.old).contents k ≡ None) }
     ensures only { IfErr result IsDataRefusal }
     ensures named { (k : ℕ) → IsErrOf result (BadData k) → InSpace (D.state disk.old).size k }
-    ensures keeps { (D.state disk.new).honest → Keeps (D.state disk.old) (D.state disk.new) }
-    ensures same { SameDisk (D.state disk.old) (D.state disk.new) }
-    ensures failed { IsErrOf result Device → (D.state disk.new).failures ≡ one_more (D.state disk.old).failures }
-    ensures served { (IsErrOf result Device → ⊥) → (D.state disk.new).failures ≡ (D.state disk.old).failures }
+    ensures disk { KeepsDisk (D.state disk.old) (D.state disk.new) (IsErrOf result Device) }
 {
     for run in version.runs() {
         read_run(disk, *run)?;
@@ -188,10 +180,7 @@ pub fn read_file<D: Disk>(
     ensures only { IfErr result IsFileRefusal }
     ensures named { IfErr result (NamesInSpace (D.state disk.old).size) }
     // The device: what failed, and how often.
-    ensures keeps { (D.state disk.new).honest → Keeps (D.state disk.old) (D.state disk.new) }
-    ensures same { SameDisk (D.state disk.old) (D.state disk.new) }
-    ensures failed { IsErrOf result Device → (D.state disk.new).failures ≡ one_more (D.state disk.old).failures }
-    ensures served { (IsErrOf result Device → ⊥) → (D.state disk.new).failures ≡ (D.state disk.old).failures }
+    ensures disk { KeepsDisk (D.state disk.old) (D.state disk.new) (IsErrOf result Device) }
 {
     let stored = read_named(alloc, disk, layout, ppn, name, prime)?;
     if let Err(block) = mark_version(reached, prime, &stored.version) {

@@ -1,5 +1,5 @@
 ghost use Rattle.std.specs.Prelude.{◌≡◌, ◌⊎◌, ◌<◌, ◌≤◌, ◌+◌, ◌↔◌, ◌^◌, ℕ, Some, OnOk, IsErrOf};
-ghost use Rattle.blockdisk.specs.Disk.{LeavesOnly, Near, SameDisk, Modifies, NoneOpen, one_more};
+ghost use Rattle.blockdisk.specs.Disk.{LeavesOnly, Near, Modifies, NoneOpen};
 ghost use Rattle.blockdisk.specs.declared.fault.Fault.TheVariants.{Device as Failed, Damaged};
 ghost use Rattle.alloctab.specs.TableBlocks.{number_of, table_words};
 ghost use Rattle.changeset.specs.Rest.{AtRest};
@@ -8,6 +8,7 @@ ghost use Rattle.meaning.specs.Maps.{empty};
 ghost use Rattle.meaning.specs.Regions.{IsVolumeSize};
 ghost use Rattle.meaning.specs.Log.{IsGateOpen};
 ghost use Rattle.meaning.specs.Stands.{HasMap};
+ghost use Rattle.volume.specs.DiskAnswers.{DiskAnswer};
 ghost use Rattle.volume.specs.Homes.{IsInitBlock, IsBare, bare_map, bit_below, fresh_words};
 ghost use Rattle.volume.specs.declared.error.VolumeError.{VolumeError};
 ghost use Rattle.volume.specs.declared.error.VolumeError.TheVariants.{NotVolume, Device};
@@ -54,9 +55,7 @@ pub fn init_layout<D: Disk>(disk: &mut D, layout: Layout) -> Result<(), VolumeEr
     ensures range { IsErrOf result NotVolume ↔ (IsVolumeSize (D.state disk.old).size → ⊥) }
     ensures untouched { IsErrOf result NotVolume → disk.new ≡ disk.old }
     ensures only { (e : VolumeError) → IsErrOf result e → (e ≡ NotVolume) ⊎ (e ≡ Device) }
-    ensures same { SameDisk (D.state disk.old) (D.state disk.new) }
-    ensures failed { IsErrOf result Device → (D.state disk.new).failures ≡ one_more (D.state disk.old).failures }
-    ensures served { (IsErrOf result Device → ⊥) → (D.state disk.new).failures ≡ (D.state disk.old).failures }
+    ensures disk { DiskAnswer (D.state disk.old) (D.state disk.new) (IsErrOf result Device) }
 {
     if !is_volume_size(disk.blocks()) {
         return Err(VolumeError::NotVolume);
@@ -78,10 +77,8 @@ fn write_volume<D: Disk>(disk: &mut D, layout: Layout) -> Result<(), Fault>
     ensures near { (D.state disk.new).honest
         → LeavesOnly (D.state disk.old) (D.state disk.new)
         (Near (IsInitBlock (D.state disk.old).size) (D.state disk.old)) }
-    ensures same { SameDisk (D.state disk.old) (D.state disk.new) }
     ensures device { IsErrOf result Damaged → ⊥ }
-    ensures failed { IsErrOf result Failed → (D.state disk.new).failures ≡ one_more (D.state disk.old).failures }
-    ensures served { OnOk result ((D.state disk.new).failures ≡ (D.state disk.old).failures) }
+    ensures disk { DiskAnswer (D.state disk.old) (D.state disk.new) (IsErrOf result Failed) }
 {
     let size = disk.blocks();
     write_fresh(disk, layout, 0, LOG_START)?;
@@ -97,10 +94,8 @@ fn write_fresh<D: Disk>(disk: &mut D, layout: Layout, from: u32, end: u32) -> Re
         → (D.state disk.new).contents n ≡ Some (fresh_words (layout_number layout) (D.state disk.old).size n)) }
     ensures modified { (D.state disk.new).honest
         → Modifies (λ n. (from ≤ n) × (n < end)) (D.state disk.old) (D.state disk.new) }
-    ensures same { SameDisk (D.state disk.old) (D.state disk.new) }
     ensures device { IsErrOf result Damaged → ⊥ }
-    ensures failed { IsErrOf result Failed → (D.state disk.new).failures ≡ one_more (D.state disk.old).failures }
-    ensures served { OnOk result ((D.state disk.new).failures ≡ (D.state disk.old).failures) }
+    ensures disk { DiskAnswer (D.state disk.old) (D.state disk.new) (IsErrOf result Failed) }
 {
     let size = disk.blocks();
     for n in from..end {

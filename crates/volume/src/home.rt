@@ -1,11 +1,10 @@
 ghost use Rattle.std.specs.Prelude.{◌≡◌, ◌⊎◌, ◌<◌, ◌≤◌, ℕ, IfOk, IfSome, IfNone, IsErrOf, slice_index};
-ghost use Rattle.blockdisk.specs.Disk.{SameDisk, one_more};
-ghost use Rattle.changeset.specs.Reads.{OnlyReads};
 ghost use Rattle.meaning.specs.Regions.{IsVolumeSize};
 ghost use Rattle.meaning.specs.Home.{home_block, IsHome};
 ghost use Rattle.meaning.specs.Faults.{InSpace, IsNotVolume, IsBadHome};
 ghost use Rattle.meaning.specs.Home.{IsLayout};
 ghost use Rattle.meaning.specs.Layouts.{layout_number};
+ghost use Rattle.volume.specs.DiskAnswers.{ReadsDisk};
 ghost use Rattle.volume.specs.Homes.{home_in, IsFound, IsFoundInSpace, holds_words};
 ghost use Rattle.volume.specs.declared.error.VolumeError.{VolumeError};
 ghost use Rattle.volume.specs.declared.error.VolumeError.TheVariants.{NotVolume, BadHome, Device};
@@ -114,11 +113,8 @@ fn read_copy<D: Disk>(disk: &mut D, n: u32) -> Result<HomeCopy, VolumeError>
     ensures found { (D.state disk.new).honest
         → IfOk result (λ copy. IsFound (D.state disk.old).size (D.state disk.old).contents n copy) }
     ensures inside { IfOk result (λ copy. IsFoundInSpace (D.state disk.old).size copy) }
-    ensures reads { (D.state disk.new).honest → OnlyReads (D.state disk.old) (D.state disk.new) }
     ensures only { (e : VolumeError) → IsErrOf result e → e ≡ Device }
-    ensures same { SameDisk (D.state disk.old) (D.state disk.new) }
-    ensures failed { IsErrOf result Device → (D.state disk.new).failures ≡ one_more (D.state disk.old).failures }
-    ensures served { (IsErrOf result Device → ⊥) → (D.state disk.new).failures ≡ (D.state disk.old).failures }
+    ensures disk { ReadsDisk (D.state disk.old) (D.state disk.new) (IsErrOf result Device) }
 {
     let size = disk.blocks();
     match disk.read(n) {
@@ -150,10 +146,7 @@ pub fn read_home<D: Disk>(disk: &mut D) -> Result<Home, VolumeError>
     ensures size_first { (IsVolumeSize (D.state disk.old).size → ⊥) → IsErrOf result NotVolume × (disk.new ≡ disk.old) }
 
     // Nothing is written.
-    ensures reads { (D.state disk.new).honest → OnlyReads (D.state disk.old) (D.state disk.new) }
-    ensures same { SameDisk (D.state disk.old) (D.state disk.new) }
-    ensures failed { IsErrOf result Device → (D.state disk.new).failures ≡ one_more (D.state disk.old).failures }
-    ensures served { (IsErrOf result Device → ⊥) → (D.state disk.new).failures ≡ (D.state disk.old).failures }
+    ensures disk { ReadsDisk (D.state disk.old) (D.state disk.new) (IsErrOf result Device) }
 {
     if !is_volume_size(disk.blocks()) {
         return Err(VolumeError::NotVolume);

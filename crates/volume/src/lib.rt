@@ -37,7 +37,8 @@
 //! 10. On a volume that failed before, `put_words`, `get_words` and `publish` answer `Failed`, and neither disk nor
 //!    core changes. `get_words` never answers a damaged block as words, and the others never take one for words that
 //!    stay. (`failed`, `broken`, `whole`)
-//! 11. `Device` comes exactly with one more failure of the disk, on every disk. (`answer`)
+//! 11. `Device` comes exactly with one more failure of the disk, on every disk. (`answer`, and `disk`, which is
+//!     `DiskAnswer`, of a call that is given a disk)
 //! 12. `delete` takes a file away by one change, with no block written before it: whatever a crash leaves at any moment
 //!    of it stands for the files from before, or for these without the file. At Ok it is the latter. All versions that
 //!    readers hold and all that are being written stay, and but for `Device` their blocks do. (`files`, `removed`,

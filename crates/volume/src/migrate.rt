@@ -1,5 +1,5 @@
 ghost use Rattle.std.specs.Prelude.{◌≡◌, ◌⊎◌, ◌≤◌, ℕ, length, OnOk, IfOk, IfErr, IsErrOf};
-ghost use Rattle.blockdisk.specs.Disk.{LeavesOnly, Modifies, NoneOpen, SameDisk, Still, one_more};
+ghost use Rattle.blockdisk.specs.Disk.{LeavesOnly, Modifies, NoneOpen, Still};
 ghost use Rattle.changeset.specs.Crashes.{AllOrNone, IsGateOrLog, IsRecovered, IsShut, SyncsFirst};
 ghost use Rattle.changeset.specs.Puts.{replaced};
 ghost use Rattle.changeset.specs.Rest.{AtRest};
@@ -10,6 +10,7 @@ ghost use Rattle.meaning.specs.Layouts.{SettledStandsOn, StandsOn, pack_in};
 ghost use Rattle.meaning.specs.Regions.{IsVolumeSize};
 ghost use Rattle.meaning.specs.Stands.{DiskMap, HasMap, files_of};
 ghost use Rattle.volume.specs.FaultsFound.{NamesInSpace, Refuses};
+ghost use Rattle.volume.specs.DiskAnswers.{DiskAnswer};
 ghost use Rattle.volume.specs.Homes.{home_in};
 ghost use Rattle.volume.specs.Migrating.{RaisedLike, RaisedLikeBefore, StandsOrRaised, IsTold, IsHomeBlock};
 ghost use Rattle.volume.specs.Migrating.{AreCopies, IsMigrated, home_puts};
@@ -90,9 +91,7 @@ fn raise<D: Disk>(disk: &mut D, master: u32) -> Result<(), VolumeError>
 
     // On every disk.
     ensures only { (e : VolumeError) → IsErrOf result e → e ≡ Device }
-    ensures same { SameDisk (D.state disk.old) (D.state disk.new) }
-    ensures failed { IsErrOf result Device → (D.state disk.new).failures ≡ one_more (D.state disk.old).failures }
-    ensures served { OnOk result ((D.state disk.new).failures ≡ (D.state disk.old).failures) }
+    ensures disk { DiskAnswer (D.state disk.old) (D.state disk.new) (IsErrOf result Device) }
 {
     let home = Home {
         layout: Layout::Two,
@@ -148,9 +147,7 @@ impl<D: Disk> Volume<D> {
 
         // On every disk.
         ensures named { IfErr result (NamesInSpace (D.state disk.old).size) }
-        ensures same { SameDisk (D.state disk.old) (D.state disk.new) }
-        ensures failed { IsErrOf result Device → (D.state disk.new).failures ≡ one_more (D.state disk.old).failures }
-        ensures served { (IsErrOf result Device → ⊥) → (D.state disk.new).failures ≡ (D.state disk.old).failures }
+        ensures disk { DiskAnswer (D.state disk.old) (D.state disk.new) (IsErrOf result Device) }
     {
         let map = read_volume(alloc, disk)?;
         match map.layout {

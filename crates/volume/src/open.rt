@@ -1,8 +1,6 @@
 ghost use Rattle.std.specs.Prelude.{◌≡◌, ◌+◌, ◌<◌, ℕ, false, map, length, replicate, IfOk, IfErr, IsErrOf};
 ghost use Rattle.std.specs.List.{AllByRecursion};
 ghost use Rattle.std.specs.Ordering.{nat_cmp};
-ghost use Rattle.blockdisk.specs.Disk.{SameDisk, one_more};
-ghost use Rattle.changeset.specs.Reads.{OnlyReads};
 ghost use Rattle.meaning.specs.Blocks.{head_or_zero};
 ghost use Rattle.meaning.specs.Directories.{master_words};
 ghost use Rattle.meaning.specs.Home.{IsHome, IsLayout};
@@ -18,6 +16,7 @@ ghost use Rattle.alloctab.specs.Reached.{wanted_bit};
 ghost use Rattle.alloctab.specs.TableState.{bit};
 ghost use Rattle.directory.specs.Chains.{nodes_of, IsChain, IsOn, viewed};
 ghost use Rattle.volume.specs.Cores.{master_view, known_directory, known_of};
+ghost use Rattle.volume.specs.DiskAnswers.{ReadsDisk};
 ghost use Rattle.volume.specs.Homes.{home_in};
 ghost use Rattle.volume.specs.Known.{known_reaches, IsWholeDirectory, IsWholeMap, IsBooked, IsHeld};
 ghost use Rattle.volume.specs.Found.{IsOnlySpace, IsMapFound, IsRightFor, IsWrongFor};
@@ -69,10 +68,7 @@ fn load_master<D: Disk>(
     ensures named { IfErr result (NamesInSpace (D.state disk.old).size) }
     // The device: what failed, and how often.
     ensures length { length reached.new ≡ length reached.old }
-    ensures reads { (D.state disk.new).honest → OnlyReads (D.state disk.old) (D.state disk.new) }
-    ensures same { SameDisk (D.state disk.old) (D.state disk.new) }
-    ensures failed { IsErrOf result Device → (D.state disk.new).failures ≡ one_more (D.state disk.old).failures }
-    ensures served { (IsErrOf result Device → ⊥) → (D.state disk.new).failures ≡ (D.state disk.old).failures }
+    ensures disk { ReadsDisk (D.state disk.old) (D.state disk.new) (IsErrOf result Device) }
 {
     let chain = match Chain::load(alloc, disk, first, reached) {
         Ok(chain) => chain,
@@ -118,10 +114,7 @@ fn read_tree<D: Disk>(
     ensures aligned { IfOk result (λ tree. length tree.1.items ≡ length tree.0.entries) }
     ensures length { length reached.new ≡ length reached.old }
     // The device: what failed, and how often.
-    ensures reads { (D.state disk.new).honest → OnlyReads (D.state disk.old) (D.state disk.new) }
-    ensures same { SameDisk (D.state disk.old) (D.state disk.new) }
-    ensures failed { IsErrOf result Device → (D.state disk.new).failures ≡ one_more (D.state disk.old).failures }
-    ensures served { (IsErrOf result Device → ⊥) → (D.state disk.new).failures ≡ (D.state disk.old).failures }
+    ensures disk { ReadsDisk (D.state disk.old) (D.state disk.new) (IsErrOf result Device) }
 {
     let master = load_master(alloc, disk, first, layout, reached)?;
     let directories = read_directories(alloc, disk, layout, master.entries(), reached)?;
@@ -148,10 +141,7 @@ fn load_table<D: Disk>(alloc: Global, disk: &mut D, reached: &Reached) -> Result
     ensures unbooked { IfOk result (λ table. table.booked ≡ 0) }
     ensures unchanged { IfOk result (λ table. table.changed ≡ replicate (table_blocks (D.state disk.old).size) false) }
     // The device: what failed, and how often.
-    ensures reads { (D.state disk.new).honest → OnlyReads (D.state disk.old) (D.state disk.new) }
-    ensures same { SameDisk (D.state disk.old) (D.state disk.new) }
-    ensures failed { IsErrOf result Device → (D.state disk.new).failures ≡ one_more (D.state disk.old).failures }
-    ensures served { (IsErrOf result Device → ⊥) → (D.state disk.new).failures ≡ (D.state disk.old).failures }
+    ensures disk { ReadsDisk (D.state disk.old) (D.state disk.new) (IsErrOf result Device) }
 {
     let table = match Table::load(alloc, disk) {
         Ok(table) => table,
@@ -181,10 +171,7 @@ pub fn read_map<D: Disk>(alloc: Global, disk: &mut D) -> Result<DiskMap, VolumeE
     ensures named { IfErr result (NamesInSpace (D.state disk.old).size) }
     ensures whole { IfOk result (λ read. IsWholeMap (D.state disk.old).size (known_of read)) }
     ensures booked { IfOk result (λ read. IsBooked (D.state disk.old).size (known_of read)) }
-    ensures reads { (D.state disk.new).honest → OnlyReads (D.state disk.old) (D.state disk.new) }
-    ensures same { SameDisk (D.state disk.old) (D.state disk.new) }
-    ensures failed { IsErrOf result Device → (D.state disk.new).failures ≡ one_more (D.state disk.old).failures }
-    ensures served { (IsErrOf result Device → ⊥) → (D.state disk.new).failures ≡ (D.state disk.old).failures }
+    ensures disk { ReadsDisk (D.state disk.old) (D.state disk.new) (IsErrOf result Device) }
 {
     let home = read_home(disk)?;
     let mut reached = Reached::new(alloc, disk.blocks())?;

@@ -1,7 +1,7 @@
 ghost use Rattle.std.specs.Prelude.{◌≡◌, ◌↔◌, ◌⊎◌, ◌+◌, ◌-◌, ◌*◌, ◌<◌, ◌≤◌, ℕ, List, true, false, length, None, Some};
 ghost use Rattle.std.specs.Prelude.{IfNone, IfSome, IsSome, OnOk, IsErrOf};
 ghost use Rattle.std.specs.List.{AllByRecursion};
-ghost use Rattle.blockdisk.specs.Disk.{LeavesOnly, SameDisk, Modifies, one_more};
+ghost use Rattle.blockdisk.specs.Disk.{LeavesOnly, Modifies};
 ghost use Rattle.meaning.specs.Layouts.{StandsOn, pack_of};
 ghost use Rattle.meaning.specs.declared.code.ErrorCode.{ErrorCode};
 ghost use Rattle.meaning.specs.declared.code.ErrorCode.TheVariants.{NoRoom};
@@ -18,6 +18,7 @@ ghost use Rattle.retrieval.specs.Placing.{IsEdgeBlock};
 ghost use Rattle.retrieval.specs.Versions.{VersionState};
 ghost use Rattle.retrieval.specs.Writing.{IsFixed};
 ghost use Rattle.retrieval.specs.declared.error.BodyError.TheVariants as body;
+ghost use Rattle.volume.specs.DiskAnswers.{DiskAnswer};
 ghost use Rattle.volume.specs.Edits.{DeviceAnswer};
 ghost use Rattle.volume.specs.HomeBlocks.{HasHomesFrom, KeepsHomes};
 ghost use Rattle.volume.specs.Live.{IsWholeCore, pending_at};
@@ -130,9 +131,7 @@ fn put_booked<D: Disk>(
         → (0 < times k version.old.blocks) × ((D.state disk.old).contents k ≡ None) }
     ensures edge { (D.state disk.new).honest → (k : ℕ) → IsErrOf result (body.BadData k)
         → IsEdgeBlock version.old.blocks version.old.words (block - 1) (length words.now) k }
-    ensures same { SameDisk (D.state disk.old) (D.state disk.new) }
-    ensures failed { IsErrOf result body.Device → (D.state disk.new).failures ≡ one_more (D.state disk.old).failures }
-    ensures served { (IsErrOf result body.Device → ⊥) → (D.state disk.new).failures ≡ (D.state disk.old).failures }
+    ensures disk { DiskAnswer (D.state disk.old) (D.state disk.new) (IsErrOf result body.Device) }
 {
     let cost = version_cost(version) + more;
     table.book(more);
@@ -205,9 +204,7 @@ fn put_pending<D: Disk>(
         → IsErrOf result Failed → (k : ℕ) × (0 < times k p.version.blocks) × ((D.state disk.old).contents k ≡ None)
         × IsEdgeBlock p.version.blocks p.version.words (block - 1) (length words.now) k }
 
-    ensures same { SameDisk (D.state disk.old) (D.state disk.new) }
-    ensures failed { IsErrOf result Device → (D.state disk.new).failures ≡ one_more (D.state disk.old).failures }
-    ensures served { (IsErrOf result Device → ⊥) → (D.state disk.new).failures ≡ (D.state disk.old).failures }
+    ensures disk { DiskAnswer (D.state disk.old) (D.state disk.new) (IsErrOf result Device) }
 {
     let Some(pending) = pending.get_mut(key) else {
         unreachable!() // there is a version

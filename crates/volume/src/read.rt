@@ -1,6 +1,5 @@
 ghost use Rattle.std.specs.Prelude.{◌≡◌, ◌+◌, ◌∷◌, ◌++◌, [], ℕ, map, length, IfOk, OnOk, IfErr, IsErrOf};
 ghost use Rattle.std.specs.List.{AllByRecursion};
-ghost use Rattle.blockdisk.specs.Disk.{Keeps, SameDisk, one_more};
 ghost use Rattle.meaning.specs.Blocks.{head_or_zero};
 ghost use Rattle.meaning.specs.Directories.{file_words, IsFileEntry};
 ghost use Rattle.meaning.specs.Files.{name_cmp};
@@ -14,6 +13,7 @@ ghost use Rattle.std.specs.Ordering.{nat_cmp};
 ghost use Rattle.alloctab.specs.Lists.{digit_at};
 ghost use Rattle.directory.specs.Chains.{nodes_of, IsChain, IsOn, viewed};
 ghost use Rattle.volume.specs.Cores.{file_view, master_view, known_version, known_directory};
+ghost use Rattle.volume.specs.DiskAnswers.{KeepsDisk};
 ghost use Rattle.volume.specs.Known.{blocks_reached, reaches_in_entries, reaches_in_known, IsWholeVersion};
 ghost use Rattle.volume.specs.Known.{IsWholeDirectory};
 ghost use Rattle.volume.specs.Found.{IsOnlySpace, IsAdded, IsMarkedFile, AreFilesRead, IsDirectoryFound};
@@ -65,10 +65,7 @@ fn load_files<D: Disk>(
     ensures named { IfErr result (NamesInSpace (D.state disk.old).size) }
     // The device: what failed, and how often.
     ensures length { length reached.new ≡ length reached.old }
-    ensures keeps { (D.state disk.new).honest → Keeps (D.state disk.old) (D.state disk.new) }
-    ensures same { SameDisk (D.state disk.old) (D.state disk.new) }
-    ensures failed { IsErrOf result Device → (D.state disk.new).failures ≡ one_more (D.state disk.old).failures }
-    ensures served { (IsErrOf result Device → ⊥) → (D.state disk.new).failures ≡ (D.state disk.old).failures }
+    ensures disk { KeepsDisk (D.state disk.old) (D.state disk.new) (IsErrOf result Device) }
 {
     match Chain::load(alloc, disk, first, reached) {
         Ok(chain) => Ok(chain),
@@ -110,10 +107,7 @@ fn add_file<D: Disk>(
         → OnOk result (IsOnlySpace (D.state disk.old).size reached.new) }
     // The device: what failed, and how often.
     ensures length { length reached.new ≡ length reached.old }
-    ensures keeps { (D.state disk.new).honest → Keeps (D.state disk.old) (D.state disk.new) }
-    ensures same { SameDisk (D.state disk.old) (D.state disk.new) }
-    ensures failed { IsErrOf result Device → (D.state disk.new).failures ≡ one_more (D.state disk.old).failures }
-    ensures served { (IsErrOf result Device → ⊥) → (D.state disk.new).failures ≡ (D.state disk.old).failures }
+    ensures disk { KeepsDisk (D.state disk.old) (D.state disk.new) (IsErrOf result Device) }
 {
     let entry = turn.entry;
     let stored = read_file(alloc, disk, layout, ppn, entry.name, entry.prime, reached)?;
@@ -155,10 +149,7 @@ fn read_turns<D: Disk>(
         → IfOk result (λ read. IsOnlySpace (D.state disk.old).size reached.new) }
     // The device: what failed, and how often.
     ensures length { length reached.new ≡ length reached.old }
-    ensures keeps { (D.state disk.new).honest → Keeps (D.state disk.old) (D.state disk.new) }
-    ensures same { SameDisk (D.state disk.old) (D.state disk.new) }
-    ensures failed { IsErrOf result Device → (D.state disk.new).failures ≡ one_more (D.state disk.old).failures }
-    ensures served { (IsErrOf result Device → ⊥) → (D.state disk.new).failures ≡ (D.state disk.old).failures }
+    ensures disk { KeepsDisk (D.state disk.old) (D.state disk.new) (IsErrOf result Device) }
 {
     let mut read = Vec::new(alloc);
     for turn in turns {
@@ -199,10 +190,7 @@ fn read_files<D: Disk>(
         → IfOk result (λ versions. IsOnlySpace (D.state disk.old).size reached.new) }
     // The device: what failed, and how often.
     ensures length { length reached.new ≡ length reached.old }
-    ensures keeps { (D.state disk.new).honest → Keeps (D.state disk.old) (D.state disk.new) }
-    ensures same { SameDisk (D.state disk.old) (D.state disk.new) }
-    ensures failed { IsErrOf result Device → (D.state disk.new).failures ≡ one_more (D.state disk.old).failures }
-    ensures served { (IsErrOf result Device → ⊥) → (D.state disk.new).failures ≡ (D.state disk.old).failures }
+    ensures disk { KeepsDisk (D.state disk.old) (D.state disk.new) (IsErrOf result Device) }
 {
     let turns = rising_turns(alloc, entries)?;
     let read = read_turns(alloc, disk, layout, ppn, &turns, reached)?;
@@ -239,10 +227,7 @@ fn read_directory<D: Disk>(
         → IfOk result (λ directory. IsOnlySpace (D.state disk.old).size reached.new) }
     // The device: what failed, and how often.
     ensures length { length reached.new ≡ length reached.old }
-    ensures keeps { (D.state disk.new).honest → Keeps (D.state disk.old) (D.state disk.new) }
-    ensures same { SameDisk (D.state disk.old) (D.state disk.new) }
-    ensures failed { IsErrOf result Device → (D.state disk.new).failures ≡ one_more (D.state disk.old).failures }
-    ensures served { (IsErrOf result Device → ⊥) → (D.state disk.new).failures ≡ (D.state disk.old).failures }
+    ensures disk { KeepsDisk (D.state disk.old) (D.state disk.new) (IsErrOf result Device) }
 {
     let chain = load_files(alloc, disk, entry.first, reached)?;
     let versions = read_files(alloc, disk, layout, entry.ppn, chain.entries(), reached)?;
@@ -282,10 +267,7 @@ fn add_directory<D: Disk>(
         → OnOk result (IsOnlySpace (D.state disk.old).size reached.new) }
     // The device: what failed, and how often.
     ensures length { length reached.new ≡ length reached.old }
-    ensures keeps { (D.state disk.new).honest → Keeps (D.state disk.old) (D.state disk.new) }
-    ensures same { SameDisk (D.state disk.old) (D.state disk.new) }
-    ensures failed { IsErrOf result Device → (D.state disk.new).failures ≡ one_more (D.state disk.old).failures }
-    ensures served { (IsErrOf result Device → ⊥) → (D.state disk.new).failures ≡ (D.state disk.old).failures }
+    ensures disk { KeepsDisk (D.state disk.old) (D.state disk.new) (IsErrOf result Device) }
 {
     let directory = read_directory(alloc, disk, layout, entry, reached)?;
     if directories.push(directory).is_err() {
@@ -327,10 +309,7 @@ pub fn read_directories<D: Disk>(
         → IfOk result (λ directories. IsOnlySpace (D.state disk.old).size reached.new) }
     // The device: what failed, and how often.
     ensures length { length reached.new ≡ length reached.old }
-    ensures keeps { (D.state disk.new).honest → Keeps (D.state disk.old) (D.state disk.new) }
-    ensures same { SameDisk (D.state disk.old) (D.state disk.new) }
-    ensures failed { IsErrOf result Device → (D.state disk.new).failures ≡ one_more (D.state disk.old).failures }
-    ensures served { (IsErrOf result Device → ⊥) → (D.state disk.new).failures ≡ (D.state disk.old).failures }
+    ensures disk { KeepsDisk (D.state disk.old) (D.state disk.new) (IsErrOf result Device) }
 {
     let mut directories = Vec::new(alloc);
     for entry in entries {

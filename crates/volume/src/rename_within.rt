@@ -2,7 +2,6 @@ ghost use Rattle.std.specs.Prelude.{◌≡◌, ◌↔◌, ◌⊎◌, ◌<◌, �
 ghost use Rattle.std.specs.Prelude.{IsSome, IfOk, IfErr, OnOk, IsErrOf};
 ghost use Rattle.std.specs.Ordering.{nat_cmp};
 ghost use Rattle.std.specs.FinMap.Entries.{find};
-ghost use Rattle.blockdisk.specs.Disk.{Keeps, SameDisk, one_more};
 ghost use Rattle.words36.specs.declared.names.FileName.{FileName};
 ghost use Rattle.changeset.specs.Puts.{replaced};
 ghost use Rattle.meaning.specs.declared.code.ErrorCode.{ErrorCode};
@@ -18,6 +17,7 @@ ghost use Rattle.retrieval.specs.Primes.{IsRewritten};
 ghost use Rattle.retrieval.specs.declared.prime.Prime.{Prime as PrimeValue};
 ghost use Rattle.volume.specs.Beginning.{IsDirectoryOf};
 ghost use Rattle.volume.specs.Claims.{claims};
+ghost use Rattle.volume.specs.DiskAnswers.{KeepsDisk};
 ghost use Rattle.volume.specs.Cores.{file_view};
 ghost use Rattle.volume.specs.Edits.{ChangesFiles, DeviceAnswer, IsEdited};
 ghost use Rattle.volume.specs.Known.{KnownDirectory};
@@ -107,11 +107,8 @@ fn read_words<D: Disk>(disk: &mut D, at: u32) -> Result<Block, CallError>
     requires { at < (D.state disk.old).size }
     ensures words { (D.state disk.new).honest → IfOk result (λ words. (D.state disk.old).contents at ≡ Some words) }
     ensures damaged { (D.state disk.new).honest → IsErrOf result Failed → (D.state disk.old).contents at ≡ None }
-    ensures keeps { (D.state disk.new).honest → Keeps (D.state disk.old) (D.state disk.new) }
     ensures only { IfErr result (λ error. (error ≡ Device) ⊎ (error ≡ Failed)) }
-    ensures failed { IsErrOf result Device → (D.state disk.new).failures ≡ one_more (D.state disk.old).failures }
-    ensures served { (IsErrOf result Device → ⊥) → (D.state disk.new).failures ≡ (D.state disk.old).failures }
-    ensures same { SameDisk (D.state disk.old) (D.state disk.new) }
+    ensures disk { KeepsDisk (D.state disk.old) (D.state disk.new) (IsErrOf result Device) }
 {
     match disk.read(at) {
         Ok(words) => Ok(words),
@@ -164,11 +161,8 @@ pub(crate) fn read_prime<D: Disk>(
     ensures broken { (D.state disk.new).honest → IsErrOf result Failed → (v : LiveVersion) (words : List ℕ)
         → slot versions.now.slots key ≡ Some v → (D.state disk.old).contents at ≡ Some words
         → IsFilePrime words ppn name.now v → ⊥ }
-    ensures keeps { (D.state disk.new).honest → Keeps (D.state disk.old) (D.state disk.new) }
     ensures only { IfErr result (λ error. (error ≡ Device) ⊎ (error ≡ Failed)) }
-    ensures failed { IsErrOf result Device → (D.state disk.new).failures ≡ one_more (D.state disk.old).failures }
-    ensures served { (IsErrOf result Device → ⊥) → (D.state disk.new).failures ≡ (D.state disk.old).failures }
-    ensures same { SameDisk (D.state disk.old) (D.state disk.new) }
+    ensures disk { KeepsDisk (D.state disk.old) (D.state disk.new) (IsErrOf result Device) }
 {
     let words = match read_words(disk, at) {
         Ok(words) => words,

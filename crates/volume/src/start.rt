@@ -1,6 +1,6 @@
 ghost use Rattle.std.specs.Prelude.{◌≡◌, ◌⊎◌, ◌↔◌, ℕ, [], false, OnOk, IfOk, IfErr, IfSome, IsErrOf};
 ghost use Rattle.std.specs.List.{AllByRecursion};
-ghost use Rattle.blockdisk.specs.Disk.{Near, NoneOpen, SameDisk, Still, Modifies, LeavesOnly, one_more};
+ghost use Rattle.blockdisk.specs.Disk.{Near, NoneOpen, Still, Modifies, LeavesOnly};
 ghost use Rattle.changeset.specs.Crashes.{IsRecovered, SyncsFirst};
 ghost use Rattle.changeset.specs.Rest.{AtRest};
 ghost use Rattle.meaning.specs.Files.{File, Files};
@@ -10,6 +10,7 @@ ghost use Rattle.meaning.specs.Maps.{empty};
 ghost use Rattle.meaning.specs.Regions.{IsVolumeSize};
 ghost use Rattle.meaning.specs.Stands.{Stands};
 ghost use Rattle.volume.specs.Cores.{known_of};
+ghost use Rattle.volume.specs.DiskAnswers.{DiskAnswer};
 ghost use Rattle.volume.specs.Homes.{IsBare, IsInitBlock};
 ghost use Rattle.volume.specs.Known.{IsWholeMap, IsBooked};
 ghost use Rattle.volume.specs.Live.{IsFirstRead};
@@ -70,9 +71,7 @@ pub fn read_volume<D: Disk>(alloc: Global, disk: &mut D) -> Result<DiskMap, Volu
 
     // On every disk.
     ensures named { IfErr result (NamesInSpace (D.state disk.old).size) }
-    ensures same { SameDisk (D.state disk.old) (D.state disk.new) }
-    ensures failed { IsErrOf result Device → (D.state disk.new).failures ≡ one_more (D.state disk.old).failures }
-    ensures served { (IsErrOf result Device → ⊥) → (D.state disk.new).failures ≡ (D.state disk.old).failures }
+    ensures disk { DiskAnswer (D.state disk.old) (D.state disk.new) (IsErrOf result Device) }
 {
     match recover(disk) {
         Ok(()) => read_map(alloc, disk),
@@ -104,9 +103,7 @@ impl<D: Disk> Volume<D> {
         ensures range { IsErrOf result NotVolume ↔ (IsVolumeSize (D.state disk.old).size → ⊥) }
         ensures untouched { IsErrOf result NotVolume → disk.new ≡ disk.old }
         ensures only { IfErr result (λ error. (error ≡ NotVolume) ⊎ (error ≡ Device)) }
-        ensures same { SameDisk (D.state disk.old) (D.state disk.new) }
-        ensures failed { IsErrOf result Device → (D.state disk.new).failures ≡ one_more (D.state disk.old).failures }
-        ensures served { (IsErrOf result Device → ⊥) → (D.state disk.new).failures ≡ (D.state disk.old).failures }
+        ensures disk { DiskAnswer (D.state disk.old) (D.state disk.new) (IsErrOf result Device) }
     {
         init_layout(disk, Layout::One)
     }
@@ -134,9 +131,7 @@ impl<D: Disk> Volume<D> {
         ensures range { IsErrOf result NotVolume ↔ (IsVolumeSize (D.state disk.old).size → ⊥) }
         ensures untouched { IsErrOf result NotVolume → disk.new ≡ disk.old }
         ensures only { IfErr result (λ error. (error ≡ NotVolume) ⊎ (error ≡ Device)) }
-        ensures same { SameDisk (D.state disk.old) (D.state disk.new) }
-        ensures failed { IsErrOf result Device → (D.state disk.new).failures ≡ one_more (D.state disk.old).failures }
-        ensures served { (IsErrOf result Device → ⊥) → (D.state disk.new).failures ≡ (D.state disk.old).failures }
+        ensures disk { DiskAnswer (D.state disk.old) (D.state disk.new) (IsErrOf result Device) }
     {
         init_layout(disk, layout)
     }
@@ -180,13 +175,9 @@ impl<D: Disk> Volume<D> {
         ensures synced_refused { IfErr result (λ refused. (D.state refused.1).honest
             → SyncsFirst D.state disk refused.1 (refused.0 ≡ Device) (StandsLike (D.state disk))) }
 
-        ensures same { IfOk result (λ volume. SameDisk (D.state disk) (D.state volume.disk)) }
-        ensures served { IfOk result (λ volume. (D.state volume.disk).failures ≡ (D.state disk).failures) }
-        ensures same_refused { IfErr result (λ refused. SameDisk (D.state disk) (D.state refused.1)) }
-        ensures failed { IfErr result (λ refused. refused.0 ≡ Device
-            → (D.state refused.1).failures ≡ one_more (D.state disk).failures) }
-        ensures served_refused { IfErr result (λ refused. (refused.0 ≡ Device → ⊥)
-            → (D.state refused.1).failures ≡ (D.state disk).failures) }
+        ensures disk { IfOk result (λ volume. DiskAnswer (D.state disk) (D.state volume.disk) ⊥) }
+        ensures disk_refused { IfErr result (λ refused.
+            DiskAnswer (D.state disk) (D.state refused.1) (refused.0 ≡ Device)) }
     {
         let mut disk = disk;
         match read_volume(alloc, &mut disk) {

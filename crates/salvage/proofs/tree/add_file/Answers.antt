@@ -18,7 +18,7 @@ returns-in-Ok-clause-read g c h directories names named new_directory new_name r
 
 pub returns-in-Ok-clause-reads : goal.returns-in-Ok-clause-reads
 returns-in-Ok-clause-reads g c h =
-    let keeps = c.read_named.ensures.keeps h in
+    let keeps = c.read_named.ensures.disk.keeps h in
     record {
       still = keeps_still (g.D.Disk.state c.args.disk.now) (g.D.Disk.state c.read_named.new.disk) keeps;
       is_open = keeps.is_open;

@@ -16,8 +16,8 @@ returns-in-Ok-clause-tree g c h =
     let s = g.D.Disk.state c.args.disk.now in
     let now = g.D.Disk.state c.read_home.new.disk in
     let was = c.read_from.ensures.same.was_honest h in
-    let sizes = c.read_home.ensures.same.size in
-    let same = same_contents s.contents now.contents (c.read_home.ensures.reads was).still.contents in
+    let sizes = c.read_home.ensures.disk.same.size in
+    let same = same_contents s.contents now.contents (c.read_home.ensures.disk.reads was).still.contents in
     let home = home_in (layout_number c.in-Ok.home.layout) c.in-Ok.home.master in
     moved (λ (n : ℕ) (contents : Contents). IfOk c.read_from.result (λ (tree : Tree).
     IsTree n (layout_number tree.layout) contents tree.files.items tree.findings.items)) s.size now.size s.contents
@@ -43,5 +43,5 @@ returns-in-Ok-clause-no_layout g c h none =
 pub returns-in-Ok-clause-reads : goal.returns-in-Ok-clause-reads
 returns-in-Ok-clause-reads g c h =
     only_reads_on (g.D.Disk.state c.args.disk.now) (g.D.Disk.state c.read_home.new.disk)
-    (g.D.Disk.state c.read_from.new.disk) (c.read_home.ensures.reads (c.read_from.ensures.same.was_honest h))
+    (g.D.Disk.state c.read_from.new.disk) (c.read_home.ensures.disk.reads (c.read_from.ensures.same.was_honest h))
     (c.read_from.ensures.reads h)

@@ -1,13 +1,13 @@
-use Rattle.std.proofs.Common.{◌<◌, ◌∙◌, subst, sym, arith}
+use Rattle.std.proofs.Common.{IsErrOf, ◌<◌, ◌∙◌, subst, sym, arith}
 use Rattle.std.proofs.lemmas.Result.{err_from_is_err_and}
 use Rattle.std.specs.List.{AllByRecursion}
 use Rattle.blockdisk.specs.Disk.{IsWholeBlock}
-use Rattle.blockdisk.specs.Laws.{same_disk_on, keeps_on}
 use Rattle.meaning.specs.Maps.{times}
 use Rattle.meaning.specs.Faults.{InSpace}
 use Rattle.changeset.proofs.Reading.{passed_on}
+use Rattle.volume.proofs.DisksAsked.{keeps_disk_served, keeps_disk_on}
 use Rattle.volume.proofs.RunsRead.{in_run, runs_more, each_stands, whole_before}
-use Rattle.volume.specs.declared.error.VolumeError.TheVariants.{BadData}
+use Rattle.volume.specs.declared.error.VolumeError.TheVariants.{BadData, Device}
 use Rattle.volume.proofs.files.read_data.Goals as goal
 
 pub read_run-requires-clause-inside : goal.read_run-requires-clause-inside
@@ -18,7 +18,7 @@ read_run-requires-clause-inside g c =
     let inside : InSpace s.size run.last = in_run (InSpace s.size) runs c.loop-run.run-index run c.loop-run-test.true
     c.run-item.is (subst (AllByRecursion (InSpace s.size)) (sym c.runs-run-items.ensures.blocks) c.requires.inside)
     run.last run.ordered (omega arith) in
-    omega (arith, inside.below, c.loop-run.invariant.same.size)
+    omega (arith, inside.below, c.loop-run.invariant.disk.same.size)
 
 pub returns-in_err-read_run-clause-named : goal.returns-in_err-read_run-clause-named
 returns-in_err-read_run-clause-named g c k is =
@@ -41,7 +41,7 @@ returns-in_err-read_run-clause-damaged g c h k is =
           c.loop-run-test.true c.run-item.is
           (subst (AllByRecursion (λ n. 0 < times n blocks)) (sym c.runs-run-items.ensures.blocks) (each_stands blocks))
           k named.0 named.1,
-      sym ((c.loop-run.invariant.keeps (c.read_run.ensures.same.was_honest h)).contents k)
+      sym ((c.loop-run.invariant.disk.keeps (c.read_run.ensures.disk.same.was_honest h)).contents k)
           ∙ c.read_run.ensures.damaged h k bad,
     )
 
@@ -54,13 +54,11 @@ loop-run-preserved g c =
     let i = c.loop-run.run-index in
     let run = c.run-item.result in
     record {
-      same = same_disk_on s now new c.loop-run.invariant.same c.read_run.ensures.same;
-      served = c.in_ok-read_run.ensures.served (λ is. cc) ∙ c.loop-run.invariant.served;
-      keeps = λ h. keeps_on s now new (c.loop-run.invariant.keeps (c.read_run.ensures.same.was_honest h))
-          (c.read_run.ensures.keeps h);
+      disk = keeps_disk_on s now new ⊥ c.loop-run.invariant.disk (keeps_disk_served now new
+          (IsErrOf c.read_run.result Device) (λ is. let was = c.in_ok-read_run.was in cc) c.read_run.ensures.disk);
       whole = λ h. runs_more (IsWholeBlock s.contents) runs i run c.loop-run-test.true c.run-item.is run.ordered
-          (c.loop-run.invariant.whole (c.read_run.ensures.same.was_honest h))
+          (c.loop-run.invariant.whole (c.read_run.ensures.disk.same.was_honest h))
           (λ n low high. whole_before s.contents now.contents n
-          (c.loop-run.invariant.keeps (c.read_run.ensures.same.was_honest h)).contents
+          (c.loop-run.invariant.disk.keeps (c.read_run.ensures.disk.same.was_honest h)).contents
           (c.in_ok-read_run.ensures.ok h n low high));
     }

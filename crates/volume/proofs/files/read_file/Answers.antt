@@ -1,14 +1,14 @@
-use Rattle.std.proofs.Common.{◌<◌, ◌∷◌, ◌++◌, ℕ, sym, subst, ◌∙◌}
+use Rattle.std.proofs.Common.{◌<◌, ◌∷◌, ◌++◌, ℕ, sym, subst, ◌∙◌, ◌≡◌, Err, IsErrOf}
 use Rattle.std.specs.List.{AllByRecursion}
 use Rattle.std.proofs.lemmas.Result.{err_from_is_err_and}
 use Rattle.blockdisk.specs.Laws.{same_contents}
 use Rattle.blockdisk.specs.Disk.{Contents, IsWholeBlock}
 use Rattle.meaning.specs.Layouts.{layout_number}
 use Rattle.meaning.specs.Faults.{InSpace}
-use Rattle.blockdisk.specs.Laws.{keeps_on}
 use Rattle.volume.specs.FileReading.{IsVersionRefusal, IsDataRefusal, IsFileRefusal}
-use Rattle.volume.specs.declared.error.VolumeError.TheVariants.{BadRetrieval, BlockTwice, NoMemory, BadData}
+use Rattle.volume.specs.declared.error.VolumeError.TheVariants.{Device, BadRetrieval, BlockTwice, NoMemory, BadData}
 use Rattle.volume.specs.FaultsFound.{NamesInSpace}
+use Rattle.volume.proofs.DisksAsked.{keeps_disk_served, keeps_disk_ok, keeps_disk_on, keeps_disk_handed}
 use Rattle.volume.proofs.FoundDirectories.{all_behind_all, all_times_at}
 use Rattle.volume.proofs.Handing.{handed, version_named, data_named, named_on}
 use Rattle.volume.proofs.Marking.{all_weaker}
@@ -90,22 +90,16 @@ returns-in_err-read_data-clause-bad_data g c h k is =
     (passed_on c.from_residual-in_err-read_data.result c.read_data.result p.0 c.in_err-read_data.field-0.0
     (BadData k) is p.1 p.2 c.in_err-read_data.was) in
     damaged_data s.size (layout_number c.args.layout) s.contents c.args.ppn c.args.name c.args.prime v.prime v.version
-    (c.in_ok-stored.ensures.ok (c.read_data.ensures.same.was_honest h)) c.in_ok-stored.ensures.name
+    (c.in_ok-stored.ensures.ok (c.read_data.ensures.disk.same.was_honest h)) c.in_ok-stored.ensures.name
     c.in_ok-stored.ensures.ppn
     k (bad.0)
-    (sym ((c.read_named.ensures.keeps (c.read_data.ensures.same.was_honest h)).contents k) ∙ bad.1)
+    (sym ((c.read_named.ensures.disk.keeps (c.read_data.ensures.disk.same.was_honest h)).contents k) ∙ bad.1)
 
 pub returns-in_err-read_data-clause-only : goal.returns-in_err-read_data-clause-only
 returns-in_err-read_data-clause-only g c =
     let p = err_from_is_err_and c.from_residual-in_err-read_data.result c.from_residual-in_err-read_data.ensures.1 in
     refused_on IsDataRefusal IsFileRefusal c.from_residual-in_err-read_data.result c.read_data.result p.0
     c.in_err-read_data.field-0.0 p.1 p.2 c.in_err-read_data.was data_wider c.read_data.ensures.only
-
-pub returns-in_err-read_data-clause-keeps : goal.returns-in_err-read_data-clause-keeps
-returns-in_err-read_data-clause-keeps g c h =
-    keeps_on (g.D.Disk.state c.args.disk.now) (g.D.Disk.state c.read_named.new.disk)
-    (g.D.Disk.state c.read_data.new.disk) (c.read_named.ensures.keeps (c.read_data.ensures.same.was_honest h))
-    (c.read_data.ensures.keeps h)
 
 pub returns-clause-ok : goal.returns-clause-ok
 returns-clause-ok g c h =
@@ -114,17 +108,11 @@ returns-clause-ok g c h =
     let v = c.in_ok-stored.stored in
     let whole : AllByRecursion (IsWholeBlock read.contents) v.version.blocks = (c.in_ok-read_data.ensures.ok h) in
     file_found s.size (layout_number c.args.layout) s.contents c.args.ppn c.args.name c.args.prime v.prime v.version
-    (c.in_ok-stored.ensures.ok (c.in_ok-read_data.ensures.same.was_honest h)) c.in_ok-stored.ensures.name
+    (c.in_ok-stored.ensures.ok (c.in_ok-read_data.ensures.disk.same.was_honest h)) c.in_ok-stored.ensures.name
     c.in_ok-stored.ensures.ppn
     (subst (λ (d : Contents). AllByRecursion (IsWholeBlock d) v.version.blocks)
     (same_contents s.contents read.contents
-    (c.read_named.ensures.keeps (c.in_ok-read_data.ensures.same.was_honest h)).contents) whole)
-
-pub returns-clause-keeps : goal.returns-clause-keeps
-returns-clause-keeps g c h =
-    keeps_on (g.D.Disk.state c.args.disk.now) (g.D.Disk.state c.read_named.new.disk)
-    (g.D.Disk.state c.read_data.new.disk) (c.read_named.ensures.keeps (c.read_data.ensures.same.was_honest h))
-    (c.read_data.ensures.keeps h)
+    (c.read_named.ensures.disk.keeps (c.in_ok-read_data.ensures.disk.same.was_honest h)).contents) whole)
 
 -- The block that is named.
 
@@ -155,5 +143,29 @@ returns-in_err-read_data-clause-named g c =
     let p = err_from_is_err_and c.from_residual-in_err-read_data.result c.from_residual-in_err-read_data.ensures.1 in
     handed (NamesInSpace size) c.from_residual-in_err-read_data.result c.read_data.result p.0
     c.in_err-read_data.field-0.0 p.1 p.2 c.in_err-read_data.was
-    (named_on now size c.read_data.result c.read_named.ensures.same.size
+    (named_on now size c.read_data.result c.read_named.ensures.disk.same.size
     (data_named now c.read_data.result c.read_data.ensures.only c.read_data.ensures.named))
+
+pub returns-in_err-read_data-clause-disk : goal.returns-in_err-read_data-clause-disk
+returns-in_err-read_data-clause-disk g c =
+    let s = g.D.Disk.state c.args.disk.now in
+    let then = g.D.Disk.state c.read_named.new.disk in
+    let new = g.D.Disk.state c.read_data.new.disk in
+    let p = err_from_is_err_and c.from_residual-in_err-read_data.result c.from_residual-in_err-read_data.ensures.1 in
+    keeps_disk_handed s new c.from_residual-in_err-read_data.result c.read_data.result p.0 c.in_err-read_data.field-0.0
+    Device p.1 p.2 c.in_err-read_data.was (keeps_disk_on s then new (IsErrOf c.read_data.result Device)
+    (keeps_disk_served s then (IsErrOf c.read_named.result Device)
+    (λ (is : c.read_named.result ≡ Err Device). let was = c.in_ok-stored.was in cc) c.read_named.ensures.disk)
+    c.read_data.ensures.disk)
+
+pub returns-clause-disk : goal.returns-clause-disk
+returns-clause-disk g c =
+    let s = g.D.Disk.state c.args.disk.now in
+    let then = g.D.Disk.state c.read_named.new.disk in
+    let new = g.D.Disk.state c.read_data.new.disk in
+    keeps_disk_ok s new (keeps_disk_on s then new ⊥
+    (keeps_disk_served s then (IsErrOf c.read_named.result Device)
+    (λ (is : c.read_named.result ≡ Err Device). let was = c.in_ok-stored.was in cc) c.read_named.ensures.disk)
+    (keeps_disk_served then new (IsErrOf c.read_data.result Device)
+    (λ (is : c.read_data.result ≡ Err Device). let was = c.in_ok-read_data.was in cc)
+    c.read_data.ensures.disk))

@@ -20,7 +20,7 @@ is_volume g c = subst IsVolumeSize c.blocks-2.ensures
 pub returns-in-Ok-clause-stands : goal.returns-in-Ok-clause-stands
 returns-in-Ok-clause-stands g c h =
     fresh_rest c.args.layout (g.D.Disk.state c.args.disk.now).size (g.D.Disk.state c.write_volume.new.disk)
-    c.write_volume.ensures.same.size (is_volume g c) (c.in-Ok.ensures.bare h) (c.in-Ok.ensures.settled h)
+    c.write_volume.ensures.disk.same.size (is_volume g c) (c.in-Ok.ensures.bare h) (c.in-Ok.ensures.settled h)
 
 pub returns-in-Ok-clause-map : goal.returns-in-Ok-clause-map
 returns-in-Ok-clause-map g c h =

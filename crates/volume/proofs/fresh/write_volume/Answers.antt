@@ -12,16 +12,16 @@ returns-in_err-write_fresh-clause-near g c h =
     let s = g.D.Disk.state c.args.disk.now in
     let first = g.D.Disk.state c.write_fresh.new.disk in
     modifies_near (IsInitBlock s.size) s first
-    (λ d left. g.met.D.Disk.only_now c.args.disk.now d (c.write_fresh.ensures.same.was_honest h) left)
+    (λ d left. g.met.D.Disk.only_now c.args.disk.now d (c.write_fresh.ensures.disk.same.was_honest h) left)
     (first_modified s first (c.write_fresh.ensures.modified h))
 
 pub returns-in_err-write_fresh-2-clause-near : goal.returns-in_err-write_fresh-2-clause-near
 returns-in_err-write_fresh-2-clause-near g c h =
     let s = g.D.Disk.state c.args.disk.now in
     let written = g.D.Disk.state c.write_fresh-2.new.disk in
-    let honest = c.write_fresh-2.ensures.same.was_honest h in
+    let honest = c.write_fresh-2.ensures.disk.same.was_honest h in
     modifies_near (IsInitBlock s.size) s written
-    (λ d left. g.met.D.Disk.only_now c.args.disk.now d (c.write_fresh.ensures.same.was_honest honest) left)
+    (λ d left. g.met.D.Disk.only_now c.args.disk.now d (c.write_fresh.ensures.disk.same.was_honest honest) left)
     (volume_modified s (g.D.Disk.state c.write_fresh.new.disk) written c.table_start.result (c.space_start.result + 1)
     (c.table_start.ensures ∙ ap table_start c.blocks-size.ensures) (ap (λ (k : ℕ). k + 1) (c.space_start.ensures
     ∙ ap space_start c.blocks-size.ensures)) (c.write_fresh.ensures.modified honest)
@@ -33,9 +33,9 @@ returns-clause-near g c h =
     let written = g.D.Disk.state c.write_fresh-2.new.disk in
     let end = g.D.Disk.state c.sync.new.self in
     let synced = c.sync.ensures.same.was_honest h in
-    let honest = c.write_fresh-2.ensures.same.was_honest synced in
+    let honest = c.write_fresh-2.ensures.disk.same.was_honest synced in
     near_sync c.sync.result (IsInitBlock s.size) s written end
-    (λ d left. g.met.D.Disk.only_now c.args.disk.now d (c.write_fresh.ensures.same.was_honest honest) left)
+    (λ d left. g.met.D.Disk.only_now c.args.disk.now d (c.write_fresh.ensures.disk.same.was_honest honest) left)
     (λ d left. g.met.D.Disk.only_now c.write_fresh-2.new.disk d synced left)
     (volume_modified s (g.D.Disk.state c.write_fresh.new.disk) written c.table_start.result (c.space_start.result + 1)
     (c.table_start.ensures ∙ ap table_start c.blocks-size.ensures) (ap (λ (k : ℕ). k + 1) (c.space_start.ensures
@@ -49,7 +49,7 @@ returns-clause-modified g c h =
     let written = g.D.Disk.state c.write_fresh-2.new.disk in
     let end = g.D.Disk.state c.sync.new.self in
     let synced = c.sync.ensures.same.was_honest h in
-    let honest = c.write_fresh-2.ensures.same.was_honest synced in
+    let honest = c.write_fresh-2.ensures.disk.same.was_honest synced in
     on_ok_weaker c.sync.result (λ (syncs : Syncs written end). modifies_still (IsInitBlock s.size) s written end
     (volume_modified s (g.D.Disk.state c.write_fresh.new.disk) written c.table_start.result (c.space_start.result + 1)
     (c.table_start.ensures ∙ ap table_start c.blocks-size.ensures) (ap (λ (k : ℕ). k + 1) (c.space_start.ensures

@@ -1,4 +1,4 @@
-use Rattle.std.proofs.Common.{◌≡◌, ℕ, map, length, sym, refl, ap, subst, ◌∙◌}
+use Rattle.std.proofs.Common.{◌≡◌, ℕ, map, length, sym, refl, ap, subst, ◌∙◌, Err, IsErrOf}
 use Rattle.std.proofs.lemmas.List.{length-map}
 use Rattle.std.proofs.lemmas.Result.{err_from_is_err_and}
 use Rattle.blockdisk.specs.Disk.{Contents}
@@ -15,11 +15,12 @@ use Rattle.volume.specs.Known.{cost_of_known}
 use Rattle.volume.specs.Homes.{home_in}
 use Rattle.volume.specs.Found.{IsOnlySpace, IsMapFound, IsRightFor, IsWrongFor}
 use Rattle.volume.specs.FaultsFound.{NamesInSpace, SettledRefuses}
+use Rattle.volume.specs.declared.error.VolumeError.TheVariants.{Device}
+use Rattle.volume.proofs.DisksAsked.{reads_disk_served, reads_disk_ok, reads_disk_on, reads_disk_handed}
 use Rattle.volume.proofs.Handing.{handed, found_on, home_named, table_named, named_on}
 use Rattle.volume.proofs.FoundMaps.{map_found, map_held, table_fault}
 use Rattle.volume.proofs.LayoutLimits.{wide_entry}
 use Rattle.volume.proofs.Opening.{table_refused, right_bits, read_whole, read_booked}
-use Rattle.changeset.proofs.Reading.{only_reads_on}
 use Rattle.volume.proofs.open.read_map.Goals as goal
 
 pub returns-in_err-master-clause-fault : goal.returns-in_err-master-clause-fault
@@ -28,67 +29,93 @@ returns-in_err-master-clause-fault g c h =
     let now = g.D.Disk.state c.read_home.new.disk in
     let p = err_from_is_err_and c.from_residual-in_err-master.result c.from_residual-in_err-master.ensures.1 in
     let same = same_contents s.contents now.contents
-    (c.read_home.ensures.reads (c.read_tree.ensures.same.was_honest h)).still.contents in
+    (c.read_home.ensures.disk.reads (c.read_tree.ensures.disk.same.was_honest h)).still.contents in
     let first = c.in_ok-home.home.master in
     let layout = layout_number c.in_ok-home.home.layout in
     let home : IsHome now.size now.contents (home_in layout first) =
-    subst (λ (n : ℕ). IsHome n now.contents (home_in layout first)) (sym c.read_home.ensures.same.size)
+    subst (λ (n : ℕ). IsHome n now.contents (home_in layout first)) (sym c.read_home.ensures.disk.same.size)
     (subst (λ (contents : Contents). IsHome s.size contents (home_in layout first)) (sym same)
-    (c.in_ok-home.ensures.ok (c.read_tree.ensures.same.was_honest h))) in
+    (c.in_ok-home.ensures.ok (c.read_tree.ensures.disk.same.was_honest h))) in
     handed (SettledRefuses s.size s.contents) c.from_residual-in_err-master.result c.read_tree.result p.0
     c.in_err-master.field-0.0 p.1 p.2 c.in_err-master.was
     (found_on (SettledRefuses now.size now.contents) (SettledRefuses s.size s.contents) c.read_tree.result
     (λ error met. subst (λ contents. SettledRefuses s.size contents error) same
-    (subst (λ (n : ℕ). SettledRefuses n now.contents error) c.read_home.ensures.same.size met))
+    (subst (λ (n : ℕ). SettledRefuses n now.contents error) c.read_home.ensures.disk.same.size met))
     (c.read_tree.ensures.fault h home))
 
-pub returns-in_err-table-clause-reads : goal.returns-in_err-table-clause-reads
-returns-in_err-table-clause-reads g c h =
+pub returns-in_err-master-clause-disk : goal.returns-in_err-master-clause-disk
+returns-in_err-master-clause-disk g c =
     let s = g.D.Disk.state c.args.disk.now in
     let first = g.D.Disk.state c.read_home.new.disk in
     let second = g.D.Disk.state c.read_tree.new.disk in
-    only_reads_on s first (g.D.Disk.state c.load_table.new.disk)
-    (c.read_home.ensures.reads (c.read_tree.ensures.same.was_honest (c.load_table.ensures.same.was_honest h)))
-    (only_reads_on first second (g.D.Disk.state c.load_table.new.disk)
-    (c.read_tree.ensures.reads (c.load_table.ensures.same.was_honest h)) (c.load_table.ensures.reads h))
+    let p = err_from_is_err_and c.from_residual-in_err-master.result c.from_residual-in_err-master.ensures.1 in
+    reads_disk_handed s second c.from_residual-in_err-master.result c.read_tree.result p.0 c.in_err-master.field-0.0
+    Device p.1 p.2 c.in_err-master.was
+    (reads_disk_on s first second (IsErrOf c.read_tree.result Device)
+    (reads_disk_served s first (IsErrOf c.read_home.result Device)
+    (λ (is : c.read_home.result ≡ Err Device). let was = c.in_ok-home.was in cc) c.read_home.ensures.disk)
+    c.read_tree.ensures.disk)
 
-pub returns-clause-reads : goal.returns-clause-reads
-returns-clause-reads g c h =
+pub returns-in_err-table-clause-disk : goal.returns-in_err-table-clause-disk
+returns-in_err-table-clause-disk g c =
     let s = g.D.Disk.state c.args.disk.now in
     let first = g.D.Disk.state c.read_home.new.disk in
     let second = g.D.Disk.state c.read_tree.new.disk in
-    only_reads_on s first (g.D.Disk.state c.load_table.new.disk)
-    (c.read_home.ensures.reads (c.read_tree.ensures.same.was_honest (c.load_table.ensures.same.was_honest h)))
-    (only_reads_on first second (g.D.Disk.state c.load_table.new.disk)
-    (c.read_tree.ensures.reads (c.load_table.ensures.same.was_honest h)) (c.load_table.ensures.reads h))
+    let third = g.D.Disk.state c.load_table.new.disk in
+    let p = err_from_is_err_and c.from_residual-in_err-table.result c.from_residual-in_err-table.ensures.1 in
+    reads_disk_handed s third c.from_residual-in_err-table.result c.load_table.result p.0 c.in_err-table.field-0.0
+    Device p.1 p.2 c.in_err-table.was
+    (reads_disk_on s second third (IsErrOf c.load_table.result Device)
+    (reads_disk_on s first second ⊥
+    (reads_disk_served s first (IsErrOf c.read_home.result Device)
+    (λ (is : c.read_home.result ≡ Err Device). let was = c.in_ok-home.was in cc) c.read_home.ensures.disk)
+    (reads_disk_served first second (IsErrOf c.read_tree.result Device)
+    (λ (is : c.read_tree.result ≡ Err Device). let was = c.in_ok-master.was in cc) c.read_tree.ensures.disk))
+    c.load_table.ensures.disk)
+
+pub returns-clause-disk : goal.returns-clause-disk
+returns-clause-disk g c =
+    let s = g.D.Disk.state c.args.disk.now in
+    let first = g.D.Disk.state c.read_home.new.disk in
+    let second = g.D.Disk.state c.read_tree.new.disk in
+    let third = g.D.Disk.state c.load_table.new.disk in
+    reads_disk_ok s third (reads_disk_on s second third ⊥
+    (reads_disk_on s first second ⊥
+    (reads_disk_served s first (IsErrOf c.read_home.result Device)
+    (λ (is : c.read_home.result ≡ Err Device). let was = c.in_ok-home.was in cc) c.read_home.ensures.disk)
+    (reads_disk_served first second (IsErrOf c.read_tree.result Device)
+    (λ (is : c.read_tree.result ≡ Err Device). let was = c.in_ok-master.was in cc) c.read_tree.ensures.disk))
+    (reads_disk_served second third (IsErrOf c.load_table.result Device)
+    (λ (is : c.load_table.result ≡ Err Device). let was = c.in_ok-table.was in cc) c.load_table.ensures.disk))
 
 pub returns-in_err-table-clause-fault : goal.returns-in_err-table-clause-fault
 returns-in_err-table-clause-fault g c h =
     let s = g.D.Disk.state c.args.disk.now in
     let now = g.D.Disk.state c.read_home.new.disk in
     let then = g.D.Disk.state c.read_tree.new.disk in
-    let size = c.read_home.ensures.same.size in
+    let size = c.read_home.ensures.disk.same.size in
     let same = same_contents s.contents now.contents
-    (c.read_home.ensures.reads
-    (c.read_tree.ensures.same.was_honest (c.load_table.ensures.same.was_honest h))).still.contents in
+    (c.read_home.ensures.disk.reads
+    (c.read_tree.ensures.disk.same.was_honest (c.load_table.ensures.disk.same.was_honest h))).still.contents in
     let later : then.contents ≡ s.contents = same_contents s.contents then.contents
-    (λ n. (c.read_tree.ensures.reads (c.load_table.ensures.same.was_honest h)).still.contents n
-    ∙ (c.read_home.ensures.reads
-    (c.read_tree.ensures.same.was_honest (c.load_table.ensures.same.was_honest h))).still.contents n) in
-    let sizes : then.size ≡ s.size = c.read_tree.ensures.same.size ∙ size in
+    (λ n. (c.read_tree.ensures.disk.reads (c.load_table.ensures.disk.same.was_honest h)).still.contents n
+    ∙ (c.read_home.ensures.disk.reads
+    (c.read_tree.ensures.disk.same.was_honest (c.load_table.ensures.disk.same.was_honest h))).still.contents n) in
+    let sizes : then.size ≡ s.size = c.read_tree.ensures.disk.same.size ∙ size in
     let first = c.in_ok-home.home.master in
     let layout = layout_number c.in_ok-home.home.layout in
     let home : IsHome now.size now.contents (home_in layout first) =
     subst (λ (n : ℕ). IsHome n now.contents (home_in layout first)) (sym size)
     (subst (λ (contents : Contents). IsHome s.size contents (home_in layout first)) (sym same)
-    (c.in_ok-home.ensures.ok (c.read_tree.ensures.same.was_honest (c.load_table.ensures.same.was_honest h)))) in
+    (c.in_ok-home.ensures.ok (c.read_tree.ensures.disk.same.was_honest (c.load_table.ensures.disk.same.was_honest h))))
+    in
     let master = viewed master_view c.in_ok-master.master in
     let directories = map known_directory c.in_ok-master.directories.items in
     let reached = c.read_tree.new.reached in
     let read : IsMapFound s.size s.contents layout first master directories (digit_at reached) =
     subst (λ (contents : Contents). IsMapFound s.size contents layout first master directories (digit_at reached)) same
     (subst (λ (n : ℕ). IsMapFound n now.contents layout first master directories (digit_at reached)) size
-    (c.in_ok-master.ensures.read (c.load_table.ensures.same.was_honest h) home)) in
+    (c.in_ok-master.ensures.read (c.load_table.ensures.disk.same.was_honest h) home)) in
     let only : IsOnlySpace s.size reached = subst (λ (n : ℕ). IsOnlySpace n reached) size
     c.in_ok-master.ensures.space in
     let p = err_from_is_err_and c.from_residual-in_err-table.result c.from_residual-in_err-table.ensures.1 in
@@ -104,28 +131,29 @@ returns-clause-held g c h =
     let s = g.D.Disk.state c.args.disk.now in
     let now = g.D.Disk.state c.read_home.new.disk in
     let then = g.D.Disk.state c.read_tree.new.disk in
-    let size = c.read_home.ensures.same.size in
+    let size = c.read_home.ensures.disk.same.size in
     let same = same_contents s.contents now.contents
-    (c.read_home.ensures.reads
-    (c.read_tree.ensures.same.was_honest (c.in_ok-table.ensures.same.was_honest h))).still.contents in
+    (c.read_home.ensures.disk.reads
+    (c.read_tree.ensures.disk.same.was_honest (c.in_ok-table.ensures.disk.same.was_honest h))).still.contents in
     let later : then.contents ≡ s.contents = same_contents s.contents then.contents
-    (λ n. (c.read_tree.ensures.reads (c.in_ok-table.ensures.same.was_honest h)).still.contents n
-    ∙ (c.read_home.ensures.reads
-    (c.read_tree.ensures.same.was_honest (c.in_ok-table.ensures.same.was_honest h))).still.contents n) in
-    let sizes : then.size ≡ s.size = c.read_tree.ensures.same.size ∙ size in
+    (λ n. (c.read_tree.ensures.disk.reads (c.in_ok-table.ensures.disk.same.was_honest h)).still.contents n
+    ∙ (c.read_home.ensures.disk.reads
+    (c.read_tree.ensures.disk.same.was_honest (c.in_ok-table.ensures.disk.same.was_honest h))).still.contents n) in
+    let sizes : then.size ≡ s.size = c.read_tree.ensures.disk.same.size ∙ size in
     let first = c.in_ok-home.home.master in
     let layout = layout_number c.in_ok-home.home.layout in
     let home : IsHome now.size now.contents (home_in layout first) =
     subst (λ (n : ℕ). IsHome n now.contents (home_in layout first)) (sym size)
     (subst (λ (contents : Contents). IsHome s.size contents (home_in layout first)) (sym same)
-    (c.in_ok-home.ensures.ok (c.read_tree.ensures.same.was_honest (c.in_ok-table.ensures.same.was_honest h)))) in
+    (c.in_ok-home.ensures.ok (c.read_tree.ensures.disk.same.was_honest (c.in_ok-table.ensures.disk.same.was_honest h))))
+    in
     let master = viewed master_view c.in_ok-master.master in
     let directories = map known_directory c.in_ok-master.directories.items in
     let reached = c.read_tree.new.reached in
     let read : IsMapFound s.size s.contents layout first master directories (digit_at reached) =
     subst (λ (contents : Contents). IsMapFound s.size contents layout first master directories (digit_at reached)) same
     (subst (λ (n : ℕ). IsMapFound n now.contents layout first master directories (digit_at reached)) size
-    (c.in_ok-master.ensures.read (c.in_ok-table.ensures.same.was_honest h) home)) in
+    (c.in_ok-master.ensures.read (c.in_ok-table.ensures.disk.same.was_honest h) home)) in
     let only : IsOnlySpace s.size reached = subst (λ (n : ℕ). IsOnlySpace n reached) size
     c.in_ok-master.ensures.space in
     let right : IsRightFor s.size s.contents reached c.in_ok-table.table =
@@ -145,7 +173,7 @@ pub returns-clause-booked : goal.returns-clause-booked
 returns-clause-booked g c =
     let s = g.D.Disk.state c.args.disk.now in
     let then = g.D.Disk.state c.read_tree.new.disk in
-    let sizes : then.size ≡ s.size = c.read_tree.ensures.same.size ∙ c.read_home.ensures.same.size in
+    let sizes : then.size ≡ s.size = c.read_tree.ensures.disk.same.size ∙ c.read_home.ensures.disk.same.size in
     let master = c.in_ok-master.master in
     let directories = c.in_ok-master.directories in
     let booked : c.book_map.new.table
@@ -169,8 +197,8 @@ returns-clause-whole g c =
     let s = g.D.Disk.state c.args.disk.now in
     let now = g.D.Disk.state c.read_home.new.disk in
     let then = g.D.Disk.state c.read_tree.new.disk in
-    let size : now.size ≡ s.size = c.read_home.ensures.same.size in
-    let sizes : then.size ≡ s.size = c.read_tree.ensures.same.size ∙ size in
+    let size : now.size ≡ s.size = c.read_home.ensures.disk.same.size in
+    let sizes : then.size ≡ s.size = c.read_tree.ensures.disk.same.size ∙ size in
     let master = c.in_ok-master.master in
     let directories = c.in_ok-master.directories in
     let aligned : length (map known_directory directories.items) ≡ length (map master_view master.entries) =
@@ -214,7 +242,7 @@ returns-in_err-master-clause-named g c =
     let p = err_from_is_err_and c.from_residual-in_err-master.result c.from_residual-in_err-master.ensures.1 in
     handed (NamesInSpace size) c.from_residual-in_err-master.result c.read_tree.result p.0 c.in_err-master.field-0.0
     p.1 p.2 c.in_err-master.was
-    (named_on (g.D.Disk.state c.read_home.new.disk).size size c.read_tree.result c.read_home.ensures.same.size
+    (named_on (g.D.Disk.state c.read_home.new.disk).size size c.read_tree.result c.read_home.ensures.disk.same.size
     c.read_tree.ensures.named)
 
 pub returns-in_err-table-clause-named : goal.returns-in_err-table-clause-named
@@ -224,5 +252,5 @@ returns-in_err-table-clause-named g c =
     handed (NamesInSpace size) c.from_residual-in_err-table.result c.load_table.result p.0 c.in_err-table.field-0.0
     p.1 p.2 c.in_err-table.was
     (table_named size c.load_table.result c.load_table.ensures.only
-    (λ n is. subst (λ (k : ℕ). InTable k n) (c.read_tree.ensures.same.size ∙ c.read_home.ensures.same.size)
+    (λ n is. subst (λ (k : ℕ). InTable k n) (c.read_tree.ensures.disk.same.size ∙ c.read_home.ensures.disk.same.size)
     (c.load_table.ensures.named n is)))

@@ -1,4 +1,4 @@
-use Rattle.std.proofs.Common.{◌<◌, ℕ, List, map, sym, ap, subst, ◌∙◌}
+use Rattle.std.proofs.Common.{◌<◌, ℕ, List, map, sym, ap, subst, ◌∙◌, ◌≡◌, Err, IsErrOf}
 use Rattle.std.proofs.lemmas.Result.{err_from_is_err_and}
 use Rattle.blockdisk.specs.Laws.{same_contents}
 use Rattle.meaning.specs.Directories.{MasterEntry, master_words}
@@ -11,11 +11,11 @@ use Rattle.directory.specs.ChainLaws.{chain_items, numbers_of}
 use Rattle.volume.specs.Cores.{master_view}
 use Rattle.volume.specs.Found.{IsOnlySpace}
 use Rattle.volume.specs.FaultsFound.{NamesInSpace, IsFaultOfDirectories, SettledRefuses}
+use Rattle.volume.specs.declared.error.VolumeError.TheVariants.{Device}
+use Rattle.volume.proofs.DisksAsked.{reads_disk_served, reads_disk_ok, reads_disk_on, reads_disk_handed, reads_disk_of}
 use Rattle.volume.proofs.Handing.{handed, found_named, named_on}
 use Rattle.volume.proofs.FoundDirectories.{all_times_at}
 use Rattle.volume.proofs.FaultyMaps.{directories_fault}
-use Rattle.volume.proofs.Opening.{reads_of}
-use Rattle.changeset.proofs.Reading.{only_reads_on}
 use Rattle.volume.proofs.open.read_tree.Goals as goal
 
 pub returns-in_err-directories-clause-fault : goal.returns-in_err-directories-clause-fault
@@ -25,7 +25,7 @@ returns-in_err-directories-clause-fault g c h home =
     let p = err_from_is_err_and c.from_residual-in_err-directories.result
     c.from_residual-in_err-directories.ensures.1 in
     let same = same_contents s.contents now.contents
-    (c.load_master.ensures.reads (c.read_directories.ensures.same.was_honest h)).still.contents in
+    (c.load_master.ensures.disk.reads (c.read_directories.ensures.disk.same.was_honest h)).still.contents in
     let marks = digit_at c.load_master.new.reached in
     let chain = viewed master_view c.in_ok-master.master in
     handed (SettledRefuses s.size s.contents) c.from_residual-in_err-directories.result c.read_directories.result
@@ -34,38 +34,22 @@ returns-in_err-directories-clause-fault g c h home =
     (NamesInSpace now.size) (SettledRefuses s.size s.contents) c.read_directories.result
     (λ error met inside. directories_fault s.size s.contents (layout_number c.args.layout) c.args.first (nodes_of chain.blocks chain.entries)
     chain.entries marks error c.requires.volume home
-    (c.in_ok-master.ensures.walk (c.read_directories.ensures.same.was_honest h))
+    (c.in_ok-master.ensures.walk (c.read_directories.ensures.disk.same.was_honest h))
     (chain_items master_words (IsMasterEntryOf (layout_number c.args.layout)) chain c.in_ok-master.ensures.chain)
     (λ n. c.in_ok-master.ensures.marked n ∙ ap (times n) (sym (numbers_of chain.blocks chain.entries)))
-    (subst (λ (n : ℕ). NamesInSpace n error) c.load_master.ensures.same.size inside)
+    (subst (λ (n : ℕ). NamesInSpace n error) c.load_master.ensures.disk.same.size inside)
     (subst (λ (es : List MasterEntry). IsFaultOfDirectories s.size (layout_number c.args.layout) s.contents marks es error)
     (ap (map master_view) c.entries.ensures.value)
     (subst (λ contents. IsFaultOfDirectories s.size (layout_number c.args.layout) contents marks (map master_view c.entries.result.now) error) same
     (subst (λ (n : ℕ). IsFaultOfDirectories n (layout_number c.args.layout) now.contents marks (map master_view c.entries.result.now) error)
-    c.load_master.ensures.same.size met))))
+    c.load_master.ensures.disk.same.size met))))
     (c.read_directories.ensures.fault h) c.read_directories.ensures.named)
-
-pub returns-in_err-directories-clause-reads : goal.returns-in_err-directories-clause-reads
-returns-in_err-directories-clause-reads g c h =
-    let now = g.D.Disk.state c.load_master.new.disk in
-    let new = g.D.Disk.state c.read_directories.new.disk in
-    only_reads_on (g.D.Disk.state c.args.disk.now) now new
-    (c.load_master.ensures.reads (c.read_directories.ensures.same.was_honest h))
-    (reads_of now new (c.read_directories.ensures.keeps h))
-
-pub returns-clause-reads : goal.returns-clause-reads
-returns-clause-reads g c h =
-    let now = g.D.Disk.state c.load_master.new.disk in
-    let new = g.D.Disk.state c.read_directories.new.disk in
-    only_reads_on (g.D.Disk.state c.args.disk.now) now new
-    (c.load_master.ensures.reads (c.read_directories.ensures.same.was_honest h))
-    (reads_of now new (c.read_directories.ensures.keeps h))
 
 pub returns-clause-space : goal.returns-clause-space
 returns-clause-space g c =
     let s = g.D.Disk.state c.args.disk.now in
     let now = g.D.Disk.state c.load_master.new.disk in
-    let size = c.load_master.ensures.same.size in
+    let size = c.load_master.ensures.disk.same.size in
     let before : IsOnlySpace s.size c.load_master.new.reached = λ n some.
     all_times_at (InSpace s.size) c.in_ok-master.master.blocks n c.in_ok-master.ensures.inside
     (subst (λ (k : ℕ). 0 < k) (c.in_ok-master.ensures.marked n) some) in
@@ -86,4 +70,30 @@ returns-in_err-directories-clause-named g c =
     handed (NamesInSpace size) c.from_residual-in_err-directories.result c.read_directories.result p.0
     c.in_err-directories.field-0.0 p.1 p.2 c.in_err-directories.was
     (named_on (g.D.Disk.state c.load_master.new.disk).size size c.read_directories.result
-    c.load_master.ensures.same.size c.read_directories.ensures.named)
+    c.load_master.ensures.disk.same.size c.read_directories.ensures.named)
+
+pub returns-in_err-directories-clause-disk : goal.returns-in_err-directories-clause-disk
+returns-in_err-directories-clause-disk g c =
+    let s = g.D.Disk.state c.args.disk.now in
+    let then = g.D.Disk.state c.load_master.new.disk in
+    let new = g.D.Disk.state c.read_directories.new.disk in
+    let p = err_from_is_err_and c.from_residual-in_err-directories.result c.from_residual-in_err-directories.ensures.1
+    in
+    reads_disk_handed s new c.from_residual-in_err-directories.result c.read_directories.result p.0
+    c.in_err-directories.field-0.0 Device p.1 p.2
+    c.in_err-directories.was (reads_disk_on s then new (IsErrOf c.read_directories.result Device)
+    (reads_disk_served s then (IsErrOf c.load_master.result Device)
+    (λ (is : c.load_master.result ≡ Err Device). let was = c.in_ok-master.was in cc) c.load_master.ensures.disk)
+    (reads_disk_of then new (IsErrOf c.read_directories.result Device) c.read_directories.ensures.disk))
+
+pub returns-clause-disk : goal.returns-clause-disk
+returns-clause-disk g c =
+    let s = g.D.Disk.state c.args.disk.now in
+    let then = g.D.Disk.state c.load_master.new.disk in
+    let new = g.D.Disk.state c.read_directories.new.disk in
+    reads_disk_ok s new (reads_disk_on s then new ⊥
+    (reads_disk_served s then (IsErrOf c.load_master.result Device)
+    (λ (is : c.load_master.result ≡ Err Device). let was = c.in_ok-master.was in cc) c.load_master.ensures.disk)
+    (reads_disk_served then new (IsErrOf c.read_directories.result Device)
+    (λ (is : c.read_directories.result ≡ Err Device). let was = c.in_ok-directories.was in cc)
+    (reads_disk_of then new (IsErrOf c.read_directories.result Device) c.read_directories.ensures.disk)))

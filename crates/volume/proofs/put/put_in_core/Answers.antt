@@ -21,7 +21,7 @@ returns-in-Err-Device-clause-sound g c =
     let sound = subst (λ (b : Bool). IsSoundCore s core b) c.if-failed.false c.requires.sound in
     let there = some_of (pending_at core.pending c.args.key) c.requires.live in
     let put = c.put_pending.ensures in
-    put_failed sound put.same c.args.key there.1 c.put_pending.new.pending.slots (put.grown there.0 there.1).1
+    put_failed sound put.disk.same c.args.key there.1 c.put_pending.new.pending.slots (put.grown there.0 there.1).1
     put.others (λ h. put.modified h there.0 there.1)
 
 pub returns-in-Err-Device-clause-quiet : goal.returns-in-Err-Device-clause-quiet
@@ -31,9 +31,9 @@ returns-in-Err-Device-clause-quiet g c h f rests =
     let sound = subst (λ (b : Bool). IsSoundCore s core b) c.if-failed.false c.requires.sound in
     let there = some_of (pending_at core.pending c.args.key) c.requires.live in
     let put = c.put_pending.ensures in
-    crash_finds sound put.same c.args.key there.1 c.put_pending.new.pending.slots (put.grown there.0 there.1).1
+    crash_finds sound put.disk.same c.args.key there.1 c.put_pending.new.pending.slots (put.grown there.0 there.1).1
     put.others (λ h. put.modified h there.0 there.1) h f rests
-    (λ d left. g.met.D.Disk.only_now c.args.disk.now d (put.same.was_honest h) left)
+    (λ d left. g.met.D.Disk.only_now c.args.disk.now d (put.disk.same.was_honest h) left)
 
 pub returns-in-Err-clause-quiet : goal.returns-in-Err-clause-quiet
 returns-in-Err-clause-quiet g c h f rests =
@@ -42,9 +42,9 @@ returns-in-Err-clause-quiet g c h f rests =
     let sound = subst (λ (b : Bool). IsSoundCore s core b) c.if-failed.false c.requires.sound in
     let there = some_of (pending_at core.pending c.args.key) c.requires.live in
     let put = c.put_pending.ensures in
-    crash_finds sound put.same c.args.key there.1 c.put_pending.new.pending.slots (put.grown there.0 there.1).1
+    crash_finds sound put.disk.same c.args.key there.1 c.put_pending.new.pending.slots (put.grown there.0 there.1).1
     put.others (λ h. put.modified h there.0 there.1) h f rests
-    (λ d left. g.met.D.Disk.only_now c.args.disk.now d (put.same.was_honest h) left)
+    (λ d left. g.met.D.Disk.only_now c.args.disk.now d (put.disk.same.was_honest h) left)
 
 pub returns-in-Ok-clause-quiet : goal.returns-in-Ok-clause-quiet
 returns-in-Ok-clause-quiet g c h f rests =
@@ -53,9 +53,9 @@ returns-in-Ok-clause-quiet g c h f rests =
     let sound = subst (λ (b : Bool). IsSoundCore s core b) c.if-failed.false c.requires.sound in
     let there = some_of (pending_at core.pending c.args.key) c.requires.live in
     let put = c.put_pending.ensures in
-    crash_finds sound put.same c.args.key there.1 c.put_pending.new.pending.slots (put.grown there.0 there.1).1
+    crash_finds sound put.disk.same c.args.key there.1 c.put_pending.new.pending.slots (put.grown there.0 there.1).1
     put.others (λ h. put.modified h there.0 there.1) h f rests
-    (λ d left. g.met.D.Disk.only_now c.args.disk.now d (put.same.was_honest h) left)
+    (λ d left. g.met.D.Disk.only_now c.args.disk.now d (put.disk.same.was_honest h) left)
 
 pub returns-in-Err-Device-clause-rests : goal.returns-in-Err-Device-clause-rests
 returns-in-Err-Device-clause-rests g c h f rests =
@@ -64,7 +64,7 @@ returns-in-Err-Device-clause-rests g c h f rests =
     let sound = subst (λ (b : Bool). IsSoundCore s core b) c.if-failed.false c.requires.sound in
     let there = some_of (pending_at core.pending c.args.key) c.requires.live in
     let put = c.put_pending.ensures in
-    rest_finds sound put.same c.args.key there.1 c.put_pending.new.pending.slots (put.grown there.0 there.1).1
+    rest_finds sound put.disk.same c.args.key there.1 c.put_pending.new.pending.slots (put.grown there.0 there.1).1
     put.others (λ h. put.modified h there.0 there.1) h f rests
 
 pub returns-in-Ok-clause-rests : goal.returns-in-Ok-clause-rests
@@ -74,7 +74,7 @@ returns-in-Ok-clause-rests g c h f rests =
     let sound = subst (λ (b : Bool). IsSoundCore s core b) c.if-failed.false c.requires.sound in
     let there = some_of (pending_at core.pending c.args.key) c.requires.live in
     let put = c.put_pending.ensures in
-    rest_finds sound put.same c.args.key there.1 c.put_pending.new.pending.slots (put.grown there.0 there.1).1
+    rest_finds sound put.disk.same c.args.key there.1 c.put_pending.new.pending.slots (put.grown there.0 there.1).1
     put.others (λ h. put.modified h there.0 there.1) h f rests
 
 pub returns-in-Err-Device-clause-given_up : goal.returns-in-Err-Device-clause-given_up
@@ -87,7 +87,7 @@ returns-in-Err-Device-clause-given_up g c gone =
     inr (λ h.
     let bad = c.in-Err-Device.ensures.damaged h there.0 there.1 gone in
     none_damaged s.contents there.0.version
-    (sound.written (put.same.was_honest h) refl c.args.key there.0 there.1) bad.0 bad.1 bad.2)
+    (sound.written (put.disk.same.was_honest h) refl c.args.key there.0 there.1) bad.0 bad.1 bad.2)
 
 pub returns-in-Ok-clause-sound : goal.returns-in-Ok-clause-sound
 returns-in-Ok-clause-sound g c =
@@ -100,7 +100,7 @@ returns-in-Ok-clause-sound g c =
     (record c.args.map.now { pending = c.put_pending.new.pending; table = c.put_pending.new.table }) in
     let done = c.in-Ok.ensures.put there.0 there.1 in
     subst (λ (b : Bool). IsSoundCore (g.D.Disk.state c.put_pending.new.disk) new b) (sym c.if-failed.false)
-    (put_done sound put.same c.args.key there.1 c.put_pending.new.pending.slots (put.grown there.0 there.1).1
+    (put_done sound put.disk.same c.args.key there.1 c.put_pending.new.pending.slots (put.grown there.0 there.1).1
     put.others (λ h. put.modified h there.0 there.1) done.0 c.args.block c.args.words.now done.1 done.2 done.3)
 
 pub returns-in-Err-Device-clause-readers : goal.returns-in-Err-Device-clause-readers
@@ -173,7 +173,7 @@ returns-in-Err-Device-clause-homes g c h =
     let p : PendingVersion = there.0 in
     homes_modified (IsOwn core.known.table p.version.blocks) s (g.D.Disk.state c.put_pending.new.disk)
     (λ n low own. clear_past s.size core.known c.requires.sound.whole.map n low own.clear)
-    (λ d left. g.met.D.Disk.only_now c.args.disk.now d (c.put_pending.ensures.same.was_honest h) left)
+    (λ d left. g.met.D.Disk.only_now c.args.disk.now d (c.put_pending.ensures.disk.same.was_honest h) left)
     (c.put_pending.ensures.modified h p there.1)
 
 pub returns-in-Err-Device-clause-home_blocks : goal.returns-in-Err-Device-clause-home_blocks
@@ -194,7 +194,7 @@ returns-in-Err-clause-homes g c h =
     let p : PendingVersion = there.0 in
     homes_modified (IsOwn core.known.table p.version.blocks) s (g.D.Disk.state c.put_pending.new.disk)
     (λ n low own. clear_past s.size core.known c.requires.sound.whole.map n low own.clear)
-    (λ d left. g.met.D.Disk.only_now c.args.disk.now d (c.put_pending.ensures.same.was_honest h) left)
+    (λ d left. g.met.D.Disk.only_now c.args.disk.now d (c.put_pending.ensures.disk.same.was_honest h) left)
     (c.put_pending.ensures.modified h p there.1)
 
 pub returns-in-Err-clause-home_blocks : goal.returns-in-Err-clause-home_blocks
@@ -215,7 +215,7 @@ returns-in-Ok-clause-homes g c h =
     let p : PendingVersion = there.0 in
     homes_modified (IsOwn core.known.table p.version.blocks) s (g.D.Disk.state c.put_pending.new.disk)
     (λ n low own. clear_past s.size core.known c.requires.sound.whole.map n low own.clear)
-    (λ d left. g.met.D.Disk.only_now c.args.disk.now d (c.put_pending.ensures.same.was_honest h) left)
+    (λ d left. g.met.D.Disk.only_now c.args.disk.now d (c.put_pending.ensures.disk.same.was_honest h) left)
     (c.put_pending.ensures.modified h p there.1)
 
 pub returns-in-Ok-clause-home_blocks : goal.returns-in-Ok-clause-home_blocks

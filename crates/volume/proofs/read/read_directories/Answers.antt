@@ -1,20 +1,20 @@
 use Rattle.std.proofs.Common.{◌≡◌, ◌+◌, ℕ, List, [], map, take, drop, length, refl, sym, ap, subst, ◌∙◌, arith}
+use Rattle.std.proofs.Common.{Err, IsErrOf}
 use Rattle.std.proofs.lemmas.Result.{err_from_is_err_and}
 use Rattle.std.specs.List.{AllByRecursion}
-use Rattle.blockdisk.specs.Disk.{MayLeave}
-use Rattle.blockdisk.specs.Laws.{same_contents, same_disk_start, same_disk_on, passes_start}
+use Rattle.blockdisk.specs.Laws.{same_contents}
 use Rattle.meaning.specs.Layouts.{layout_number}
 use Rattle.meaning.specs.Faults.{InSpace, IsMasterEntryOf}
 use Rattle.meaning.specs.Directories.{MasterEntry}
 use Rattle.meaning.specs.Maps.{total}
 use Rattle.alloctab.specs.Lists.{digit_at}
-use Rattle.blockdisk.specs.Laws.{keeps_on}
 use Rattle.volume.specs.declared.error.VolumeError.TheVariants.{Device}
 use Rattle.volume.specs.Cores.{master_view, known_directory}
 use Rattle.volume.specs.Known.{KnownDirectory, reaches_in_known, IsWholeDirectory}
 use Rattle.volume.specs.Found.{IsOnlySpace, IsAdded, AreDirectoriesRead}
 use Rattle.volume.specs.FaultsFound.{NamesInSpace, IsFaultOfDirectory, IsFaultOfDirectories}
-use Rattle.volume.proofs.Handing.{handed, handed_back, found_on, named_on}
+use Rattle.volume.proofs.DisksAsked.{keeps_disk_start, keeps_disk_served, keeps_disk_on, keeps_disk_handed}
+use Rattle.volume.proofs.Handing.{handed, found_on, named_on}
 use Rattle.volume.proofs.Lookups.{viewed_at, viewed_split}
 use Rattle.volume.proofs.Reaching.{total_marked}
 use Rattle.volume.proofs.FoundDirectories.{no_directories, directories_go_on, all_added}
@@ -24,7 +24,7 @@ use Rattle.volume.proofs.read.read_directories.Goals as goal
 pub add_directory-requires-clause-inside : goal.add_directory-requires-clause-inside
 add_directory-requires-clause-inside g c =
     let s = g.D.Disk.state c.args.disk.now in
-    subst (λ (n : ℕ). InSpace n c.entry-item.result.first) (sym c.loop-entry.invariant.same.size)
+    subst (λ (n : ℕ). InSpace n c.entry-item.result.first) (sym c.loop-entry.invariant.disk.same.size)
     (viewed_at master_view c.args.entries.now c.loop-entry.entry-index c.entry-item.result c.loop-entry-test.true
     c.entry-item.is (λ (e : MasterEntry). InSpace s.size e.1.1) c.requires.inside)
 
@@ -41,7 +41,7 @@ returns-in_err-add_directory-clause-fault g c h =
     let e = c.entry-item.result in
     let p = err_from_is_err_and c.from_residual.result c.from_residual.ensures.1 in
     let same = same_contents s.contents now.contents
-    (c.loop-entry.invariant.keeps (c.add_directory.ensures.same.was_honest h)).contents in
+    (c.loop-entry.invariant.disk.keeps (c.add_directory.ensures.disk.same.was_honest h)).contents in
     let marks = digit_at c.loop-entry.reached in
     handed (IsFaultOfDirectories s.size (layout_number c.args.layout) s.contents (digit_at c.args.reached.now) (map master_view c.args.entries.now))
     c.from_residual.result c.add_directory.result p.0 c.in_err-add_directory.field-0.0 p.1 p.2
@@ -54,24 +54,22 @@ returns-in_err-add_directory-clause-fault g c h =
     (map known_directory c.loop-entry.directories.items)
     (digit_at c.args.reached.now) marks (master_view e) error
     (viewed_split master_view c.args.entries.now i e c.loop-entry-test.true c.entry-item.is) c.requires.once
-    (c.loop-entry.invariant.read (c.add_directory.ensures.same.was_honest h))
+    (c.loop-entry.invariant.read (c.add_directory.ensures.disk.same.was_honest h))
     (subst (λ contents. IsFaultOfDirectory s.size (layout_number c.args.layout) contents marks e.ppn e.first error) same
-    (subst (λ (n : ℕ). IsFaultOfDirectory n (layout_number c.args.layout) now.contents marks e.ppn e.first error) c.loop-entry.invariant.same.size
+    (subst (λ (n : ℕ). IsFaultOfDirectory n (layout_number c.args.layout) now.contents marks e.ppn e.first error)
+    c.loop-entry.invariant.disk.same.size
     met)))
     (c.add_directory.ensures.fault h))
 
-pub returns-in_err-add_directory-clause-keeps : goal.returns-in_err-add_directory-clause-keeps
-returns-in_err-add_directory-clause-keeps g c h =
-    keeps_on (g.D.Disk.state c.args.disk.now) (g.D.Disk.state c.loop-entry.disk)
-    (g.D.Disk.state c.add_directory.new.disk) (c.loop-entry.invariant.keeps (c.add_directory.ensures.same.was_honest h))
-    (c.add_directory.ensures.keeps h)
-
-pub returns-in_err-add_directory-clause-served : goal.returns-in_err-add_directory-clause-served
-returns-in_err-add_directory-clause-served g c other =
+pub returns-in_err-add_directory-clause-disk : goal.returns-in_err-add_directory-clause-disk
+returns-in_err-add_directory-clause-disk g c =
+    let s = g.D.Disk.state c.args.disk.now in
+    let now = g.D.Disk.state c.loop-entry.disk in
+    let new = g.D.Disk.state c.add_directory.new.disk in
     let p = err_from_is_err_and c.from_residual.result c.from_residual.ensures.1 in
-    c.add_directory.ensures.served (λ is.
-    other (handed_back c.from_residual.result c.add_directory.result p.0 c.in_err-add_directory.field-0.0
-    Device p.1 p.2 c.in_err-add_directory.was is)) ∙ c.loop-entry.invariant.served
+    keeps_disk_handed s new c.from_residual.result c.add_directory.result p.0 c.in_err-add_directory.field-0.0 Device
+    p.1 p.2 c.in_err-add_directory.was (keeps_disk_on s now new (IsErrOf c.add_directory.result Device)
+    c.loop-entry.invariant.disk c.add_directory.ensures.disk)
 
 pub loop-entry-preserved : goal.loop-entry-preserved
 loop-entry-preserved g c =
@@ -79,19 +77,19 @@ loop-entry-preserved g c =
     let now = g.D.Disk.state c.loop-entry.disk in
     let new = g.D.Disk.state c.add_directory.new.disk in
     record {
-      same = same_disk_on s now new c.loop-entry.invariant.same c.add_directory.ensures.same;
-      served = c.in_ok-add_directory.ensures.served (λ is. cc) ∙ c.loop-entry.invariant.served;
-      keeps = λ h. keeps_on s now new (c.loop-entry.invariant.keeps (c.add_directory.ensures.same.was_honest h))
-          (c.add_directory.ensures.keeps h);
+      disk = keeps_disk_on s now new ⊥ c.loop-entry.invariant.disk (keeps_disk_served now new
+          (IsErrOf c.add_directory.result Device)
+          (λ (is : c.add_directory.result ≡ Err Device). let was = c.in_ok-add_directory.was in cc)
+          c.add_directory.ensures.disk);
       marks = c.add_directory.ensures.length ∙ c.loop-entry.invariant.marks;
-      space = λ only. subst (λ (n : ℕ). IsOnlySpace n c.add_directory.new.reached) c.loop-entry.invariant.same.size
+      space = λ only. subst (λ (n : ℕ). IsOnlySpace n c.add_directory.new.reached) c.loop-entry.invariant.disk.same.size
           (c.in_ok-add_directory.ensures.space (subst (λ (n : ℕ). IsOnlySpace n c.loop-entry.reached)
-          (sym c.loop-entry.invariant.same.size) (c.loop-entry.invariant.space only)));
+          (sym c.loop-entry.invariant.disk.same.size) (c.loop-entry.invariant.space only)));
       aligned = c.in_ok-add_directory.ensures.aligned ∙ ap (λ (n : ℕ). n + 1) c.loop-entry.invariant.aligned;
       whole = all_added known_directory (IsWholeDirectory s.size) c.loop-entry.directories.items
           c.add_directory.new.directories.items c.loop-entry.invariant.whole
           (subst (λ (n : ℕ). IsAdded known_directory c.loop-entry.directories.items
-          c.add_directory.new.directories.items (IsWholeDirectory n)) c.loop-entry.invariant.same.size
+          c.add_directory.new.directories.items (IsWholeDirectory n)) c.loop-entry.invariant.disk.same.size
           c.in_ok-add_directory.ensures.whole);
       marked = total_marked known_directory reaches_in_known c.loop-entry.directories.items
           c.add_directory.new.directories.items
@@ -102,8 +100,8 @@ loop-entry-preserved g c =
           c.add_directory.new.directories.items
           (digit_at c.args.reached.now) (digit_at c.loop-entry.reached) (digit_at c.add_directory.new.reached)
           c.loop-entry-test.true c.entry-item.is (same_contents s.contents now.contents
-          (c.loop-entry.invariant.keeps (c.add_directory.ensures.same.was_honest h)).contents)
-          (c.loop-entry.invariant.read (c.add_directory.ensures.same.was_honest h))
+          (c.loop-entry.invariant.disk.keeps (c.add_directory.ensures.disk.same.was_honest h)).contents)
+          (c.loop-entry.invariant.read (c.add_directory.ensures.disk.same.was_honest h))
           (c.in_ok-add_directory.ensures.read h);
     }
 
@@ -113,9 +111,7 @@ loop-entry-init g c =
     let none : map known_directory c.new-directories.result.items
     ≡ [] = ap (map known_directory) c.new-directories.ensures.items in
     record {
-      same = same_disk_start s;
-      served = refl;
-      keeps = λ h. record { contents = λ n. refl; is_open = λ n. refl; time = passes_start s (MayLeave s) };
+      disk = keeps_disk_start s;
       marks = refl;
       space = λ only. only;
       aligned = ap length c.new-directories.ensures.items;
@@ -131,5 +127,5 @@ returns-in_err-add_directory-clause-named g c =
     let p = err_from_is_err_and c.from_residual.result c.from_residual.ensures.1 in
     handed (NamesInSpace size) c.from_residual.result c.add_directory.result p.0 c.in_err-add_directory.field-0.0
     p.1 p.2 c.in_err-add_directory.was
-    (named_on (g.D.Disk.state c.loop-entry.disk).size size c.add_directory.result c.loop-entry.invariant.same.size
+    (named_on (g.D.Disk.state c.loop-entry.disk).size size c.add_directory.result c.loop-entry.invariant.disk.same.size
     c.add_directory.ensures.named)

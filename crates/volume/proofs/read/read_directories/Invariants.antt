@@ -1,9 +1,9 @@
 use Rattle.std.proofs.Common.{◌≡◌, ℕ, ◌+◌, map, take, length}
 use Rattle.std.specs.List.{AllByRecursion}
-use Rattle.blockdisk.specs.Disk.{SameDisk, Keeps}
 use Rattle.meaning.specs.Layouts.{layout_number}
 use Rattle.meaning.specs.Maps.{total}
 use Rattle.alloctab.specs.Lists.{digit_at}
+use Rattle.volume.specs.DiskAnswers.{KeepsDisk}
 use Rattle.volume.specs.Cores.{master_view, known_directory}
 use Rattle.volume.specs.Known.{reaches_in_known, IsWholeDirectory}
 use Rattle.volume.specs.Found.{IsOnlySpace, AreDirectoriesRead}
@@ -11,9 +11,7 @@ use Rattle.volume.proofs.read.read_directories.Given as goal
 
 abbrev pub invariant-loop-entry : goal.invariant-loop-entry
 invariant-loop-entry g l = record {
-  same : SameDisk (g.D.Disk.state l.fn.disk) (g.D.Disk.state l.disk);
-  served : (g.D.Disk.state l.disk).failures ≡ (g.D.Disk.state l.fn.disk).failures;
-  keeps : (g.D.Disk.state l.disk).honest → Keeps (g.D.Disk.state l.fn.disk) (g.D.Disk.state l.disk);
+  disk : KeepsDisk (g.D.Disk.state l.fn.disk) (g.D.Disk.state l.disk) ⊥;
   marks : length l.reached ≡ length l.fn.reached;
   space : IsOnlySpace (g.D.Disk.state l.fn.disk).size l.fn.reached
       → IsOnlySpace (g.D.Disk.state l.fn.disk).size l.reached;

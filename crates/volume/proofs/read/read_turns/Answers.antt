@@ -1,16 +1,16 @@
-use Rattle.std.proofs.Common.{◌+◌, ℕ, map, take, drop, sym, ap, subst, ◌∙◌}
+use Rattle.std.proofs.Common.{◌+◌, ℕ, map, take, drop, sym, ap, subst, ◌∙◌, ◌≡◌, Err, IsErrOf}
 use Rattle.std.proofs.lemmas.Result.{err_from_is_err_and}
-use Rattle.blockdisk.specs.Laws.{same_contents, same_disk_on}
+use Rattle.blockdisk.specs.Laws.{same_contents}
 use Rattle.meaning.specs.Layouts.{layout_number}
 use Rattle.meaning.specs.Stands.{place_of}
 use Rattle.meaning.specs.Faults.{InSpace}
 use Rattle.meaning.specs.Directories.{FileEntry}
 use Rattle.alloctab.specs.Lists.{digit_at}
-use Rattle.blockdisk.specs.Laws.{keeps_on}
 use Rattle.volume.specs.Turns.{turn_view, placed_known}
 use Rattle.volume.specs.FaultsFound.{NamesInSpace, IsFaultOfFile, IsFaultOfFiles}
 use Rattle.volume.specs.declared.error.VolumeError.TheVariants.{Device}
-use Rattle.volume.proofs.Handing.{handed, handed_back, found_on, named_on}
+use Rattle.volume.proofs.DisksAsked.{keeps_disk_served, keeps_disk_on, keeps_disk_handed}
+use Rattle.volume.proofs.Handing.{handed, found_on, named_on}
 use Rattle.volume.proofs.Lookups.{viewed_at, viewed_split}
 use Rattle.volume.specs.Known.{IsWholeVersion}
 use Rattle.volume.specs.Found.{IsOnlySpace}
@@ -23,7 +23,7 @@ use Rattle.volume.proofs.read.read_turns.Goals as goal
 pub add_file-requires-clause-inside : goal.add_file-requires-clause-inside
 add_file-requires-clause-inside g c =
     let s = g.D.Disk.state c.args.disk.now in
-    subst (λ (n : ℕ). InSpace n c.turn-item.result.entry.prime) (sym c.loop-turn.invariant.same.size)
+    subst (λ (n : ℕ). InSpace n c.turn-item.result.entry.prime) (sym c.loop-turn.invariant.disk.same.size)
     (viewed_at turn_view c.args.turns.now c.loop-turn.turn-index c.turn-item.result c.loop-turn-test.true
     c.turn-item.is (λ (e : FileEntry). InSpace s.size e.1) c.requires.inside)
 
@@ -35,7 +35,7 @@ returns-in_err-add_file-clause-fault g c h =
     let e = c.turn-item.result in
     let p = err_from_is_err_and c.from_residual.result c.from_residual.ensures.1 in
     let same = same_contents s.contents now.contents
-    (c.loop-turn.invariant.keeps (c.add_file.ensures.same.was_honest h)).contents in
+    (c.loop-turn.invariant.disk.keeps (c.add_file.ensures.disk.same.was_honest h)).contents in
     handed (IsFaultOfFiles s.size (layout_number c.args.layout) s.contents (digit_at c.args.reached.now) c.args.ppn
     (map turn_view c.args.turns.now)) c.from_residual.result c.add_file.result p.0 c.in_err-add_file.field-0.0
     p.1 p.2 c.in_err-add_file.was
@@ -47,23 +47,21 @@ returns-in_err-add_file-clause-fault g c h =
     (map placed_known c.loop-turn.read.items)
     (digit_at c.args.reached.now) (turn_view e) error c.loop-turn.reached
     (viewed_split turn_view c.args.turns.now i e c.loop-turn-test.true c.turn-item.is) c.requires.once
-    (c.loop-turn.invariant.read (c.add_file.ensures.same.was_honest h))
+    (c.loop-turn.invariant.read (c.add_file.ensures.disk.same.was_honest h))
     (subst (λ contents. IsFaultOfFile s.size (layout_number c.args.layout) contents c.loop-turn.reached (place_of c.args.ppn e.entry.name) e.entry.prime error)
     same (subst (λ (n : ℕ). IsFaultOfFile n (layout_number c.args.layout) now.contents c.loop-turn.reached
-    (place_of c.args.ppn e.entry.name) e.entry.prime error) c.loop-turn.invariant.same.size met)))
+    (place_of c.args.ppn e.entry.name) e.entry.prime error) c.loop-turn.invariant.disk.same.size met)))
     (c.add_file.ensures.fault h))
 
-pub returns-in_err-add_file-clause-keeps : goal.returns-in_err-add_file-clause-keeps
-returns-in_err-add_file-clause-keeps g c h =
-    keeps_on (g.D.Disk.state c.args.disk.now) (g.D.Disk.state c.loop-turn.disk) (g.D.Disk.state c.add_file.new.disk)
-    (c.loop-turn.invariant.keeps (c.add_file.ensures.same.was_honest h)) (c.add_file.ensures.keeps h)
-
-pub returns-in_err-add_file-clause-served : goal.returns-in_err-add_file-clause-served
-returns-in_err-add_file-clause-served g c other =
+pub returns-in_err-add_file-clause-disk : goal.returns-in_err-add_file-clause-disk
+returns-in_err-add_file-clause-disk g c =
+    let s = g.D.Disk.state c.args.disk.now in
+    let now = g.D.Disk.state c.loop-turn.disk in
+    let new = g.D.Disk.state c.add_file.new.disk in
     let p = err_from_is_err_and c.from_residual.result c.from_residual.ensures.1 in
-    c.add_file.ensures.served (λ is. other
-    (handed_back c.from_residual.result c.add_file.result p.0 c.in_err-add_file.field-0.0 Device p.1 p.2
-    c.in_err-add_file.was is)) ∙ c.loop-turn.invariant.served
+    keeps_disk_handed s new c.from_residual.result c.add_file.result p.0 c.in_err-add_file.field-0.0 Device p.1 p.2
+    c.in_err-add_file.was (keeps_disk_on s now new (IsErrOf c.add_file.result Device) c.loop-turn.invariant.disk
+    c.add_file.ensures.disk)
 
 pub loop-turn-preserved : goal.loop-turn-preserved
 loop-turn-preserved g c =
@@ -71,16 +69,15 @@ loop-turn-preserved g c =
     let now = g.D.Disk.state c.loop-turn.disk in
     let new = g.D.Disk.state c.add_file.new.disk in
     record {
-      same = same_disk_on s now new c.loop-turn.invariant.same c.add_file.ensures.same;
-      served = c.in_ok-add_file.ensures.served (λ is. cc) ∙ c.loop-turn.invariant.served;
-      keeps = λ h. keeps_on s now new (c.loop-turn.invariant.keeps (c.add_file.ensures.same.was_honest h))
-          (c.add_file.ensures.keeps h);
+      disk = keeps_disk_on s now new ⊥ c.loop-turn.invariant.disk (keeps_disk_served now new
+          (IsErrOf c.add_file.result Device)
+          (λ (is : c.add_file.result ≡ Err Device). let was = c.in_ok-add_file.was in cc) c.add_file.ensures.disk);
       marks = c.add_file.ensures.length ∙ c.loop-turn.invariant.marks;
       whole = all_added placed_known IsWholeVersion c.loop-turn.read.items c.add_file.new.read.items
           c.loop-turn.invariant.whole c.in_ok-add_file.ensures.whole;
-      space = λ only. subst (λ (n : ℕ). IsOnlySpace n c.add_file.new.reached) c.loop-turn.invariant.same.size
+      space = λ only. subst (λ (n : ℕ). IsOnlySpace n c.add_file.new.reached) c.loop-turn.invariant.disk.same.size
           (c.in_ok-add_file.ensures.space (subst (λ (n : ℕ). IsOnlySpace n c.loop-turn.reached)
-          (sym c.loop-turn.invariant.same.size) (c.loop-turn.invariant.space only)));
+          (sym c.loop-turn.invariant.disk.same.size) (c.loop-turn.invariant.space only)));
       aligned = c.in_ok-add_file.ensures.aligned ∙ ap (λ (n : ℕ). n + 1) c.loop-turn.invariant.aligned;
       placed = places_more (λ p. p.place) (λ t. t.place) c.args.turns.now c.loop-turn.turn-index c.turn-item.result
           c.loop-turn.read.items c.add_file.new.read.items c.loop-turn-test.true c.turn-item.is
@@ -94,8 +91,8 @@ loop-turn-preserved g c =
           c.loop-turn.turn-index c.turn-item.result c.loop-turn.read.items c.add_file.new.read.items
           (digit_at c.args.reached.now) (digit_at c.loop-turn.reached) (digit_at c.add_file.new.reached)
           c.loop-turn-test.true c.turn-item.is (same_contents s.contents now.contents
-          (c.loop-turn.invariant.keeps (c.add_file.ensures.same.was_honest h)).contents)
-          (c.loop-turn.invariant.read (c.add_file.ensures.same.was_honest h)) (c.in_ok-add_file.ensures.read h);
+          (c.loop-turn.invariant.disk.keeps (c.add_file.ensures.disk.same.was_honest h)).contents)
+          (c.loop-turn.invariant.read (c.add_file.ensures.disk.same.was_honest h)) (c.in_ok-add_file.ensures.read h);
     }
 
 pub returns-in_err-add_file-clause-named : goal.returns-in_err-add_file-clause-named
@@ -104,5 +101,5 @@ returns-in_err-add_file-clause-named g c =
     let p = err_from_is_err_and c.from_residual.result c.from_residual.ensures.1 in
     handed (NamesInSpace size) c.from_residual.result c.add_file.result p.0 c.in_err-add_file.field-0.0
     p.1 p.2 c.in_err-add_file.was
-    (named_on (g.D.Disk.state c.loop-turn.disk).size size c.add_file.result c.loop-turn.invariant.same.size
+    (named_on (g.D.Disk.state c.loop-turn.disk).size size c.add_file.result c.loop-turn.invariant.disk.same.size
     c.add_file.ensures.named)

@@ -1,8 +1,8 @@
 use Rattle.std.proofs.Common.{◌≡◌, ℕ, ◌+◌, map, take, length}
 use Rattle.std.specs.List.{AllByRecursion}
-use Rattle.blockdisk.specs.Disk.{SameDisk, Keeps}
 use Rattle.alloctab.specs.Lists.{digit_at}
 use Rattle.meaning.specs.Layouts.{layout_number}
+use Rattle.volume.specs.DiskAnswers.{KeepsDisk}
 use Rattle.volume.specs.Turns.{turn_view, placed_known}
 use Rattle.volume.specs.Known.{reaches_in_entries, IsWholeVersion}
 use Rattle.volume.specs.Found.{IsOnlySpace, AreFilesRead}
@@ -10,9 +10,7 @@ use Rattle.volume.proofs.read.read_turns.Given as goal
 
 abbrev pub invariant-loop-turn : goal.invariant-loop-turn
 invariant-loop-turn g l = record {
-  same : SameDisk (g.D.Disk.state l.fn.disk) (g.D.Disk.state l.disk);
-  served : (g.D.Disk.state l.disk).failures ≡ (g.D.Disk.state l.fn.disk).failures;
-  keeps : (g.D.Disk.state l.disk).honest → Keeps (g.D.Disk.state l.fn.disk) (g.D.Disk.state l.disk);
+  disk : KeepsDisk (g.D.Disk.state l.fn.disk) (g.D.Disk.state l.disk) ⊥;
   marks : length l.reached ≡ length l.fn.reached;
   whole : AllByRecursion IsWholeVersion (map placed_known l.read.items);
   space : IsOnlySpace (g.D.Disk.state l.fn.disk).size l.fn.reached

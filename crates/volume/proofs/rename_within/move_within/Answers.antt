@@ -22,9 +22,9 @@ read_prime-requires-clause-inside g c =
 pub returns-in-Err-clause-edited : goal.returns-in-Err-clause-edited
 returns-in-Err-clause-edited g c =
     interrupted c.requires.sound refl (λ h d left. g.met.D.Disk.only_now c.args.disk.now d h left)
-    c.read_prime.ensures.same (λ n none. absurd none) c.requires.sound.whole
+    c.read_prime.ensures.disk.same (λ n none. absurd none) c.requires.sound.whole
     (λ m. read_nothing (g.D.Disk.state c.args.disk.now) (g.D.Disk.state c.read_prime.new.disk)
-    (c.read_prime.ensures.keeps m)) c.in-Err.error
+    (c.read_prime.ensures.disk.keeps m)) c.in-Err.error
 
 pub returns-in-Err-clause-held : goal.returns-in-Err-clause-held
 returns-in-Err-clause-held g c k v is = (v.prime, is)
@@ -33,7 +33,7 @@ pub returns-in-Err-clause-given_up : goal.returns-in-Err-clause-given_up
 returns-in-Err-clause-given_up g c is h =
     let s = g.D.Disk.state c.args.disk.now in
     let core = core_of c.args.map.now in
-    let same = c.read_prime.ensures.same in
+    let same = c.read_prime.ensures.disk.same in
     let file = c.requires.there in
     let holds = prime_holds s core c.requires.sound (same.was_honest h) c.args.moved.ppn c.args.moved.name c.args.key
     file in
@@ -45,12 +45,12 @@ returns-in-Err-clause-given_up g c is h =
 pub commit_edit-requires-clause-in_range : goal.commit_edit-requires-clause-in_range
 commit_edit-requires-clause-in_range g c =
     edit_in_range (within_edit c.requires.sound.whole c.move_in_core.ensures.1 c.requires.protection
-    c.requires.unclaimed 0 c.booked-booked.ensures.sound) c.read_prime.ensures.same
+    c.requires.unclaimed 0 c.booked-booked.ensures.sound) c.read_prime.ensures.disk.same
 
 pub commit_edit-requires-clause-few : goal.commit_edit-requires-clause-few
 commit_edit-requires-clause-few g c =
     edit_few (within_edit c.requires.sound.whole c.move_in_core.ensures.1 c.requires.protection c.requires.unclaimed 0
-    c.booked-booked.ensures.sound) c.read_prime.ensures.same
+    c.booked-booked.ensures.sound) c.read_prime.ensures.disk.same
 
 pub returns-clause-edited : goal.returns-clause-edited
 returns-clause-edited g c =
@@ -58,11 +58,11 @@ returns-clause-edited g c =
     let mid = g.D.Disk.state c.read_prime.new.disk in
     let v = c.move_in_core.ensures.0 in
     let moves = c.move_in_core.ensures.1 in
-    let keeps = c.read_prime.ensures.keeps in
+    let keeps = c.read_prime.ensures.disk.keeps in
     let edit = within_edit c.requires.sound.whole moves c.requires.protection c.requires.unclaimed _
     c.booked-booked.ensures.sound in
     edited c.requires.sound refl (λ h d left. g.met.D.Disk.only_now c.args.disk.now d h left)
-    c.read_prime.ensures.same edit.quiet edit c.commit_edit.ensures (λ m. read_nothing s mid (keeps m))
+    c.read_prime.ensures.disk.same edit.quiet edit c.commit_edit.ensures (λ m. read_nothing s mid (keeps m))
     (λ m. (keeps m).contents v.at ∙ ap s.contents (sym (c.prime_of-at.ensures v moves.there))
     ∙ c.in-Ok.ensures.words m) (λ h. refl)
 

@@ -25,18 +25,18 @@ returns-in-Ok-clause-crash g c h =
     let s = g.D.Disk.state c.args.disk.now in
     let s1 = g.D.Disk.state c.recover.new.disk in
     crash_read s s1 (g.D.Disk.state c.read_map.new.disk) (StandsLikeBefore s)
-    (crash_recovered s s1 (c.recover.ensures.crash (c.read_map.ensures.same.was_honest h)))
-    (λ d left. g.met.D.Disk.only_now c.recover.new.disk d (c.read_map.ensures.same.was_honest h) left)
-    (c.read_map.ensures.reads h)
+    (crash_recovered s s1 (c.recover.ensures.crash (c.read_map.ensures.disk.same.was_honest h)))
+    (λ d left. g.met.D.Disk.only_now c.recover.new.disk d (c.read_map.ensures.disk.same.was_honest h) left)
+    (c.read_map.ensures.disk.reads h)
 
 pub returns-in-Ok-clause-synced : goal.returns-in-Ok-clause-synced
 returns-in-Ok-clause-synced g c h =
     let s = g.D.Disk.state c.args.disk.now in
-    let honest = c.read_map.ensures.same.was_honest h in
+    let honest = c.read_map.ensures.disk.same.was_honest h in
     synced_read g.D.Disk.state c.args.disk.now c.recover.new.disk c.read_map.new.disk
     (IsErrOf c.recover.result LogDevice) (IsErrOf c.read_map.result Device) (StandsLike s)
     (λ (is : c.recover.result ≡ Err LogDevice). let ok = c.in-Ok.is in
-    cc) (λ d left. g.met.D.Disk.only_now c.recover.new.disk d honest left) (c.read_map.ensures.reads h)
+    cc) (λ d left. g.met.D.Disk.only_now c.recover.new.disk d honest left) (c.read_map.ensures.disk.reads h)
     (synced_recovered g.D.Disk.state c.args.disk.now c.recover.new.disk (IsErrOf c.recover.result LogDevice)
     (IsErrOf c.recover.result LogDevice) (λ is. is) (c.recover.ensures.synced honest))
 
@@ -45,24 +45,25 @@ returns-in-Ok-clause-rest g c h =
     let s = g.D.Disk.state c.args.disk.now in
     let s1 = g.D.Disk.state c.recover.new.disk in
     let s2 = g.D.Disk.state c.read_map.new.disk in
-    let reads = c.read_map.ensures.reads h in
+    let reads = c.read_map.ensures.disk.reads h in
     let recovered : IsRecovered s.size s.contents s1.contents = c.in-Ok.ensures.recovered
-    (c.read_map.ensures.same.was_honest h) in
-    let none : NoneOpen s1 = c.in-Ok.ensures.settled (c.read_map.ensures.same.was_honest h) in
+    (c.read_map.ensures.disk.same.was_honest h) in
+    let none : NoneOpen s1 = c.in-Ok.ensures.settled (c.read_map.ensures.disk.same.was_honest h) in
     ok_on (λ read. (m : DiskMap) × IsHeld s1.size (known_of read) m s1.contents × (m.layout ≡ layout_number read.layout))
     (λ read. IsAtRest s2 (known_of read)) c.read_map.result
-    (λ read held. rest_known s s1 s2 (known_of read) held.0 c.recover.ensures.same.size c.read_map.ensures.same.size
+    (λ read held. rest_known s s1 s2 (known_of read) held.0 c.recover.ensures.same.size
+    c.read_map.ensures.disk.same.size
     recovered none reads held.1) (c.read_map.ensures.held h)
 
 pub returns-in-Ok-clause-layout : goal.returns-in-Ok-clause-layout
 returns-in-Ok-clause-layout g c h =
     let s1 = g.D.Disk.state c.recover.new.disk in
     let s2 = g.D.Disk.state c.read_map.new.disk in
-    let reads = c.read_map.ensures.reads h in
+    let reads = c.read_map.ensures.disk.reads h in
     ok_on (λ read. (m : DiskMap) × IsHeld s1.size (known_of read) m s1.contents × (m.layout ≡ layout_number read.layout))
     (λ read. layout_number read.layout ≡ (pack_of s2).layout) c.read_map.result
     (λ read held. sym held.2 ∙ sym (layout_is s1.size s1.contents _ held.1.stands.mapped.home)
-    ∙ sym (homes_layout s1 s2 c.read_map.ensures.same.size (λ n low. reads.still.contents n)))
+    ∙ sym (homes_layout s1 s2 c.read_map.ensures.disk.same.size (λ n low. reads.still.contents n)))
     (c.read_map.ensures.held h)
 
 pub returns-in-Ok-clause-files : goal.returns-in-Ok-clause-files
@@ -70,21 +71,21 @@ returns-in-Ok-clause-files g c h files stands =
     let s = g.D.Disk.state c.args.disk.now in
     let s1 = g.D.Disk.state c.recover.new.disk in
     let s2 = g.D.Disk.state c.read_map.new.disk in
-    let reads = c.read_map.ensures.reads h in
+    let reads = c.read_map.ensures.disk.reads h in
     let recovered : IsRecovered s.size s.contents s1.contents = c.in-Ok.ensures.recovered
-    (c.read_map.ensures.same.was_honest h) in
-    let none : NoneOpen s1 = c.in-Ok.ensures.settled (c.read_map.ensures.same.was_honest h) in
+    (c.read_map.ensures.disk.same.was_honest h) in
+    let none : NoneOpen s1 = c.in-Ok.ensures.settled (c.read_map.ensures.disk.same.was_honest h) in
     ok_always (RestsAt s2 files) c.read_map.result
-    (rest_files s s1 s2 files c.recover.ensures.same.size c.read_map.ensures.same.size recovered none reads stands)
+    (rest_files s s1 s2 files c.recover.ensures.same.size c.read_map.ensures.disk.same.size recovered none reads stands)
 
 pub returns-in-Ok-clause-recovered : goal.returns-in-Ok-clause-recovered
 returns-in-Ok-clause-recovered g c h =
     let s = g.D.Disk.state c.args.disk.now in
     let s1 = g.D.Disk.state c.recover.new.disk in
     let s2 = g.D.Disk.state c.read_map.new.disk in
-    let reads = c.read_map.ensures.reads h in
+    let reads = c.read_map.ensures.disk.reads h in
     let recovered : IsRecovered s.size s.contents s1.contents = c.in-Ok.ensures.recovered
-    (c.read_map.ensures.same.was_honest h) in
+    (c.read_map.ensures.disk.same.was_honest h) in
     let same : s2.contents ≡ s1.contents = same_contents s1.contents s2.contents reads.still.contents in
     ok_always (IsRecovered s.size s.contents s2.contents) c.read_map.result
     (subst (IsRecovered s.size s.contents) (sym same) recovered)
@@ -94,14 +95,15 @@ returns-in-Ok-clause-stood g c h =
     let s = g.D.Disk.state c.args.disk.now in
     let s1 = g.D.Disk.state c.recover.new.disk in
     let s2 = g.D.Disk.state c.read_map.new.disk in
-    let reads = c.read_map.ensures.reads h in
+    let reads = c.read_map.ensures.disk.reads h in
     let recovered : IsRecovered s.size s.contents s1.contents = c.in-Ok.ensures.recovered
-    (c.read_map.ensures.same.was_honest h) in
-    let none : NoneOpen s1 = c.in-Ok.ensures.settled (c.read_map.ensures.same.was_honest h) in
+    (c.read_map.ensures.disk.same.was_honest h) in
+    let none : NoneOpen s1 = c.in-Ok.ensures.settled (c.read_map.ensures.disk.same.was_honest h) in
     ok_on (λ read. (m : DiskMap) × IsHeld s1.size (known_of read) m s1.contents × (m.layout ≡ layout_number read.layout))
     (λ read. (files : Files File)
     × StandsOn (pack_of s2) s.contents files × RestsAt s2 files) c.read_map.result
-    (λ read held. stood_before s s1 s2 (known_of read) held.0 c.recover.ensures.same.size c.read_map.ensures.same.size
+    (λ read held. stood_before s s1 s2 (known_of read) held.0 c.recover.ensures.same.size
+    c.read_map.ensures.disk.same.size
     recovered none reads held.1) (c.read_map.ensures.held h)
 
 pub returns-in-Ok-clause-settled : goal.returns-in-Ok-clause-settled
@@ -109,10 +111,10 @@ returns-in-Ok-clause-settled g c h =
     let s = g.D.Disk.state c.args.disk.now in
     let s1 = g.D.Disk.state c.recover.new.disk in
     let s2 = g.D.Disk.state c.read_map.new.disk in
-    let reads = c.read_map.ensures.reads h in
+    let reads = c.read_map.ensures.disk.reads h in
     let recovered : IsRecovered s.size s.contents s1.contents = c.in-Ok.ensures.recovered
-    (c.read_map.ensures.same.was_honest h) in
-    let none : NoneOpen s1 = c.in-Ok.ensures.settled (c.read_map.ensures.same.was_honest h) in
+    (c.read_map.ensures.disk.same.was_honest h) in
+    let none : NoneOpen s1 = c.in-Ok.ensures.settled (c.read_map.ensures.disk.same.was_honest h) in
     ok_always (NoneOpen s2) c.read_map.result (λ n. reads.is_open n ∙ none n)
 
 pub returns-in-Ok-clause-refused : goal.returns-in-Ok-clause-refused
@@ -120,10 +122,10 @@ returns-in-Ok-clause-refused g c h =
     let s = g.D.Disk.state c.args.disk.now in
     let s1 = g.D.Disk.state c.recover.new.disk in
     let s2 = g.D.Disk.state c.read_map.new.disk in
-    let reads = c.read_map.ensures.reads h in
+    let reads = c.read_map.ensures.disk.reads h in
     let recovered : IsRecovered s.size s.contents s1.contents = c.in-Ok.ensures.recovered
-    (c.read_map.ensures.same.was_honest h) in
-    let none : NoneOpen s1 = c.in-Ok.ensures.settled (c.read_map.ensures.same.was_honest h) in
+    (c.read_map.ensures.disk.same.was_honest h) in
+    let none : NoneOpen s1 = c.in-Ok.ensures.settled (c.read_map.ensures.disk.same.was_honest h) in
     let same : s2.contents ≡ s1.contents = same_contents s1.contents s2.contents reads.still.contents in
     found_on (SettledRefuses s1.size s1.contents) (Refuses s.size s2.contents) c.read_map.result
     (λ error met. subst (λ contents. Refuses s.size contents error) (sym same)
@@ -136,10 +138,10 @@ returns-in-Ok-clause-kept g c h other =
     let s = g.D.Disk.state c.args.disk.now in
     let s1 = g.D.Disk.state c.recover.new.disk in
     let s2 = g.D.Disk.state c.read_map.new.disk in
-    let reads = c.read_map.ensures.reads h in
+    let reads = c.read_map.ensures.disk.reads h in
     let recovered : IsRecovered s.size s.contents s1.contents = c.in-Ok.ensures.recovered
-    (c.read_map.ensures.same.was_honest h) in
-    let none : NoneOpen s1 = c.in-Ok.ensures.settled (c.read_map.ensures.same.was_honest h) in
+    (c.read_map.ensures.disk.same.was_honest h) in
+    let none : NoneOpen s1 = c.in-Ok.ensures.settled (c.read_map.ensures.disk.same.was_honest h) in
     let same : s2.contents ≡ s1.contents = same_contents s1.contents s2.contents reads.still.contents in
     inr (subst (IsRecovered s.size s.contents) (sym same) recovered)
 

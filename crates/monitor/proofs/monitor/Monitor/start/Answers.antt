@@ -32,7 +32,7 @@ returns-in-Ok-clause-stood g c h =
     let d = g.D.Disk.state c.args.disk in
     let opened = g.D.Disk.state c.in_ok-volume.volume.disk in
     let before : Stands d.size d.contents stood.0 = subst (λ n. Stands n d.contents stood.0)
-    c.in_ok-volume.ensures.same.size (stands_in_any (pack_of opened) d.contents stood.0 stood.1) in
+    c.in_ok-volume.ensures.disk.same.size (stands_in_any (pack_of opened) d.contents stood.0 stood.1) in
     (stood.0, stood.1, λ s start. returns-in-Ok-clause-started g c stood.0 before s start h)
 
 pub returns-in_err-volume-clause-kept : goal.returns-in_err-volume-clause-kept

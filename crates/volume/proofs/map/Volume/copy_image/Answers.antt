@@ -23,7 +23,7 @@ returns-in-Ok-clause-stood g c h k =
     let h1 = c.copy_all.ensures.step.same_source.was_honest h in
     let step = c.copy_all.ensures.step in
     let stood = c.in-Ok.ensures.stood h1 in
-    let size : t.size ≡ s1.size = step.same_target.size ∙ sym c.requires ∙ sym c.read_volume.ensures.same.size in
+    let size : t.size ≡ s1.size = step.same_target.size ∙ sym c.requires ∙ sym c.read_volume.ensures.disk.same.size in
     ok_both c.copy_all.result (AreCopied s1.size s1.contents t.contents) (NoneOpen t)
     ((files : Files File) × StandsOn (pack_of t) s.contents files × RestsAt t files) (c.copy_all.ensures.copied h k)
     (c.copy_all.ensures.settled k)
@@ -41,7 +41,7 @@ returns-in-Ok-clause-files g c h k files stands =
     let t = g.E.Disk.state c.copy_all.new.to in
     let h1 = c.copy_all.ensures.step.same_source.was_honest h in
     let step = c.copy_all.ensures.step in
-    let size : t.size ≡ s1.size = step.same_target.size ∙ sym c.requires ∙ sym c.read_volume.ensures.same.size in
+    let size : t.size ≡ s1.size = step.same_target.size ∙ sym c.requires ∙ sym c.read_volume.ensures.disk.same.size in
     ok_both c.copy_all.result (AreCopied s1.size s1.contents t.contents) (NoneOpen t) (RestsAt t files)
     (c.copy_all.ensures.copied h k) (c.copy_all.ensures.settled k)
     (λ copy none. copy_rests s1 t files size none copy (c.in-Ok.ensures.files h1 files stands))
@@ -96,7 +96,7 @@ returns-in-Ok-clause-last g c h k =
     let t' = g.E.Disk.state c.copy_all.new.to in
     let same : s1.contents ≡ s2.contents = sym (same_contents s1.contents s2.contents
     (c.copy_all.ensures.step.reads h).still.contents) in
-    subst (λ size. LeavesOnly t t' (HomesComeLast size s2.contents t)) c.read_volume.ensures.same.size
+    subst (λ size. LeavesOnly t t' (HomesComeLast size s2.contents t)) c.read_volume.ensures.disk.same.size
     (subst (λ contents. LeavesOnly t t' (HomesComeLast s1.size contents t)) same (c.copy_all.ensures.last h k))
 
 pub returns-in-Err-clause-last : goal.returns-in-Err-clause-last

@@ -61,7 +61,8 @@ returns-in-Two-clause-stood g c h =
     let stood = said.stood h in (
       (pack_of s1).layout,
       stood.0,
-      stood_then s s1 c.in_ok-map.map said.same.size (said.recovered h) (said.settled h) (said.rest h) (said.layout h)
+      stood_then s s1 c.in_ok-map.map said.disk.same.size (said.recovered h) (said.settled h) (said.rest h)
+          (said.layout h)
           stood.0 stood.1,
     )
 
@@ -71,9 +72,9 @@ returns-in-Two-clause-files g c h layout files stands =
     let s1 = g.D.Disk.state c.read_volume.new.disk in
     let said = c.in_ok-map.ensures in
     let two : layout_number c.in_ok-map.map.layout ≡ 2 = let is = c.in-Two.is in cc in (
-      told s s1 c.in_ok-map.map said.same.size (said.recovered h) (said.settled h) (said.rest h) (said.layout h) 2
+      told s s1 c.in_ok-map.map said.disk.same.size (said.recovered h) (said.settled h) (said.rest h) (said.layout h) 2
           layout files two stands,
-      rests_already s s1 c.in_ok-map.map said.same.size (said.recovered h) (said.settled h) (said.rest h)
+      rests_already s s1 c.in_ok-map.map said.disk.same.size (said.recovered h) (said.settled h) (said.rest h)
           (said.layout h) layout files two stands,
     )
 
@@ -84,33 +85,33 @@ returns-in_err-raise-in-One-clause-crash g c h =
     let s = g.D.Disk.state c.args.disk.now in
     let s1 = g.D.Disk.state c.read_volume.new.disk in
     let said = c.in_ok-map.ensures in
-    let h1 = c.raise.ensures.same.was_honest h in
+    let h1 = c.raise.ensures.disk.same.was_honest h in
     let rest = said.rest h1 in
-    migrate_leaves s s1 (g.D.Disk.state c.raise.new.disk) rest.map said.same.size
-    (stood_here s s1 c.in_ok-map.map said.same.size (said.recovered h1) (said.settled h1) rest (said.layout h1))
+    migrate_leaves s s1 (g.D.Disk.state c.raise.new.disk) rest.map said.disk.same.size
+    (stood_here s s1 c.in_ok-map.map said.disk.same.size (said.recovered h1) (said.settled h1) rest (said.layout h1))
     (c.read_volume.ensures.crash h1)
     (c.raise.ensures.crash h rest.map
-    (map_first s s1 c.in_ok-map.map said.same.size (said.recovered h1) (said.settled h1) rest (said.layout h1)
+    (map_first s s1 c.in_ok-map.map said.disk.same.size (said.recovered h1) (said.settled h1) rest (said.layout h1)
     c.blocks-in-One.result.now c.blocks-in-One.ensures.value)
-    (map_rest s s1 c.in_ok-map.map said.same.size (said.recovered h1) (said.settled h1) rest (said.layout h1)))
+    (map_rest s s1 c.in_ok-map.map said.disk.same.size (said.recovered h1) (said.settled h1) rest (said.layout h1)))
 
 pub returns-in_err-raise-in-One-clause-synced : goal.returns-in_err-raise-in-One-clause-synced
 returns-in_err-raise-in-One-clause-synced g c h =
     let s = g.D.Disk.state c.args.disk.now in
     let s1 = g.D.Disk.state c.read_volume.new.disk in
     let said = c.in_ok-map.ensures in
-    let h1 = c.raise.ensures.same.was_honest h in
+    let h1 = c.raise.ensures.disk.same.was_honest h in
     let rest = said.rest h1 in
     synced_on g.D.Disk.state c.args.disk.now c.read_volume.new.disk c.raise.new.disk
     (IsErrOf c.read_volume.result Device) (IsErrOf c.from_residual-in_err-raise-in-One.result Device)
     (StandsOrRaised s1.size rest.map.layout (files_of rest.map))
     (λ (is : c.read_volume.result ≡ Err Device). let was = c.in_ok-map.was in cc) (c.read_volume.ensures.synced h1)
     (c.raise.ensures.crash h rest.map
-    (map_first s s1 c.in_ok-map.map said.same.size (said.recovered h1) (said.settled h1) rest (said.layout h1)
+    (map_first s s1 c.in_ok-map.map said.disk.same.size (said.recovered h1) (said.settled h1) rest (said.layout h1)
     c.blocks-in-One.result.now c.blocks-in-One.ensures.value)
-    (map_rest s s1 c.in_ok-map.map said.same.size (said.recovered h1) (said.settled h1) rest (said.layout h1)))
-    (either_before s s1 (g.D.Disk.state c.raise.new.disk) rest.map said.same.size
-    (stood_here s s1 c.in_ok-map.map said.same.size (said.recovered h1) (said.settled h1) rest (said.layout h1)))
+    (map_rest s s1 c.in_ok-map.map said.disk.same.size (said.recovered h1) (said.settled h1) rest (said.layout h1)))
+    (either_before s s1 (g.D.Disk.state c.raise.new.disk) rest.map said.disk.same.size
+    (stood_here s s1 c.in_ok-map.map said.disk.same.size (said.recovered h1) (said.settled h1) rest (said.layout h1)))
 
 -- Where both copies were written.
 
@@ -119,44 +120,44 @@ returns-clause-crash g c h =
     let s = g.D.Disk.state c.args.disk.now in
     let s1 = g.D.Disk.state c.read_volume.new.disk in
     let said = c.in_ok-map.ensures in
-    let h1 = c.raise.ensures.same.was_honest h in
+    let h1 = c.raise.ensures.disk.same.was_honest h in
     let rest = said.rest h1 in
-    migrate_leaves s s1 (g.D.Disk.state c.raise.new.disk) rest.map said.same.size
-    (stood_here s s1 c.in_ok-map.map said.same.size (said.recovered h1) (said.settled h1) rest (said.layout h1))
+    migrate_leaves s s1 (g.D.Disk.state c.raise.new.disk) rest.map said.disk.same.size
+    (stood_here s s1 c.in_ok-map.map said.disk.same.size (said.recovered h1) (said.settled h1) rest (said.layout h1))
     (c.read_volume.ensures.crash h1)
     (c.raise.ensures.crash h rest.map
-    (map_first s s1 c.in_ok-map.map said.same.size (said.recovered h1) (said.settled h1) rest (said.layout h1)
+    (map_first s s1 c.in_ok-map.map said.disk.same.size (said.recovered h1) (said.settled h1) rest (said.layout h1)
     c.blocks-in-One.result.now c.blocks-in-One.ensures.value)
-    (map_rest s s1 c.in_ok-map.map said.same.size (said.recovered h1) (said.settled h1) rest (said.layout h1)))
+    (map_rest s s1 c.in_ok-map.map said.disk.same.size (said.recovered h1) (said.settled h1) rest (said.layout h1)))
 
 pub returns-clause-synced : goal.returns-clause-synced
 returns-clause-synced g c h =
     let s = g.D.Disk.state c.args.disk.now in
     let s1 = g.D.Disk.state c.read_volume.new.disk in
     let said = c.in_ok-map.ensures in
-    let h1 = c.raise.ensures.same.was_honest h in
+    let h1 = c.raise.ensures.disk.same.was_honest h in
     let rest = said.rest h1 in
     synced_on g.D.Disk.state c.args.disk.now c.read_volume.new.disk c.raise.new.disk
     (IsErrOf c.read_volume.result Device) (IsErrOf {T = Migrated} (Ok Done) Device)
     (StandsOrRaised s1.size rest.map.layout (files_of rest.map))
     (λ (is : c.read_volume.result ≡ Err Device). let was = c.in_ok-map.was in cc) (c.read_volume.ensures.synced h1)
     (c.raise.ensures.crash h rest.map
-    (map_first s s1 c.in_ok-map.map said.same.size (said.recovered h1) (said.settled h1) rest (said.layout h1)
+    (map_first s s1 c.in_ok-map.map said.disk.same.size (said.recovered h1) (said.settled h1) rest (said.layout h1)
     c.blocks-in-One.result.now c.blocks-in-One.ensures.value)
-    (map_rest s s1 c.in_ok-map.map said.same.size (said.recovered h1) (said.settled h1) rest (said.layout h1)))
-    (either_before s s1 (g.D.Disk.state c.raise.new.disk) rest.map said.same.size
-    (stood_here s s1 c.in_ok-map.map said.same.size (said.recovered h1) (said.settled h1) rest (said.layout h1)))
+    (map_rest s s1 c.in_ok-map.map said.disk.same.size (said.recovered h1) (said.settled h1) rest (said.layout h1)))
+    (either_before s s1 (g.D.Disk.state c.raise.new.disk) rest.map said.disk.same.size
+    (stood_here s s1 c.in_ok-map.map said.disk.same.size (said.recovered h1) (said.settled h1) rest (said.layout h1)))
 
 pub returns-clause-stood : goal.returns-clause-stood
 returns-clause-stood g c h =
     let s = g.D.Disk.state c.args.disk.now in
     let s1 = g.D.Disk.state c.read_volume.new.disk in
     let said = c.in_ok-map.ensures in
-    let h1 = c.raise.ensures.same.was_honest h in
+    let h1 = c.raise.ensures.disk.same.was_honest h in
     let stood = said.stood h1 in (
       (pack_of s1).layout,
       stood.0,
-      stood_then s s1 c.in_ok-map.map said.same.size (said.recovered h1) (said.settled h1) (said.rest h1)
+      stood_then s s1 c.in_ok-map.map said.disk.same.size (said.recovered h1) (said.settled h1) (said.rest h1)
           (said.layout h1) stood.0 stood.1,
     )
 
@@ -165,16 +166,16 @@ returns-clause-files g c h layout files stands =
     let s = g.D.Disk.state c.args.disk.now in
     let s1 = g.D.Disk.state c.read_volume.new.disk in
     let said = c.in_ok-map.ensures in
-    let h1 = c.raise.ensures.same.was_honest h in
+    let h1 = c.raise.ensures.disk.same.was_honest h in
     let rest = said.rest h1 in
     let one : layout_number c.in_ok-map.map.layout ≡ 1 = let is = c.in-One.is in cc in
-    let first = map_first s s1 c.in_ok-map.map said.same.size (said.recovered h1) (said.settled h1) rest
+    let first = map_first s s1 c.in_ok-map.map said.disk.same.size (said.recovered h1) (said.settled h1) rest
     (said.layout h1) c.blocks-in-One.result.now c.blocks-in-One.ensures.value in
-    let still = map_rest s s1 c.in_ok-map.map said.same.size (said.recovered h1) (said.settled h1) rest
+    let still = map_rest s s1 c.in_ok-map.map said.disk.same.size (said.recovered h1) (said.settled h1) rest
     (said.layout h1) in (
-      told s s1 c.in_ok-map.map said.same.size (said.recovered h1) (said.settled h1) rest (said.layout h1) 1
+      told s s1 c.in_ok-map.map said.disk.same.size (said.recovered h1) (said.settled h1) rest (said.layout h1) 1
           layout files one stands,
-      rests_raised s s1 c.in_ok-map.map said.same.size (said.recovered h1) (said.settled h1) rest (said.layout h1)
+      rests_raised s s1 c.in_ok-map.map said.disk.same.size (said.recovered h1) (said.settled h1) rest (said.layout h1)
           (g.D.Disk.state c.raise.new.disk) layout files stands
           (c.in_ok-raise-in-One.ensures.done h rest.map first still),
     )
@@ -184,14 +185,14 @@ returns-clause-done g c h is =
     let s = g.D.Disk.state c.args.disk.now in
     let s1 = g.D.Disk.state c.read_volume.new.disk in
     let said = c.in_ok-map.ensures in
-    let h1 = c.raise.ensures.same.was_honest h in
+    let h1 = c.raise.ensures.disk.same.was_honest h in
     let rest = said.rest h1 in
     let one : layout_number c.in_ok-map.map.layout ≡ 1 = let which = c.in-One.is in cc in
-    let first = map_first s s1 c.in_ok-map.map said.same.size (said.recovered h1) (said.settled h1) rest
+    let first = map_first s s1 c.in_ok-map.map said.disk.same.size (said.recovered h1) (said.settled h1) rest
     (said.layout h1) c.blocks-in-One.result.now c.blocks-in-One.ensures.value in
-    let still = map_rest s s1 c.in_ok-map.map said.same.size (said.recovered h1) (said.settled h1) rest
+    let still = map_rest s s1 c.in_ok-map.map said.disk.same.size (said.recovered h1) (said.settled h1) rest
     (said.layout h1) in
-    is_migrated s s1 c.in_ok-map.map said.same.size (said.recovered h1) (said.settled h1) rest (said.layout h1)
-    (g.D.Disk.state c.raise.new.disk) _ c.raise.ensures.same.size one first
+    is_migrated s s1 c.in_ok-map.map said.disk.same.size (said.recovered h1) (said.settled h1) rest (said.layout h1)
+    (g.D.Disk.state c.raise.new.disk) _ c.raise.ensures.disk.same.size one first
     (c.in_ok-raise-in-One.ensures.done h rest.map first still).shut (c.in_ok-raise-in-One.ensures.modified h)
     (c.in_ok-raise-in-One.ensures.copies h)

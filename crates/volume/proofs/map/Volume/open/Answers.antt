@@ -13,7 +13,7 @@ use Rattle.volume.proofs.map.Volume.open.Goals as goal
 pub invariant_of-result : goal.invariant_of-result
 invariant_of-result g c =
     let s = g.D.Disk.state c.read_volume.new.disk in
-    let size = sym c.read_volume.ensures.same.size in
+    let size = sym c.read_volume.ensures.disk.same.size in
     let k = known_of c.in-Ok.map in
     let kept = core_of c.in-Ok-keep.map in
     record {

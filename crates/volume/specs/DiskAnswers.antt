@@ -1,0 +1,25 @@
+-- What a call leaves of the disk that it asks, whatever it answers. `device` says that it answered that the device
+-- failed.
+use Rattle.std.specs.Prelude.{◌≡◌}
+use Rattle.blockdisk.specs.Disk.{DiskState, Keeps, SameDisk, one_more}
+use Rattle.changeset.specs.Reads.{OnlyReads}
+
+-- It is the same disk, and a failure is counted exactly where the device failed.
+pub record DiskAnswer (s s' : DiskState) (device : Type 0) : Type 0 where
+  pub same : SameDisk s s'
+  pub failed : device → s'.failures ≡ one_more s.failures
+  pub served : (device → ⊥) → s'.failures ≡ s.failures
+
+-- It was read beside that, and nothing has changed.
+pub record KeepsDisk (s s' : DiskState) (device : Type 0) : Type 0 where
+  pub keeps : s'.honest → Keeps s s'
+  pub same : SameDisk s s'
+  pub failed : device → s'.failures ≡ one_more s.failures
+  pub served : (device → ⊥) → s'.failures ≡ s.failures
+
+-- Nothing was written to it beside that, and the same blocks are open.
+pub record ReadsDisk (s s' : DiskState) (device : Type 0) : Type 0 where
+  pub reads : s'.honest → OnlyReads s s'
+  pub same : SameDisk s s'
+  pub failed : device → s'.failures ≡ one_more s.failures
+  pub served : (device → ⊥) → s'.failures ≡ s.failures
