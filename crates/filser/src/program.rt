@@ -284,14 +284,8 @@ fn perform<H: Host, R: Read, W: Write, E: Write>(
         Request::Fresh => on_memory(serve_fresh(alloc, streams), leaves),
         Request::Init(path, blocks, form, layout) => {
             let volume = NewVolume::new(blocks, form, layout);
-            let made = init_image(
-                host,
-                path,
-                &volume,
-                leaves.new,
-                &mut streams.writer,
-                &mut streams.errors,
-            );
+            let Streams { writer, errors, .. } = streams;
+            let made = init_image(host, path, &volume, leaves.new, writer, errors);
             on_new(made, leaves.image)
         }
         Request::Work(path, form, task) => {
@@ -301,64 +295,30 @@ fn perform<H: Host, R: Read, W: Write, E: Write>(
         }
         Request::Convert(path, new, form) => {
             let conversion = Conversion::new(path, form, new, telling);
-            convert_image(
-                host,
-                alloc,
-                &conversion,
-                leaves,
-                &mut streams.writer,
-                &mut streams.errors,
-            )
+            let Streams { writer, errors, .. } = streams;
+            convert_image(host, alloc, &conversion, leaves, writer, errors)
         }
         Request::Migrate(path, form) => {
-            let migrated = migrate_image(
-                host,
-                alloc,
-                path,
-                form,
-                leaves.image,
-                &mut streams.writer,
-                &mut streams.errors,
-            );
+            let Streams { writer, errors, .. } = streams;
+            let migrated = migrate_image(host, alloc, path, form, leaves.image, writer, errors);
             on_image(migrated, leaves.new)
         }
         Request::Import(path, form, ref task) => {
             let image = NamedImage { path, form };
-            let imported = import_image(
-                host,
-                alloc,
-                &image,
-                leaves.image,
-                task,
-                &mut streams.writer,
-                &mut streams.errors,
-            );
+            let Streams { writer, errors, .. } = streams;
+            let imported = import_image(host, alloc, &image, leaves.image, task, writer, errors);
             on_image(imported, leaves.new)
         }
         Request::Export(path, form, ref task) => {
             let image = NamedImage { path, form };
-            let exported = export_image(
-                host,
-                alloc,
-                &image,
-                leaves.image,
-                task,
-                &mut streams.writer,
-                &mut streams.errors,
-            );
+            let Streams { writer, errors, .. } = streams;
+            let exported = export_image(host, alloc, &image, leaves.image, task, writer, errors);
             on_image(exported, leaves.new)
         }
         Request::Salvage(path, form, ref task) => {
             let image = NamedImage { path, form };
-            let saved = salvage_image(
-                host,
-                alloc,
-                &image,
-                leaves.image,
-                task,
-                &mut streams.writer,
-                &mut streams.errors,
-            );
+            let Streams { writer, errors, .. } = streams;
+            let saved = salvage_image(host, alloc, &image, leaves.image, task, writer, errors);
             on_image(saved, leaves.new)
         }
     }
