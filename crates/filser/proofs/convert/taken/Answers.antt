@@ -14,4 +14,5 @@ returns-in-Ok-clause-taken g c = rw c.into_disk.ensures (λ h.
 pub returns-in-Err-clause-refused : goal.returns-in-Err-clause-refused
 returns-in-Err-clause-refused g c =
     let p = c.in-Err.ensures in
-    refused_by _ _ _ p.same_refused p.named p.failed p.served_refused p.refused p.kept p.crash_refused
+    refused_by _ _ _ p.disk_refused.same p.named p.disk_refused.failed p.disk_refused.served p.refused p.kept
+    p.crash_refused
