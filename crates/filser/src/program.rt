@@ -86,7 +86,13 @@ pub fn work<H: Host, R: Read, W: Write, E: Write>(
 {
     let outcome = answer(host, alloc, words, missing, telling, leaves, streams);
     let flushed = streams.writer.flush();
-    tell_streams(host, words, streams);
+    tell_streams(
+        host,
+        words,
+        &streams.reader,
+        &streams.writer,
+        &mut streams.errors,
+    );
     Run {
         code: exit_code(outcome.status, flushed),
         image: outcome.image,
@@ -100,17 +106,19 @@ pub fn work<H: Host, R: Read, W: Write, E: Write>(
 fn tell_streams<H: Host, R: Read, W: Write, E: Write>(
     host: &H,
     words: &[&str],
-    streams: &mut Streams<LineReader<R>, OutputWriter<W>, E>,
+    reader: &LineReader<R>,
+    writer: &OutputWriter<W>,
+    errors: &mut E,
 ) {
-    let (broken, failed) = (streams.reader.fault(), streams.writer.fault());
+    let (broken, failed) = (reader.fault(), writer.fault());
     if broken.is_none() && failed.is_none() || !FreeStreams::of_words(host, words).errors {
         return;
     }
     if let Some((line, fault)) = broken {
-        tell_input(&mut streams.errors, words, line, &fault);
+        tell_input(errors, words, line, &fault);
     }
     if let Some(fault) = failed {
-        report(&mut streams.errors, "standard output", &fault);
+        report(errors, "standard output", &fault);
     }
 }
 
