@@ -1,11 +1,11 @@
 #!/usr/bin/env python3
-"""Plays the worked rows of crates/rows/stdin over images of both forms.
+"""Plays the worked rows of crates/scenarios/stdin over images of both forms.
 
 usage: tests/both_forms.py PROGRAM
 
 Each row begins with the image that its lines describe, once in form 1 and once in form 2. Its session lines go through
 `filser run`, and its calls through `filser calls`. Both forms must print the same, and end with the same status and the
-same words in each block; a row that has only sessions must print what the row wants. The top of crates/rows/stdin says
+same words in each block; a row that has only sessions must print what the row wants. The top of crates/scenarios/stdin says
 what its lines mean. Then images of several sizes and of both layouts are converted there and back, one of them by
 processes that are interrupted. Prints a line for each thing that is not as it should be, and one line at the end.
 """
@@ -266,7 +266,7 @@ def main():
         print("usage: python3 tests/both_forms.py PROGRAM", file=sys.stderr)
         return 2
     here = os.path.dirname(os.path.abspath(__file__))
-    rows = [Row(*row) for row in rows_of(os.path.join(here, "..", "crates", "rows", "stdin"))]
+    rows = [Row(*row) for row in rows_of(os.path.join(here, "..", "crates", "scenarios", "stdin"))]
     rows = [row for row in rows if row.blocks and not row.is_damaged]
     with tempfile.TemporaryDirectory() as folder:
         tries = Tries(os.path.abspath(sys.argv[1]), folder)

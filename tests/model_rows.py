@@ -1,9 +1,9 @@
 #!/usr/bin/env python3
-"""Plays the worked rows of crates/rows/stdin on the model, so that model and rows check each other.
+"""Plays the worked rows of crates/scenarios/stdin on the model, so that model and rows check each other.
 
 usage: tests/model_rows.py [WORD]
 
-The model is model/machine.py; no program takes part. The top of crates/rows/stdin says what the lines of a row mean.
+The model is model/machine.py; no program takes part. The top of crates/scenarios/stdin says what the lines of a row mean.
 A row is played with each of its alternatives. Of a row that is stopped, 0, 1, .. of its events are played before the
 start that follows. The model has no blocks, so a row whose disk is spoiled or fails is skipped, and so is one with
 lines of a session other than LOGIN, MAKDIR and QUOTA. With WORD, only rows with this word in their titles are played.
@@ -262,7 +262,7 @@ def main():
     word = sys.argv[1] if len(sys.argv) == 2 else ""
     here = os.path.dirname(os.path.abspath(__file__))
     good = failed = skipped = 0
-    for kind, title, lines in rows_of(os.path.join(here, "..", "crates", "rows", "stdin")):
+    for kind, title, lines in rows_of(os.path.join(here, "..", "crates", "scenarios", "stdin")):
         if word not in title:
             continue
         try:

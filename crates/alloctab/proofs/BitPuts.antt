@@ -1,14 +1,12 @@
 -- A bit of a word, and words of a table block, that are put.
-use Rattle.std.proofs.Common.{◌≡◌, ⊎_elim, ℕ, ◌+◌, ◌*◌, ◌-◌, ◌/◌, ◌%◌, ◌^◌, ◌<◌, ◌≤◌, Bool, List}
-use Rattle.std.proofs.Common.{length, get_or, set, bit_or, sym, ◌∙◌, ap, rules, arith}
+use Rattle.std.proofs.Common.{◌≡◌, ⊎_elim, ℕ, ◌+◌, ◌*◌, ◌-◌, ◌/◌, ◌%◌, ◌^◌, ◌<◌, ◌≤◌, Bool, List, length, get_or, set}
+use Rattle.std.proofs.Common.{bit_or, sym, ◌∙◌, ap, rules, arith}
 use Rattle.std.specs.Int.{bit_at}
 use Rattle.std.proofs.lemmas.Bool.{cases_eq, cases_lt}
 use Rattle.std.proofs.lemmas.List.{get_or-set_same, get_or-set_other, length-set, get_or_read, places}
 use Rattle.std.proofs.lemmas.Nat.{or_lt, one_shl, pow_below}
 use borrow.Rule.Slice.PartMut.{put_mid}
-use Rattle.alloctab.specs.Lists.{digit}
-use Rattle.alloctab.specs.Words.{PutsBit}
-use Rattle.alloctab.specs.Reading.{CopiesWords}
+use Rattle.alloctab.specs.Common.{digit, PutsBit, CopiesWords}
 
 -- the word in which a bit is set has 36 bits
 pub with_mask_fits : (word place : ℕ) → word < 2 ^ 36 → place < 36 → bit_or word (1 * 2 ^ (35 - place) % 2 ^ 64)

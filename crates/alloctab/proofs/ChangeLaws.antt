@@ -4,21 +4,17 @@ use Rattle.std.proofs.Common.{Option, Some, IsSome, refl, sym, ◌∙◌, ap, su
 use Rattle.std.specs.List.{AllByRecursion}
 use Rattle.std.proofs.lemmas.Bool.{cases_Bool}
 use Rattle.std.proofs.lemmas.List.{get_or_past}
-use Rattle.blockdisk.specs.Disk.{Contents}
-use Rattle.meaning.specs.declared.put.Put.{Put}
-use Rattle.meaning.specs.Counts.{sum_below}
-use Rattle.meaning.specs.Log.{targets, with_puts, IsTarget}
-use Rattle.meaning.specs.Regions.{table_blocks, table_start}
-use Rattle.meaning.specs.Table.{bit_in}
-use Rattle.changeset.specs.Puts.{IsPutIn}
-use Rattle.alloctab.specs.Lists.{digit, digit_at, flag_at}
-use Rattle.alloctab.specs.TableState.{TableState, IsTable, bit, IsChanged, changed_blocks}
-use Rattle.alloctab.specs.TableBlocks.{table_words}
-use Rattle.alloctab.specs.Changes.{with_changed, IsChangedBlock, SpellsTable}
+use Rattle.blockdisk.specs.Common.{Contents}
+use Rattle.spec_image.specs.declared.put.Put.{Put}
+use Rattle.spec_image.specs.Common.{sum_below, targets, with_puts, IsTarget, table_blocks, table_start, bit_in}
+use Rattle.changeset.specs.Common.{IsPutIn}
+use Rattle.alloctab.specs.Common.{digit, digit_at, flag_at, TableState, IsTable, bit, IsChanged, changed_blocks}
+use Rattle.alloctab.specs.Common.{table_words, with_changed, IsChangedBlock, SpellsTable}
 use Rattle.alloctab.proofs.WordLaws.{digit_few, table_words_spell}
-use Rattle.alloctab.proofs.TableReading.{table_bit_in, table_bit_past, table_bit_at, in_or_past, past_the_end}
+use Rattle.alloctab.proofs.TableReading.{table_bit_in, table_bit_past, table_bit_at, past_the_end}
 use Rattle.alloctab.proofs.ChangedPuts.{length-after, sum_below-le, put_after, others_after, all_after, in_after}
 use Rattle.alloctab.proofs.ChangedPuts.{after_in}
+use Rattle.spec_image.proofs.Common.{below_or_not}
 
 -- the puts with those of a table's changed blocks
 abbrev pub table_changes : TableState → List Put → List Put
@@ -34,7 +30,7 @@ table_changes_are t puts new start bits changed start_is bits_are changed_are is
 
 pub flag_inside : (flags : List Bool) (i : ℕ) → flag_at flags i ≡ true → i < length flags
 flag_inside flags i is = ⊎_elim (λ inside. inside) (λ past. absurd (let e = get_or_past flags i false past in cc))
-    (in_or_past i (length flags))
+    (below_or_not i (length flags))
 
 -- as long as a changed block is to be put there is room
 pub room_left : (start : ℕ) (bits : ℕ → ℕ) (flags : List Bool) (i most : ℕ) (puts : List Put) → i < length flags
@@ -101,7 +97,7 @@ module _ (t : TableState) (puts : List Put) where
         (cases_Bool (flag_at t.changed (n / 4608))))
         (λ past. table_bit_past t.size (with_puts (table_changes t puts) c) n past
         ∙ sym (past_the_end t.bits t.size n sound.bits_are past))
-        (in_or_past (n / 4608) (table_blocks t.size));
+        (below_or_not (n / 4608) (table_blocks t.size));
     undamaged = λ i below or. ⊎_elim
         (λ is. some_is (with_puts (table_changes t puts) c (table_start t.size + i)) (table_words (bit t) i)
         (put_changes c i is))

@@ -1,21 +1,17 @@
 -- What the puts of the changed table blocks do.
-use Rattle.std.proofs.Common.{◌≡◌, ◌⊎◌, inl, inr, ⊎_elim, ℕ, zero, suc, ◌+◌, ◌-◌, ◌<◌, ◌≤◌, Bool, true, false, List, []}
-use Rattle.std.proofs.Common.{◌∷◌, ◌++◌, length, Some, refl, sym, ◌∙◌, ap, subst, arith}
+use Rattle.std.proofs.Common.{◌≡◌, ◌⊎◌, inl, inr, ⊎_elim, ℕ, zero, suc, ◌+◌, ◌-◌, ◌<◌, ◌≤◌, Bool, true, false, List}
+use Rattle.std.proofs.Common.{[], ◌∷◌, ◌++◌, length, Some, refl, sym, ◌∙◌, ap, subst, arith}
 use Rattle.std.specs.List.{AllByRecursion}
 use Rattle.std.proofs.lemmas.Bool.{cases_eq, cases_Bool}
 use Rattle.std.proofs.lemmas.List.{map-append}
-use Rattle.blockdisk.specs.Disk.{Contents}
-use Rattle.meaning.specs.declared.put.Put.{Put}
-use Rattle.meaning.specs.Counts.{sum_below}
-use Rattle.meaning.specs.Log.{targets, with_puts}
-use Rattle.meaning.specs.Maps.{times}
-use Rattle.meaning.proofs.MapSums.{times-append}
-use Rattle.changeset.specs.Puts.{replaced}
-use Rattle.changeset.specs.PutLaws.{times_head, times_tail, with_puts_here, with_puts_later, with_puts-replaced}
-use Rattle.changeset.specs.PutLaws.{replaced-new, targets-replaced, all_replaced, length-replaced, some_or_none}
-use Rattle.alloctab.specs.Lists.{digit}
-use Rattle.alloctab.specs.TableBlocks.{table_words}
-use Rattle.alloctab.specs.Changes.{table_put, with_changed}
+use Rattle.blockdisk.specs.Common.{Contents}
+use Rattle.spec_image.specs.declared.put.Put.{Put}
+use Rattle.spec_image.specs.Common.{sum_below, targets, with_puts, times}
+use Rattle.spec_image.proofs.Common.{times-append}
+use Rattle.changeset.specs.Common.{replaced, times_head, times_tail, with_puts_here, with_puts_later}
+use Rattle.changeset.specs.Common.{with_puts-replaced, replaced-new, targets-replaced, all_replaced, length-replaced}
+use Rattle.changeset.specs.Common.{some_or_none}
+use Rattle.alloctab.specs.Common.{digit, table_words, table_put, with_changed}
 
 -- Lengths and counts.
 

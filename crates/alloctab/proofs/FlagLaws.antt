@@ -1,13 +1,11 @@
 -- The bits of words as truth values.
-use Rattle.std.proofs.Common.{◌≡◌, ⊎_elim, ℕ, zero, suc, ◌-◌, ◌/◌, ◌<◌, Bool, true, false, List}
-use Rattle.std.proofs.Common.{[], ◌∷◌, ◌++◌, length, get_or, set, eqb, refl, sym, ◌∙◌, ap, arith, eq-eqb, ne_eqb}
-use Rattle.std.proofs.Common.{◌%◌}
+use Rattle.std.proofs.Common.{◌≡◌, ⊎_elim, ℕ, zero, suc, ◌-◌, ◌/◌, ◌<◌, Bool, true, false, List, [], ◌∷◌, ◌++◌}
+use Rattle.std.proofs.Common.{length, get_or, set, eqb, refl, sym, ◌∙◌, ap, arith, eq-eqb, ne_eqb, ◌%◌}
 use Rattle.std.proofs.lemmas.Bool.{cases_eq, cases_lt}
 use Rattle.std.proofs.lemmas.List.{length_push, get_or_append_left, get_or_push, get_or_past, ext_get_or, length-set}
 use Rattle.std.proofs.lemmas.List.{get_or-set_same, get_or-set_other}
 use Rattle.std.proofs.lemmas.Nat.Bits.{bit_at-lt}
-use Rattle.alloctab.specs.Lists.{digit, flag_at, digit_at}
-use Rattle.alloctab.specs.Words.{word_bit, flags, IsClearFrom, PutsBit}
+use Rattle.alloctab.specs.Common.{digit, flag_at, digit_at, word_bit, flags, IsClearFrom, PutsBit}
 
 -- Truth values of bits.
 

@@ -1,25 +1,18 @@
 -- The words that a table is kept in, and the table that they stand for.
 use Rattle.std.proofs.Common.{◌≡◌, ⊎_elim, ℕ, zero, suc, ◌+◌, ◌*◌, ◌-◌, ◌/◌, ◌<◌, ◌≤◌, Bool, true, false, List}
-use Rattle.std.proofs.Common.{length, get_or, set, cond, eqb, refl, sym, ◌∙◌, ap, arith, eq-eqb, ne_eqb}
-use Rattle.std.proofs.Common.{◌%◌, take, drop, replicate, Some, None, ltb, le-ltb}
+use Rattle.std.proofs.Common.{length, get_or, set, cond, eqb, refl, sym, ◌∙◌, ap, arith, eq-eqb, ne_eqb, ◌%◌, take}
+use Rattle.std.proofs.Common.{drop, replicate, Some, None, ltb, le-ltb}
 use Rattle.std.specs.Int.{bit_at}
 use Rattle.std.proofs.lemmas.Bool.{cases_eq, cases_lt, cond-false}
 use Rattle.std.proofs.lemmas.Bool.Decides.{nat_tests}
-use Rattle.std.proofs.lemmas.List.{get_or_past, length-set}
-use Rattle.std.proofs.lemmas.List.{take_rest, get_or-set_same, get_or-set_other, get_or-drop, length-drop}
-use Rattle.std.proofs.lemmas.List.{length-replicate, get_or-replicate}
+use Rattle.std.proofs.lemmas.List.{get_or_past, length-set, take_rest, get_or-set_same, get_or-set_other, get_or-drop}
+use Rattle.std.proofs.lemmas.List.{length-drop, length-replicate, get_or-replicate}
 use Rattle.std.proofs.lemmas.Nat.Bits.{bit_at-zero}
-use Rattle.blockdisk.specs.Disk.{Contents}
-use Rattle.meaning.specs.Regions.{IsVolumeSize, table_blocks, space_start}
-use Rattle.meaning.specs.Table.{fixed}
-use Rattle.alloctab.specs.Lists.{digit, digit_at}
-use Rattle.alloctab.specs.Words.{word_bit, flags, IsClearFrom, PutsBit}
-use Rattle.alloctab.specs.TableState.{TableState, IsTable, IsFree, bit, holds, with_bit, with_held}
-use Rattle.alloctab.specs.TableLaws.{holds-with_held_same, holds-with_held_other}
-use Rattle.alloctab.specs.Kept.{table_of, IsKept}
-use Rattle.alloctab.specs.Clear.{clear_bit}
-use Rattle.alloctab.specs.Reached.{wanted_bit}
-use Rattle.alloctab.specs.Reading.{IsTableOf}
+use Rattle.blockdisk.specs.Common.{Contents}
+use Rattle.spec_image.specs.Common.{IsVolumeSize, table_blocks, space_start, fixed}
+use Rattle.alloctab.specs.Common.{digit, digit_at, word_bit, flags, IsClearFrom, PutsBit, TableState, IsTable, IsFree}
+use Rattle.alloctab.specs.Common.{bit, holds, with_bit, with_held, holds-with_held_same, holds-with_held_other}
+use Rattle.alloctab.specs.Common.{table_of, IsKept, clear_bit, wanted_bit, IsTableOf}
 use Rattle.alloctab.proofs.LaneLaws.{zero_from_one}
 use Rattle.alloctab.proofs.LowestLaws.{IsLowest}
 use Rattle.alloctab.proofs.FlagLaws.{length-flags, bit_is, flags_put}

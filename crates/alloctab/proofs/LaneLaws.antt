@@ -1,7 +1,7 @@
 -- The bits that are clear in two words, and in eight at a time.
-use Rattle.std.proofs.Common.{◌≡◌, ⊎_elim, ℕ, zero, suc, ◌+◌, ◌*◌, ◌-◌, ◌/◌, ◌%◌, ◌^◌, ◌<◌, ◌≤◌, max, Bool, true, false}
-use Rattle.std.proofs.Common.{List, [], ◌∷◌, length, get_or, map, replicate, cond, eqb, not, refl, sym, ◌∙◌, ap, subst}
-use Rattle.std.proofs.Common.{add-suc, add-zero, zero-add, pow_mono, ne_eqb, arith}
+use Rattle.std.proofs.Common.{◌≡◌, ⊎_elim, ℕ, zero, suc, ◌+◌, ◌*◌, ◌-◌, ◌/◌, ◌%◌, ◌^◌, ◌<◌, ◌≤◌, max, Bool, true}
+use Rattle.std.proofs.Common.{false, List, [], ◌∷◌, length, get_or, map, replicate, cond, eqb, not, refl, sym, ◌∙◌}
+use Rattle.std.proofs.Common.{ap, subst, add-suc, add-zero, zero-add, pow_mono, ne_eqb, arith}
 use Rattle.std.specs.Int.{bit_at}
 use Rattle.std.specs.Int.Bits.{bit_or, bit_xor}
 use Rattle.std.specs.Int.Count.{ones, count_leading_zeros, count_trailing_zeros}
@@ -9,8 +9,7 @@ use Rattle.std.proofs.lemmas.Bool.{cases_lt}
 use Rattle.std.proofs.lemmas.Bool.Decides.{nat_tests}
 use Rattle.std.proofs.lemmas.Nat.{or_lt, xor_lt, leading_top, ones-le}
 use Rattle.std.proofs.lemmas.Nat.Bits.{bit_at_or, bit_at_xor, bit_at_ones, bit_at-lt, bit_at-zero, bit_at_above}
-use Rattle.std.proofs.lemmas.Nat.Bits.{bit_at-suc}
-use Rattle.std.proofs.lemmas.Nat.Bits.{bit_at_lowest}
+use Rattle.std.proofs.lemmas.Nat.Bits.{bit_at-suc, bit_at_lowest}
 use Rattle.std.specs.List.{prefix_len}
 use Rattle.std.proofs.lemmas.List.{take_all, get_or_read}
 use Rattle.std.proofs.lemmas.Simd.{first_set_mask_l, run_in_chunk_le, run_in_chunk_fails, run_in_chunk_stops}
@@ -18,9 +17,8 @@ use Rattle.std.proofs.lemmas.Simd.{get_or-zip2, get_or-replicate, length-zip2}
 use Rattle.std.proofs.Math.Nat.{two-pow-succ}
 use lib.Count.{ones_step}
 use lib.Lanes.{zip2, fold_l, sum_l, chunk, mask_l}
-use Rattle.meaning.specs.Counts.{sum_below}
-use Rattle.alloctab.specs.Words.{word_bit}
-use Rattle.alloctab.specs.Clear.{clear_bit, clear_word, clear_at, IsFirstPlace}
+use Rattle.spec_image.specs.Common.{sum_below}
+use Rattle.alloctab.specs.Common.{word_bit, clear_bit, clear_word, clear_at, IsFirstPlace}
 
 -- The bits of a word of clear bits.
 

@@ -1,12 +1,10 @@
 -- The lowest number that has a 1.
-use Rattle.std.proofs.Common.{◌≡◌, ⊎_elim, ℕ, zero, suc, ◌+◌, ◌*◌, ◌-◌, ◌/◌, ◌%◌, ◌<◌, Bool}
-use Rattle.std.proofs.Common.{List, length, get_or, Option, Some, None, cond, eqb, refl, sym, ◌∙◌, ap, subst, arith}
-use Rattle.std.proofs.Common.{eq-eqb, ne_eqb}
+use Rattle.std.proofs.Common.{◌≡◌, ⊎_elim, ℕ, zero, suc, ◌+◌, ◌*◌, ◌-◌, ◌/◌, ◌%◌, ◌<◌, Bool, List, length, get_or}
+use Rattle.std.proofs.Common.{Option, Some, None, cond, eqb, refl, sym, ◌∙◌, ap, subst, arith, eq-eqb, ne_eqb}
 use Rattle.std.specs.Int.{bit_at}
 use Rattle.std.proofs.lemmas.Bool.{cases_eq, cases_lt}
 use Rattle.std.proofs.lemmas.List.{get_or_read}
-use Rattle.alloctab.specs.Words.{word_bit}
-use Rattle.alloctab.specs.Clear.{clear_bit, clear_at, lowest_one, or_else, first_clear, IsFirstPlace}
+use Rattle.alloctab.specs.Common.{word_bit, clear_bit, clear_at, lowest_one, or_else, first_clear, IsFirstPlace}
 use Rattle.alloctab.proofs.LaneLaws.{zero_from_one, none_in_word}
 
 abbrev one_at : (ℕ → ℕ) → ℕ → Option ℕ

@@ -1,10 +1,8 @@
 -- The free space: where no block is free, all of it is used.
 use Rattle.std.proofs.Common.{◌≡◌, ℕ, zero, suc, ◌+◌, ◌<◌, refl, arith}
 use Rattle.std.proofs.lemmas.Bool.Decides.{nat_tests}
-use Rattle.meaning.specs.Regions.{space_start}
-use Rattle.meaning.specs.Counts.{sum_below}
-use Rattle.meaning.specs.Faults.{InSpace}
-use Rattle.alloctab.specs.TableState.{TableState, IsTable, IsFree, bit, holds, used, used_in_space, space}
+use Rattle.spec_image.specs.Common.{space_start, sum_below, InSpace}
+use Rattle.alloctab.specs.Common.{TableState, IsTable, IsFree, bit, holds, used, used_in_space, space}
 
 -- a block of the free space isn't block 0
 pub in_space_some : (size n : ℕ) → InSpace size n → 0 < n

@@ -4,12 +4,11 @@ use Rattle.std.proofs.Common.{IsSome, sym, ◌∙◌, ap, subst, arith}
 use Rattle.std.proofs.lemmas.Bool.{cases_eq}
 use Rattle.std.proofs.lemmas.Bool.Decides.{nat_tests}
 use Rattle.std.proofs.lemmas.List.{get_or_past}
-use Rattle.blockdisk.specs.Disk.{Contents}
-use Rattle.meaning.specs.Regions.{table_blocks, table_start}
-use Rattle.meaning.specs.Table.{table_bit, bit_in, bit_of}
-use Rattle.alloctab.specs.Lists.{digit, digit_at}
-use Rattle.alloctab.specs.Words.{word_bit, IsClearFrom}
-use Rattle.alloctab.specs.Reading.{IsTableOf, IsBadTableBlock, CopiesWords, ReadsBits}
+use Rattle.blockdisk.specs.Common.{Contents}
+use Rattle.spec_image.specs.Common.{table_blocks, table_start, table_bit, bit_in, bit_of}
+use Rattle.alloctab.specs.Common.{digit, digit_at, word_bit, IsClearFrom, IsTableOf, IsBadTableBlock, CopiesWords}
+use Rattle.alloctab.specs.Common.{ReadsBits}
+use Rattle.spec_image.proofs.Common.{below_or_not}
 
 pub table_bit_in : (size : ℕ) (c : Contents) (n : ℕ) → n / 4608 < table_blocks size
     → table_bit size c n ≡ bit_in (c (table_start size + n / 4608)) n
@@ -24,9 +23,6 @@ pub table_bit_at : (size : ℕ) (c : Contents) (words : List ℕ) (i n : ℕ) �
 table_bit_at size c words i n below is here =
     table_bit_in size c n (omega arith) ∙ ap (λ (k : ℕ). bit_in (c (table_start size + k)) n) here
     ∙ ap (λ (block : Option (List ℕ)). bit_in block n) is
-
-pub in_or_past : (n k : ℕ) → (n < k) ⊎ (k ≤ n)
-in_or_past n k = grind arith
 
 pub past_the_end : (flags : List Bool) (size n : ℕ) → length flags ≡ size → table_blocks size ≤ n / 4608
     → digit_at flags n ≡ 0
@@ -56,7 +52,7 @@ pub read_all : (size : ℕ) (c : Contents) (i : ℕ) (words : List ℕ) → IsCl
     → i ≤ table_blocks size → IsTableBelow i size c (word_bit words) → IsTableOf size c (word_bit words)
 read_all size c i words none enough few so_far = record {
   bits_are = λ n. ⊎_elim (λ below. so_far.bits_are n (omega arith)) (λ past. none n (omega arith)
-      ∙ sym (table_bit_past size c n past)) (in_or_past (n / 4608) (table_blocks size));
+      ∙ sym (table_bit_past size c n past)) (below_or_not (n / 4608) (table_blocks size));
   undamaged = λ j below. so_far.undamaged j (omega arith);
 }
 

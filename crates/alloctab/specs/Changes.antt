@@ -1,10 +1,9 @@
 -- The puts of the table blocks that changed.
 use Rattle.std.specs.Prelude.{◌≡◌, ◌⊎◌, ℕ, zero, suc, ◌+◌, ◌/◌, ◌<◌, Bool, if◌then◌else◌, List, IsSome}
-use Rattle.blockdisk.specs.Disk.{Contents}
-use Rattle.meaning.specs.declared.put.Put.{Put}
-use Rattle.meaning.specs.Regions.{table_blocks, table_start}
-use Rattle.meaning.specs.Table.{table_bit}
-use Rattle.changeset.specs.Puts.{replaced}
+use Rattle.blockdisk.specs.Common.{Contents}
+use Rattle.spec_image.specs.declared.put.Put.{Put}
+use Rattle.spec_image.specs.Common.{table_blocks, table_start, table_bit}
+use Rattle.changeset.specs.Common.{replaced}
 use Rattle.alloctab.specs.TableBlocks.{table_words}
 use Rattle.alloctab.specs.TableState.{TableState, bit, IsChanged}
 

@@ -1,10 +1,9 @@
 -- The bits that are clear in two lists of words of one length.
 use Rattle.std.specs.Prelude.{◌≡◌, ◌<◌, ℕ, zero, suc, ◌+◌, ◌-◌, ◌*◌, ◌^◌, ◌==◌, if◌then◌else◌, List, length}
-use Rattle.std.specs.Prelude.{slice_index}
-use Rattle.std.specs.Prelude.{Option, None, Some}
+use Rattle.std.specs.Prelude.{slice_index, Option, None, Some}
 use Rattle.std.specs.Int.{bit_at}
 use Rattle.std.specs.Int.Bits.{bit_or, bit_xor}
-use Rattle.meaning.specs.Counts.{sum_below}
+use Rattle.spec_image.specs.Common.{sum_below}
 use Rattle.alloctab.specs.Words.{word_bit}
 
 -- 1 for a bit that is clear in both, else 0

@@ -1,6 +1,6 @@
 -- How a table is kept: words with the bits that are set, and words with a bit for each block that is held.
 use Rattle.std.specs.Prelude.{◌≡◌, ◌<◌, ◌≤◌, ℕ, ◌+◌, ◌*◌, ◌==◌, if◌then◌else◌, Bool, List, length, slice_index}
-use Rattle.meaning.specs.Regions.{IsVolumeSize, table_blocks}
+use Rattle.spec_image.specs.Common.{IsVolumeSize, table_blocks}
 use Rattle.alloctab.specs.Words.{word_bit, flags, IsClearFrom}
 use Rattle.alloctab.specs.TableState.{TableState}
 

@@ -9,3 +9,4 @@ pub mod Changes
 pub mod Reached
 pub mod TableLaws
 pub mod Inside
+pub mod Common

@@ -1,8 +1,7 @@
 -- What the blocks that a check of a disk has reached ask of its table. They are a list with a truth value
 -- for each block of the disk.
 use Rattle.std.specs.Prelude.{◌≡◌, ℕ, ◌+◌, ◌/◌, ◌<◌, Bool, List}
-use Rattle.meaning.specs.Regions.{table_start}
-use Rattle.meaning.specs.Table.{fixed}
+use Rattle.spec_image.specs.Common.{table_start, fixed}
 use Rattle.alloctab.specs.Lists.{digit_at}
 use Rattle.alloctab.specs.TableState.{TableState, bit}
 

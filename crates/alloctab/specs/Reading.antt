@@ -1,8 +1,7 @@
 -- What reading a table finds.
 use Rattle.std.specs.Prelude.{◌≡◌, ◌⊎◌, ℕ, ◌+◌, ◌/◌, ◌<◌, ◌≤◌, List, length, None, IsSome}
-use Rattle.blockdisk.specs.Disk.{Contents}
-use Rattle.meaning.specs.Regions.{table_blocks, table_start}
-use Rattle.meaning.specs.Table.{table_bit, bit_of}
+use Rattle.blockdisk.specs.Common.{Contents}
+use Rattle.spec_image.specs.Common.{table_blocks, table_start, table_bit, bit_of}
 use Rattle.alloctab.specs.Words.{word_bit}
 
 -- These are the bits on the disk, and none of their blocks is damaged.

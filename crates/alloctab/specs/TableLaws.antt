@@ -1,15 +1,13 @@
 -- What the changes of a table do to its words.
-use Rattle.std.specs.Prelude.{◌≡◌, ℕ, zero, suc, ◌+◌, ◌-◌, ◌/◌, ◌<◌, ◌≤◌, ◌==◌, if◌then◌else◌, Bool, true, false, List}
-use Rattle.std.specs.Prelude.{[], ◌∷◌, length, replicate}
+use Rattle.std.specs.Prelude.{◌≡◌, ℕ, zero, suc, ◌+◌, ◌-◌, ◌/◌, ◌<◌, ◌≤◌, ◌==◌, if◌then◌else◌, Bool, true, false}
+use Rattle.std.specs.Prelude.{List, [], ◌∷◌, length, replicate}
 use Rattle.std.proofs.Common.{refl, sym, ◌∙◌, ap, arith, ⊎_elim}
 use Rattle.std.proofs.lemmas.Bool.{cases_eq}
 use Rattle.std.proofs.lemmas.Bool.Decides.{nat_tests}
 use Rattle.std.proofs.lemmas.List.{get_or-set_same, get_or-set_other, length-replicate}
 use Rattle.std.proofs.Math.ListN.{length-set}
-use Rattle.meaning.specs.Maps.{times}
-use Rattle.meaning.specs.Regions.{table_blocks, space_start}
-use Rattle.meaning.specs.Counts.{sum_below}
-use Rattle.changeset.specs.PutLaws.{times_head, times_tail}
+use Rattle.spec_image.specs.Common.{times, table_blocks, space_start, sum_below}
+use Rattle.changeset.specs.Common.{times_head, times_tail}
 use Rattle.alloctab.specs.Lists.{digit, digit_at, flag_at}
 use Rattle.alloctab.specs.TableState.{TableState, IsTable, IsFree, bit, holds, IsChanged, space, used, used_in_space}
 use Rattle.alloctab.specs.TableState.{changed_blocks, with_bit, with_held}

@@ -1,8 +1,7 @@
 -- What an allocation table holds in core.
 use Rattle.std.specs.Prelude.{◌≡◌, ℕ, ◌+◌, ◌-◌, ◌/◌, ◌==◌, Bool, true, if◌then◌else◌, List, length, slice_index}
 use Rattle.std.specs.Prelude.{slice_set}
-use Rattle.meaning.specs.Regions.{IsVolumeSize, table_blocks, space_start}
-use Rattle.meaning.specs.Counts.{sum_below}
+use Rattle.spec_image.specs.Common.{IsVolumeSize, table_blocks, space_start, sum_below}
 use Rattle.alloctab.specs.Lists.{digit_at, flag_at}
 
 pub record TableState : Type 0 where

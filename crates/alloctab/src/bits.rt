@@ -1,10 +1,9 @@
 ghost use Rattle.std.specs.Prelude.{◌≡◌, ◌+◌, ◌*◌, ◌≤◌, ◌<◌, ◌/◌, ℕ, IsTrue, false, length};
-ghost use Rattle.meaning.specs.Table.{bit_of};
-ghost use Rattle.alloctab.specs.Lists.{digit};
-ghost use Rattle.alloctab.specs.Reading.{CopiesWords, IsSetPast};
+ghost use Rattle.spec_image.specs.Common.{bit_of};
+ghost use Rattle.alloctab.specs.Common.{digit, CopiesWords, IsSetPast};
 
 use crate::words::has_bit;
-use meaning::layout::TABLE_BLOCK_BITS;
+use spec_image::layout::TABLE_BLOCK_BITS;
 use words36::{BLOCK_WORDS, Block, Word};
 
 /// Whether the bit of a block is set in the words of its table block.

@@ -1,9 +1,6 @@
 ghost use Rattle.std.specs.Prelude.{◌≡◌, ◌<◌, ◌≤◌, ◌+◌, ◌*◌, length};
-ghost use Rattle.meaning.specs.Counts.{sum_below};
-ghost use Rattle.alloctab.specs.Lists.{digit_at, flag_at};
-ghost use Rattle.alloctab.specs.Words.{word_bit};
-ghost use Rattle.alloctab.specs.TableBlocks.{table_words};
-ghost use Rattle.alloctab.specs.Changes.{with_changed};
+ghost use Rattle.spec_image.specs.Common.{sum_below};
+ghost use Rattle.alloctab.specs.Common.{digit_at, flag_at, word_bit, table_words, with_changed};
 
 use changeset::{ChangeSet, MAX_PUTS};
 use words36::{BLOCK_WORDS, Block, Word};

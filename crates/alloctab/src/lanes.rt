@@ -1,9 +1,9 @@
 //! The search for a bit that is clear in two lists of words, eight words at a time.
 ghost use Rattle.std.specs.Prelude.{◌≡◌, ◌<◌, ◌≤◌, ◌+◌, ◌*◌, ◌^◌, ℕ, length, slice_index};
-ghost use Rattle.meaning.specs.Counts.{sum_below};
-ghost use Rattle.alloctab.specs.Clear.{first_clear, count_clear, clear_bit, clear_word, clear_at, IsFirstPlace};
+ghost use Rattle.spec_image.specs.Common.{sum_below};
+ghost use Rattle.alloctab.specs.Common.{first_clear, count_clear, clear_bit, clear_word, clear_at, IsFirstPlace};
 
-use meaning::layout::WORD_BITS;
+use spec_image::layout::WORD_BITS;
 use std::simd::prelude::*;
 use words36::Word;
 

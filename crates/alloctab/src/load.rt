@@ -1,16 +1,14 @@
 ghost use Rattle.std.specs.Prelude.{◌≡◌, ◌<◌, ◌*◌, ℕ, OnOk, IsErrOf, length};
-ghost use Rattle.blockdisk.specs.Disk.{SameDisk, one_more};
-ghost use Rattle.changeset.specs.Reads.{OnlyReads};
-ghost use Rattle.meaning.specs.Regions.{IsVolumeSize, table_blocks};
-ghost use Rattle.alloctab.specs.Inside.{InTable};
-ghost use Rattle.alloctab.specs.Words.{word_bit, IsClearFrom};
-ghost use Rattle.alloctab.specs.Reading.{IsTableOf, IsBadTableBlock, ReadsBits};
+ghost use Rattle.blockdisk.specs.Common.{SameDisk, one_more};
+ghost use Rattle.changeset.specs.Common.{OnlyReads};
+ghost use Rattle.spec_image.specs.Common.{IsVolumeSize, table_blocks};
+ghost use Rattle.alloctab.specs.Common.{InTable, word_bit, IsClearFrom, IsTableOf, IsBadTableBlock, ReadsBits};
 ghost use Rattle.alloctab.specs.declared.error.TableError.TheVariants.{TableWrong, NoMemory, Device};
 
 use crate::TableError;
 use crate::bits::{copy_words, has_bit_past};
 use blockdisk::{Disk, Fault};
-use meaning::layout::{table_blocks, table_start};
+use spec_image::layout::{table_blocks, table_start};
 use words36::Word;
 
 /// Reads table block `i`, and copies its words to their place among those of all table blocks.

@@ -1,5 +1,5 @@
 ghost use Rattle.std.specs.Prelude.{◌≡◌, ◌<◌, ◌↔◌, false, true, IfOk, IsTrue, length, replicate, slice_set};
-ghost use Rattle.alloctab.specs.Lists.{flag_at};
+ghost use Rattle.alloctab.specs.Common.{flag_at};
 
 use blockdisk::NoMemory;
 use std::alloc::Global;

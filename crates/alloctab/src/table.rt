@@ -1,20 +1,13 @@
 ghost use Rattle.std.specs.Prelude.{◌≡◌, ◌<◌, ◌≤◌, ◌+◌, ◌-◌, ◌^◌, ◌↔◌, ◌⊎◌, ◌∷◌, [], ℕ, true, false, replicate, Some};
 ghost use Rattle.std.specs.Prelude.{IfOk, IsErrOf, IsTrue, IsSome, IfSome, IfNone, length};
 ghost use Rattle.std.specs.List.{AllByRecursion};
-ghost use Rattle.blockdisk.specs.Disk.{Contents, SameDisk, one_more};
-ghost use Rattle.meaning.specs.Maps.{times};
-ghost use Rattle.meaning.specs.Log.{targets, with_puts, IsTarget};
-ghost use Rattle.meaning.specs.Regions.{IsVolumeSize, table_blocks, table_start};
-ghost use Rattle.changeset.specs.Puts.{IsPutIn};
-ghost use Rattle.changeset.specs.Reads.{OnlyReads};
-ghost use Rattle.alloctab.specs.TableState.{IsTable, IsFree, bit, holds, IsChanged, space, used_in_space};
-ghost use Rattle.alloctab.specs.TableState.{changed_blocks, with_bit, with_held};
-ghost use Rattle.alloctab.specs.Lists.{digit};
-ghost use Rattle.alloctab.specs.TableBlocks.{table_words};
-ghost use Rattle.alloctab.specs.Reading.{IsTableOf, IsBadTableBlock};
-ghost use Rattle.alloctab.specs.Changes.{IsChangedBlock, SpellsTable};
-ghost use Rattle.alloctab.specs.Inside.{InTable};
-ghost use Rattle.alloctab.specs.Reached.{IsWrongBlock, wanted_bit};
+ghost use Rattle.blockdisk.specs.Common.{Contents, SameDisk, one_more};
+ghost use Rattle.spec_image.specs.Common.{times, targets, with_puts, IsTarget, IsVolumeSize, table_blocks};
+ghost use Rattle.spec_image.specs.Common.{table_start};
+ghost use Rattle.changeset.specs.Common.{IsPutIn, OnlyReads};
+ghost use Rattle.alloctab.specs.Common.{IsTable, IsFree, bit, holds, IsChanged, space, used_in_space, changed_blocks};
+ghost use Rattle.alloctab.specs.Common.{with_bit, with_held, digit, table_words, IsTableOf, IsBadTableBlock};
+ghost use Rattle.alloctab.specs.Common.{IsChangedBlock, SpellsTable, InTable, IsWrongBlock, wanted_bit};
 ghost use Rattle.alloctab.specs.declared.error.TableError.TheVariants.{TableWrong, NoMemory, Device};
 
 use crate::blocks::put_changed;
@@ -25,7 +18,7 @@ use crate::words::{has_bit, put_bit};
 use crate::{Reached, TableError};
 use blockdisk::Disk;
 use changeset::{ChangeSet, MAX_PUTS};
-use meaning::layout::{TABLE_BLOCK_BITS, WORD_BITS, space_start, table_blocks, table_start};
+use spec_image::layout::{TABLE_BLOCK_BITS, WORD_BITS, space_start, table_blocks, table_start};
 use std::alloc::Global;
 use std::marker::Model;
 use words36::{BLOCK_WORDS, Word};
@@ -52,8 +45,8 @@ pub struct Table {
 }
 
 impl Model for Table {
-    ghost use Rattle.alloctab.specs.TableState.{TableState};
-    ghost use Rattle.alloctab.specs.Kept.{table_of, IsKept};
+    ghost use Rattle.alloctab.specs.Common.{TableState};
+    ghost use Rattle.alloctab.specs.Common.{table_of, IsKept};
 
     ghost Value = { TableState };
 

@@ -1,10 +1,9 @@
 //! Lists of words, with a bit for each block of a disk: bit 0 is the most significant of the first word.
 ghost use Rattle.std.specs.Prelude.{◌≡◌, ◌<◌, ◌-◌, ◌/◌, ℕ, length};
 ghost use Rattle.std.specs.Int.{bit_at};
-ghost use Rattle.alloctab.specs.Lists.{digit};
-ghost use Rattle.alloctab.specs.Words.{word_bit, PutsBit};
+ghost use Rattle.alloctab.specs.Common.{digit, word_bit, PutsBit};
 
-use meaning::layout::WORD_BITS;
+use spec_image::layout::WORD_BITS;
 use words36::Word;
 
 /// Whether bit `n` is set.

@@ -1,9 +1,9 @@
 -- The command line of the program, as `clap` reads it.
 use Rattle.std.specs.Prelude.{ℕ, [], ◌∷◌, Some, true, pos, codes}
 use Rattle.clap.specs.Words.{App, Rule, Text, new_app, new_rule, with_rule, with_subcommand}
-use Rattle.clap.specs.declared.builder.value_parser.ValueParser.TheVariants as vp
 use Rattle.clap.specs.declared.builder.action.ArgAction.TheVariants.{SetTrue}
 use Rattle.clap.specs.Lexer.{usize_max}
+use Rattle.clap.specs.declared.builder.value_parser.ValueParser.TheVariants as vp
 
 -- a text that has to be given
 abbrev pub wanted : Text → Rule

@@ -3,8 +3,8 @@ ghost use Rattle.std.specs.Prelude.{◌≡◌, IfOk, Some, codes, false};
 ghost use Rattle.clap.specs.Words.{app_of, new_rule, rule_of, with_rule};
 ghost use Rattle.clap.specs.declared.builder.command.Command.TheViews.{out-Command as fields_of};
 ghost use Rattle.arguments.specs.CommandLine.{adapted, date_rule, dated, encoded, filed, flag, form_rule, formed};
-ghost use Rattle.arguments.specs.CommandLine.{gathered, laid_out, layout_rule, located, numbered, optional, scattered};
-ghost use Rattle.arguments.specs.CommandLine.{several, sized, unloaded, wanted};
+ghost use Rattle.arguments.specs.CommandLine.{gathered, laid_out, layout_rule, located, numbered, optional};
+ghost use Rattle.arguments.specs.CommandLine.{scattered, several, sized, unloaded, wanted};
 
 use clap::{Arg, ArgAction, Command};
 use std::alloc::{AllocError, Global};

@@ -4,8 +4,8 @@ ghost use Rattle.std.specs.Prelude.{◌≡◌, IfOk, codes, false};
 ghost use Rattle.clap.specs.Words.{app_of, with_subcommand};
 ghost use Rattle.clap.specs.declared.builder.command.Command.TheViews.{out-Command as fields_of};
 ghost use Rattle.arguments.specs.CommandLine.{calls_app, check_app, command_line, convert_app, converting};
-ghost use Rattle.arguments.specs.CommandLine.{delete_app, export_app, filing, get_app, import_app, init_app, list_app};
-ghost use Rattle.arguments.specs.CommandLine.{looking, making, migrate_app, moving, put_app, run_app};
+ghost use Rattle.arguments.specs.CommandLine.{delete_app, export_app, filing, get_app, import_app, init_app};
+ghost use Rattle.arguments.specs.CommandLine.{list_app, looking, making, migrate_app, moving, put_app, run_app};
 ghost use Rattle.arguments.specs.CommandLine.{salvage_app, serving, versioned, wire_app};
 
 use crate::arguments::{

@@ -3,7 +3,7 @@
 #![tactic(auto)]
 
 use anyhow::Result;
-use player::play_all;
+use scenario_runner::play_all;
 use std::process::ExitCode;
 
 fn main(rt: HostRuntime) -> Result<ExitCode> {

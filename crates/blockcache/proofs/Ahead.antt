@@ -1,8 +1,6 @@
 -- A read of a block with its neighbours.
 use Rattle.std.proofs.Common.{◌≡◌, ◌∙◌, ℕ, List, Option, Some, None, Result, Ok, IsErrOf, IfOk, subst, ap}
-use Rattle.blockdisk.specs.Calls.{IsRead}
-use Rattle.blockdisk.specs.Disk.{Contents, DiskState, one_more}
-use Rattle.blockdisk.specs.Laws.{same_contents, keeps_on, same_disk_on}
+use Rattle.blockdisk.specs.Common.{IsRead, Contents, DiskState, one_more, same_contents, keeps_on, same_disk_on}
 use Rattle.blockdisk.specs.declared.fault.Fault.{Fault}
 use Rattle.blockdisk.specs.declared.fault.Fault.TheVariants.{Device}
 use Rattle.blockcache.specs.Window.{IsAhead}

@@ -1,6 +1,6 @@
 -- What is kept stays what the disk holds, whatever is put or taken out.
-use Rattle.std.proofs.Common.{◌≡◌, ◌∙◌, ◌⊎◌, ◌+◌, suc, ℕ, true, false, List, [], ◌∷◌, Some, None, Result, Ok}
-use Rattle.std.proofs.Common.{Err, OnOk, OnErr, Contains, nat_eq, refl, sym, ap, subst, inl, inr, arith, ⊎_elim}
+use Rattle.std.proofs.Common.{◌≡◌, ◌∙◌, ◌⊎◌, ◌+◌, suc, ℕ, true, false, List, [], ◌∷◌, Some, None, Result, Ok, Err}
+use Rattle.std.proofs.Common.{OnOk, OnErr, Contains, nat_eq, refl, sym, ap, subst, inl, inr, arith, ⊎_elim}
 use Rattle.std.proofs.lemmas.Bool.Decides.{nat_tests}
 use Rattle.std.proofs.lemmas.Map.{lookup-remove_entry}
 use Rattle.std.specs.Cmp.{nat_eq_equiv}
@@ -10,7 +10,7 @@ use Rattle.std.specs.Option.{option_map_or}
 use Rattle.lru.specs.LruCache.{lru_cache, put_entries, promoted}
 use Rattle.lru.proofs.Splits.{Contains-cons, Contains-nil}
 use Rattle.lru.proofs.CallerLemmas.{Contains-put_entries, Contains-promoted, Contains-lookup, Contains-remove_entry}
-use Rattle.blockdisk.specs.Disk.{Contents, SameOutside}
+use Rattle.blockdisk.specs.Common.{Contents, SameOutside}
 use Rattle.blockcache.specs.Cache.{Kept, AreHeld, IsCached, used, without, without_run}
 
 same_key : (n m : ℕ) → nat_eq n m ≡ true → m ≡ n
@@ -87,7 +87,7 @@ pub gone : (n : ℕ) (es : List (ℕ × List ℕ)) → IsDistinct nat_eq (keys_o
 gone n es distinct = lookup-remove_entry nat_eq_equiv (nat_eq n) (one_key n) n es distinct
     ∙ rw (nat_eq_equiv.refl n) refl
 
-none_some : {X : Type 0} (x : X) → Some x ≡ None → ⊥
+pub none_some : {X : Type 0} (x : X) → Some x ≡ None → ⊥
 none_some x e = cc
 
 -- an entry of a block is found under its number

@@ -1,4 +1,4 @@
 mod Ahead
-mod Held
+pub mod Held
 mod Recalled
-mod Seen
+pub mod Seen

@@ -1,9 +1,7 @@
 -- A read that asks no device.
-use Rattle.std.proofs.Common.{◌≡◌, ◌∷◌, ◌∙◌, [], ℕ, Option, List, Some, None, Ok, Err, Result, IfSome}
-use Rattle.std.proofs.Common.{length, slice_set, refl, ap}
-use Rattle.blockdisk.specs.Calls.{IsRead}
-use Rattle.blockdisk.specs.Disk.{DiskState, MayLeave}
-use Rattle.blockdisk.specs.Laws.{passes_start, same_disk_start}
+use Rattle.std.proofs.Common.{◌≡◌, ◌∷◌, ◌∙◌, [], ℕ, Option, List, Some, None, Ok, Err, Result, IfSome, length}
+use Rattle.std.proofs.Common.{slice_set, refl, ap}
+use Rattle.blockdisk.specs.Common.{IsRead, DiskState, MayLeave, passes_start, same_disk_start}
 use Rattle.blockdisk.specs.declared.fault.Fault.{Fault}
 use Rattle.blockdisk.specs.declared.fault.Fault.TheVariants.{Device, Damaged}
 

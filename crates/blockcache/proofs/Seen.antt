@@ -1,17 +1,16 @@
 -- What two windows keep is what the disk holds.
-use Rattle.std.proofs.Common.{◌≡◌, ◌∙◌, ◌⊎◌, ◌+◌, ◌-◌, ◌<◌, ◌≤◌, ℕ, true, false, List, [], Option, Some, None}
-use Rattle.std.proofs.Common.{IsSome, length}
-use Rattle.std.proofs.Common.{slice_get, nat_lt, ap, sym, subst, refl, ⊎_elim, inl, inr, arith}
+use Rattle.std.proofs.Common.{◌≡◌, ◌∙◌, ◌⊎◌, ◌+◌, ◌-◌, ◌<◌, ◌≤◌, ℕ, true, false, List, [], Option, Some, None, IsSome}
+use Rattle.std.proofs.Common.{length, slice_get, nat_lt, ap, sym, subst, refl, ⊎_elim, inl, inr, arith}
 use Rattle.std.proofs.lemmas.Bool.{cases_lt}
 use Rattle.std.proofs.lemmas.Bool.Decides.{nat_tests}
 use Rattle.std.proofs.lemmas.Option.{slice_get_cases, get_or_from_slice_get}
-use Rattle.blockdisk.specs.Disk.{Contents, HoldRun, IsWholeBlock}
+use Rattle.blockdisk.specs.Common.{Contents, HoldRun, IsWholeBlock}
 use Rattle.blockcache.specs.Window.{Stretch, AreSeen, words_at, words_near, either_of}
 
 none_some : {X : Type 0} (x : X) → None ≡ Some x → ⊥
 none_some x e = cc
 
-some_same : {X : Type 0} (x y : X) → Some x ≡ Some y → x ≡ y
+pub some_same : {X : Type 0} (x y : X) → Some x ≡ Some y → x ≡ y
 some_same x y e = cc
 
 in_list : (blocks : List (List ℕ)) (i : ℕ) (words : List ℕ) → slice_get blocks i ≡ Some words → i < length blocks

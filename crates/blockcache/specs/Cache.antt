@@ -2,7 +2,7 @@
 use Rattle.std.specs.Prelude.{◌≡◌, ◌⊎◌, ◌+◌, ℕ, zero, suc, List, [], Some, Contains, nat_eq}
 use Rattle.std.specs.Map.{remove_entry}
 use Rattle.lru.specs.LruCache.{LruCache, lru_cache, promoted, put_entries}
-use Rattle.blockdisk.specs.Disk.{Contents}
+use Rattle.blockdisk.specs.Common.{Contents}
 
 -- the blocks that are kept, and for how many there is room
 abbrev pub Kept : Type 0

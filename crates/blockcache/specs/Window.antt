@@ -1,8 +1,7 @@
 -- Blocks that were read together because they are neighbours, and which of them are read for one that is asked for.
-use Rattle.std.specs.Prelude.{◌≡◌, ◌⊎◌, ◌+◌, ◌-◌, ◌*◌, ◌≤◌, ℕ, if◌then◌else◌, nat_lt, nat_le}
-use Rattle.std.specs.Prelude.{List, [], Option, Some, None, Result, IfOk, IfSome, IsSome, OnOk, OnErr, IsErrOf}
-use Rattle.std.specs.Prelude.{length, min, max, slice_get}
-use Rattle.blockdisk.specs.Disk.{Contents, DiskState, Keeps, SameDisk, HoldRun, one_more}
+use Rattle.std.specs.Prelude.{◌≡◌, ◌⊎◌, ◌+◌, ◌-◌, ◌*◌, ◌≤◌, ℕ, if◌then◌else◌, nat_lt, nat_le, List, [], Option, Some}
+use Rattle.std.specs.Prelude.{None, Result, IfOk, IfSome, IsSome, OnOk, OnErr, IsErrOf, length, min, max, slice_get}
+use Rattle.blockdisk.specs.Common.{Contents, DiskState, Keeps, SameDisk, HoldRun, one_more}
 use Rattle.blockdisk.specs.declared.fault.Fault.{Fault}
 use Rattle.blockdisk.specs.declared.fault.Fault.TheVariants.{Device, Damaged}
 

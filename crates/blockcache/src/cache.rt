@@ -1,11 +1,9 @@
 ghost use Rattle.std.specs.Prelude.{◌≡◌, ◌+◌, ◌<◌, ◌≤◌, ◌^◌, ℕ, List, Some, None, Ok, IfOk, IfErr, OnOk, OnErr};
-ghost use Rattle.std.specs.Prelude.{IfSome, IsSome, IsErrOf};
-ghost use Rattle.std.specs.Prelude.{[], ◌∷◌, Contains, IfNone, get_or, length, nat_eq};
+ghost use Rattle.std.specs.Prelude.{IfSome, IsSome, IsErrOf, [], ◌∷◌, Contains, IfNone, get_or, length, nat_eq};
 ghost use Rattle.std.specs.NonZero.{non_zero_usize_get};
 ghost use Rattle.std.specs.Map.{lookup};
 ghost use Rattle.lru.specs.LruCache.{lru_cache};
-ghost use Rattle.blockdisk.specs.Calls.{IsRead, IsRunRead, IsVerify, IsWrite, IsRunWrite, IsSync};
-ghost use Rattle.blockdisk.specs.Disk.{IsInRun, IsWithin};
+ghost use Rattle.blockdisk.specs.Common.{IsRead, IsRunRead, IsVerify, IsWrite, IsRunWrite, IsSync, IsInRun, IsWithin};
 ghost use Rattle.blockdisk.specs.declared.fault.Fault.TheVariants.{Device};
 ghost use Rattle.blockcache.specs.Cache.{AreHeld, IsCached, used, without, without_run, emptied};
 ghost use Rattle.blockcache.specs.Window.{AreSeen, MovesOn, apart, cleared, words_near};

@@ -1,6 +1,5 @@
 ghost use Rattle.std.specs.Prelude.{◌≡◌, ◌+◌, ◌<◌, ◌≤◌, ℕ, Some, None, Ok, IfOk, IfSome, IsSome, IsErrOf, length};
-ghost use Rattle.blockdisk.specs.Calls.{IsRead};
-ghost use Rattle.blockdisk.specs.Disk.{AreVerified, Contents, HoldRun};
+ghost use Rattle.blockdisk.specs.Common.{IsRead, AreVerified, Contents, HoldRun};
 ghost use Rattle.blockdisk.specs.declared.fault.Fault.TheVariants.{Device};
 ghost use Rattle.blockcache.specs.Window.{AreSeen, IsAhead, IsNext, MovesOn, apart, cleared, words_near};
 

@@ -1,9 +1,8 @@
 -- Two copies written one after the other: while the first is written the second stays, and while the
 -- second is written the first is new.
 use Rattle.std.proofs.Common.{◌≡◌, inl, inr, ℕ, List, Some, sym, ◌∙◌}
-use Rattle.blockdisk.specs.Disk.{Contents, DiskState, NoneOpen, Near, Modifies, LeavesOnly}
-use Rattle.blockdisk.specs.Laws.{leaves_on, leaves_weaker}
-use Rattle.blockdisk.specs.Copies.{OneIsWhole}
+use Rattle.blockdisk.specs.Common.{Contents, DiskState, NoneOpen, Near, Modifies, LeavesOnly, leaves_on}
+use Rattle.blockdisk.specs.Common.{leaves_weaker, OneIsWhole}
 
 module _ (first second : ℕ) (words : List ℕ) (apart : first ≡ second
     → ⊥) (s mid : DiskState) (first_near : LeavesOnly s mid (Near (λ n. n ≡ first) s)) where

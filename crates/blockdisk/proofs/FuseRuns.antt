@@ -1,15 +1,12 @@
 -- The calls of a run on a disk with a fuse, one after the other.
-use Rattle.std.proofs.Common.{◌≡◌, ◌⊎◌, inl, inr, ⊎_elim, ◌<◌, ◌+◌, ◌∙◌, ℕ, Bool, true, false, Some, None}
-use Rattle.std.proofs.Common.{Option, Result, Ok, Err, IsErrOf, List, refl, ap, subst, arith}
+use Rattle.std.proofs.Common.{◌≡◌, ◌⊎◌, inl, inr, ⊎_elim, ◌<◌, ◌+◌, ◌∙◌, ℕ, Bool, true, false, Some, None, Option}
+use Rattle.std.proofs.Common.{Result, Ok, Err, IsErrOf, List, refl, ap, subst, arith}
 use Rattle.std.proofs.lemmas.Bool.{false_from_ne_true}
 use Rattle.std.proofs.lemmas.Bool.Decides.{nat_tests}
-use Rattle.blockdisk.specs.Calls.{IsRead, IsWrite}
-use Rattle.blockdisk.specs.Disk.{DiskState, IsInRun, one_more}
-use Rattle.blockdisk.specs.Fuse.{is_blown, left_behind, burnt, Lets, left_after}
-use Rattle.blockdisk.specs.Fused.{passed, refused, own_failures, IsMadeAnyway, HavePassed, HasBlown}
-use Rattle.blockdisk.specs.Fused.{fuse_state, HasFailedRead, IsCountedOnce, HasFailedWrite}
-use Rattle.blockdisk.specs.Laws.{modifies_wider, modifies_write}
-use Rattle.blockdisk.specs.RunLaws.{IsPartWrite}
+use Rattle.blockdisk.specs.Common.{IsRead, IsWrite, DiskState, IsInRun, one_more, is_blown, left_behind, burnt, Lets}
+use Rattle.blockdisk.specs.Common.{left_after, passed, refused, own_failures, IsMadeAnyway, HavePassed, HasBlown}
+use Rattle.blockdisk.specs.Common.{fuse_state, HasFailedRead, IsCountedOnce, HasFailedWrite, modifies_wider}
+use Rattle.blockdisk.specs.Common.{modifies_write, IsPartWrite}
 use Rattle.blockdisk.specs.declared.fault.Fault.{Fault}
 use Rattle.blockdisk.specs.declared.fault.Fault.TheVariants.{Device, Damaged}
 use Rattle.blockdisk.specs.declared.fuse.Fail.{Fail}

@@ -1,3 +1,3 @@
 mod CopyLaws
-mod Record
+pub mod Record
 pub mod FuseRuns

@@ -6,11 +6,9 @@ use Rattle.std.proofs.lemmas.Bool.{cases_lt}
 use Rattle.std.proofs.lemmas.List.{take_all, take-append-le, get_or-set_same, get_or-set_other, get_or-replicate}
 use Rattle.std.proofs.lemmas.List.{get_or_past, length-replicate, take_more}
 use Rattle.std.proofs.Math.ListN.{length-set}
-use Rattle.blockdisk.specs.Disk.{Contents, MayLeave, Passes, Writes, Syncs}
-use Rattle.blockdisk.specs.Memory.{Memory, DiskMoment, after_call, after_calls}
-use Rattle.blockdisk.specs.Memory.{moment_at, Leaves, moment_now, memory_state}
-use Rattle.blockdisk.specs.Memory.{IsReplayed, held, written, run_written, write_refused, synced}
-use Rattle.blockdisk.specs.Calls.{IsWrite}
+use Rattle.blockdisk.specs.Common.{Contents, MayLeave, Passes, Writes, Syncs, Memory, DiskMoment, after_call}
+use Rattle.blockdisk.specs.Common.{after_calls, moment_at, Leaves, moment_now, memory_state, IsReplayed, held}
+use Rattle.blockdisk.specs.Common.{written, run_written, write_refused, synced, IsWrite}
 use Rattle.blockdisk.specs.declared.fault.Fault.{Fault}
 use Rattle.blockdisk.specs.declared.fault.Fault.TheVariants.{Device, Damaged}
 use Rattle.blockdisk.specs.declared.memory.DiskCall.{DiskCall}
@@ -90,7 +88,7 @@ writes_written m n words inside is room = record {
   time = passes_further m (Write n words) (slice_set m.blocks n (Some words)) (slice_set m.opened n true) is room;
 }
 
-all_closed : (n k : ℕ) → (k < n) ⊎ (n ≤ k) → get_or (replicate n false) k false ≡ false
+pub all_closed : (n k : ℕ) → (k < n) ⊎ (n ≤ k) → get_or (replicate n false) k false ≡ false
 all_closed n k (inl less) = get_or-replicate n k false false less
 all_closed n k (inr past) = get_or_past (replicate n false) k false (omega (arith, length-replicate n false))
 

@@ -2,8 +2,8 @@
 -- whose calls no clause can name.
 use Rattle.std.specs.Prelude.{◌≡◌, ◌<◌, ◌+◌, ℕ, List, Option, Some, None, Result, IsOk, IfOk, OnOk, OnErr, IsErrOf}
 use Rattle.std.specs.Prelude.{length}
-use Rattle.blockdisk.specs.Disk.{DiskState, SameDisk, Keeps, Writes, Syncs, Fails, one_more}
-use Rattle.blockdisk.specs.Disk.{AreFilled, AreVerified, IsWithin, HoldRun, IsInRun, Modifies}
+use Rattle.blockdisk.specs.Disk.{DiskState, SameDisk, Keeps, Writes, Syncs, Fails, one_more, AreFilled, AreVerified}
+use Rattle.blockdisk.specs.Disk.{IsWithin, HoldRun, IsInRun, Modifies}
 use Rattle.blockdisk.specs.declared.fault.Fault.{Fault}
 use Rattle.blockdisk.specs.declared.fault.Fault.TheVariants.{Device, Damaged}
 

@@ -1,8 +1,7 @@
 -- What a disk in memory is left as by a crash that is made on purpose: the open blocks as somebody picks, the closed
 -- ones as they are.
 use Rattle.std.specs.Prelude.{ℕ, ◌==◌, if◌then◌else◌, Bool, false, List, [], ◌∷◌, ◌++◌, Option, Some, None, get_or}
-use Rattle.std.specs.Prelude.{take, drop}
-use Rattle.std.specs.Prelude.{replicate}
+use Rattle.std.specs.Prelude.{take, drop, replicate}
 use Rattle.blockdisk.specs.Memory.{Memory, held}
 use Rattle.blockdisk.specs.declared.memory.DiskCall.{DiskCall}
 use Rattle.blockdisk.specs.declared.memory.DiskCall.TheVariants.{Write, Sync}

@@ -1,8 +1,8 @@
 -- What a disk is: its blocks now, the blocks that are open, a clock, and what a crash may leave or
 -- have left. A block is open from the beginning of a write to it until a sync succeeds. A crash leaves
 -- the closed blocks as they are, and anything in the open ones; a sync that fails may do the same.
-use Rattle.std.specs.Prelude.{◌≡◌, ◌⊎◌, ◌+◌, ◌-◌, ◌^◌, ◌<◌, ◌≤◌, ℕ, Bool, true, false, List, Option, None, Some}
-use Rattle.std.specs.Prelude.{[], length, min, get_or}
+use Rattle.std.specs.Prelude.{◌≡◌, ◌⊎◌, ◌+◌, ◌-◌, ◌^◌, ◌<◌, ◌≤◌, ℕ, Bool, true, false, List, Option, None, Some, []}
+use Rattle.std.specs.Prelude.{length, min, get_or}
 
 -- what each block holds: its words, or none where it is damaged
 abbrev pub Contents : Type 0

@@ -5,8 +5,8 @@ use Rattle.std.specs.Prelude.{◌≡◌, ◌⊎◌, ◌≤◌, ℕ, false, if◌
 use Rattle.std.proofs.Common.{inl, inr, ⊎_elim, refl, sym, ◌∙◌, arith, subst}
 use Rattle.std.proofs.lemmas.Bool.{cases_eq}
 use Rattle.std.proofs.lemmas.Bool.Decides.{nat_tests}
-use Rattle.blockdisk.specs.Disk.{Contents, DiskState, MayLeave, NoneOpen, Passes, SameDisk, Keeps, Writes, Syncs, Fails}
-use Rattle.blockdisk.specs.Disk.{Near, Modifies, Still, LeavesOnly, Between}
+use Rattle.blockdisk.specs.Disk.{Contents, DiskState, MayLeave, NoneOpen, Passes, SameDisk, Keeps, Writes, Syncs}
+use Rattle.blockdisk.specs.Disk.{Fails, Near, Modifies, Still, LeavesOnly, Between}
 
 -- contents that agree at each block are equal
 pub same_contents : (c d : Contents) → ((n : ℕ) → d n ≡ c n) → d ≡ c

@@ -9,3 +9,4 @@ pub mod Memory
 pub mod MemoryLaws
 pub mod RunLaws
 pub mod VerifyLaws
+pub mod Common

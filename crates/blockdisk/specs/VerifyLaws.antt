@@ -1,6 +1,5 @@
 -- How a look at blocks is made of looks at fewer, and of reads.
-use Rattle.std.specs.Prelude.{◌≡◌, ◌+◌, ◌<◌, ◌≤◌, ℕ, List, Option, Some, None, Ok, Err, IsOk, IsErrOf}
-use Rattle.std.specs.Prelude.{length}
+use Rattle.std.specs.Prelude.{◌≡◌, ◌+◌, ◌<◌, ◌≤◌, ℕ, List, Option, Some, None, Ok, Err, IsOk, IsErrOf, length}
 use Rattle.std.proofs.Common.{⊎_elim, refl, ap, ◌∙◌, arith, subst}
 use Rattle.std.proofs.lemmas.Bool.{cases_lt}
 use Rattle.blockdisk.specs.Calls.{IsRead, IsVerify}

@@ -1,6 +1,6 @@
 ghost use Rattle.std.specs.Prelude.{◌≡◌, ◌≢◌, ◌<◌, ◌⊎◌, Some, OnOk, IsErrOf};
-ghost use Rattle.blockdisk.specs.Copies.{OneIsWhole, BothAreNew};
-ghost use Rattle.blockdisk.specs.Disk.{NoneOpen, SameDisk, Near, Modifies, LeavesOnly, one_more};
+ghost use Rattle.blockdisk.specs.Common.{OneIsWhole, BothAreNew, NoneOpen, SameDisk, Near, Modifies, LeavesOnly};
+ghost use Rattle.blockdisk.specs.Common.{one_more};
 ghost use Rattle.blockdisk.specs.declared.fault.Fault.TheVariants.{Device, Damaged};
 
 use crate::{Disk, Fault};

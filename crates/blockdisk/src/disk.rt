@@ -1,7 +1,7 @@
 ghost use Rattle.std.specs.Prelude.{◌≡◌, ◌+◌, ◌<◌, ◌≤◌, ℕ, Some, None, IsOk, IfOk, OnOk, OnErr, IsErrOf, length};
 ghost use Rattle.blockdisk.specs.declared.fault.Fault.TheVariants.{Device, Damaged};
-ghost use Rattle.blockdisk.specs.Disk.{Contents, DiskState, MayLeave, SameDisk, Keeps, Writes, Syncs, Fails, one_more};
-ghost use Rattle.blockdisk.specs.Disk.{AreFilled, AreVerified, HoldRun, IsInRun, IsWithin, Modifies};
+ghost use Rattle.blockdisk.specs.Common.{Contents, DiskState, MayLeave, SameDisk, Keeps, Writes, Syncs, Fails};
+ghost use Rattle.blockdisk.specs.Common.{one_more, AreFilled, AreVerified, HoldRun, IsInRun, IsWithin, Modifies};
 
 use crate::Fault;
 use words36::Block;

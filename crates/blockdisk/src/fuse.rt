@@ -1,8 +1,7 @@
-ghost use Rattle.std.specs.Prelude.{◌≡◌, ◌<◌, ◌≤◌, ◌+◌, ◌-◌, Some, None, Result, IsErrOf, IfOk, OnOk, OnErr};
-ghost use Rattle.std.specs.Prelude.{length, true, false};
-ghost use Rattle.blockdisk.specs.Calls.{IsRead, IsRunRead, IsVerify, IsWrite, IsRunWrite, IsSync};
-ghost use Rattle.blockdisk.specs.Disk.{IsWithin, one_more};
-ghost use Rattle.blockdisk.specs.Fuse.{is_blown, burnt, fused, blocks_read};
+ghost use Rattle.std.specs.Prelude.{◌≡◌, ◌<◌, ◌≤◌, ◌+◌, ◌-◌, Some, None, Result, IsErrOf, IfOk, OnOk, OnErr, length};
+ghost use Rattle.std.specs.Prelude.{true, false};
+ghost use Rattle.blockdisk.specs.Common.{IsRead, IsRunRead, IsVerify, IsWrite, IsRunWrite, IsSync, IsWithin};
+ghost use Rattle.blockdisk.specs.Common.{one_more, is_blown, burnt, fused, blocks_read};
 ghost use Rattle.blockdisk.specs.declared.fault.Fault.TheVariants.{Device, Damaged};
 
 use crate::{Disk, Fault};
@@ -31,7 +30,7 @@ pub struct FuseDisk<D: Disk> {
 }
 
 impl<D: Disk> FuseDisk<D> {
-    ghost use Rattle.blockdisk.specs.Fused.{own_failures};
+    ghost use Rattle.blockdisk.specs.Common.{own_failures};
 
     /// The same disk behind a fuse that lets so many calls pass.
     pub fn new(disk: D, passing: u64, fail: Fail) -> Self
@@ -100,7 +99,8 @@ impl<D: Disk> FuseDisk<D> {
 }
 
 impl<D: Disk> Disk for FuseDisk<D> {
-    ghost use Rattle.blockdisk.specs.Fused.{passed, refused, IsMadeAnyway, HavePassed, HasFailedRead, HasFailedWrite};
+    ghost use Rattle.blockdisk.specs.Common.{passed, refused, IsMadeAnyway, HavePassed, HasFailedRead};
+    ghost use Rattle.blockdisk.specs.Common.{HasFailedWrite};
 
     ghost state = { λ disk. fused (D.state disk.inner) disk.failures };
 

@@ -1,13 +1,10 @@
-ghost use Rattle.std.specs.Prelude.{◌≡◌, ◌<◌, ◌≤◌, ◌+◌, ◌^◌, ℕ, Some, None, IfOk, IfErr, OnOk, OnErr, IsErrOf, length};
-ghost use Rattle.std.specs.Prelude.{replicate, if◌then◌else◌, IsOk};
+ghost use Rattle.std.specs.Prelude.{◌≡◌, ◌<◌, ◌≤◌, ◌+◌, ◌^◌, ℕ, Some, None, IfOk, IfErr, OnOk, OnErr, IsErrOf};
+ghost use Rattle.std.specs.Prelude.{length, replicate, if◌then◌else◌, IsOk};
 ghost use Rattle.std.proofs.Common.{inr};
 ghost use Rattle.blockdisk.specs.declared.fault.Fault.TheVariants.{Device, Damaged};
-ghost use Rattle.blockdisk.specs.Calls.{IsRunWrite};
-ghost use Rattle.blockdisk.specs.Disk.{Writes, Syncs, AreFilled, AreVerified, IsWithin};
-ghost use Rattle.blockdisk.specs.Crashing.{at_sync, left_in, picked};
-ghost use Rattle.blockdisk.specs.Memory.{held, memory_state, written, run_written, write_refused, synced, sync_refused};
-ghost use Rattle.blockdisk.specs.Memory.{HasNoRoomFor};
-ghost use Rattle.blockdisk.specs.MemoryLaws.{only_now, reaches_back};
+ghost use Rattle.blockdisk.specs.Common.{IsRunWrite, Writes, Syncs, AreFilled, AreVerified, IsWithin, at_sync};
+ghost use Rattle.blockdisk.specs.Common.{left_in, picked, held, memory_state, written, run_written, write_refused};
+ghost use Rattle.blockdisk.specs.Common.{synced, sync_refused, HasNoRoomFor, only_now, reaches_back};
 
 use crate::{Disk, Fault, NoMemory, Pick};
 use std::alloc::{AllocError, Global};
@@ -38,7 +35,7 @@ pub struct MemDisk {
 
 impl Model for MemDisk {
     ghost use Rattle.std.specs.Prelude.{◌≡◌, ◌≤◌, true, false, length, replicate, vec_capacity};
-    ghost use Rattle.blockdisk.specs.Memory.{Memory, IsReplayed};
+    ghost use Rattle.blockdisk.specs.Common.{Memory, IsReplayed};
 
     ghost Value = { Memory };
 
@@ -65,9 +62,9 @@ impl Model for MemDisk {
 
 impl MemDisk {
     ghost use Rattle.std.specs.Prelude.{◌≡◌, ◌<◌, Some, None, IfOk, length};
-    ghost use Rattle.blockdisk.specs.Disk.{MayLeave};
-    ghost use Rattle.blockdisk.specs.Memory.{zeroed, loaded, begun_anew};
-    ghost use Rattle.blockdisk.specs.Crashing.{left_of};
+    ghost use Rattle.blockdisk.specs.Common.{MayLeave};
+    ghost use Rattle.blockdisk.specs.Common.{zeroed, loaded, begun_anew};
+    ghost use Rattle.blockdisk.specs.Common.{left_of};
 
     /// A disk of so many blocks of zeros, with room to record so many writes and syncs.
     ///

@@ -1,5 +1,5 @@
 ghost use Rattle.std.specs.Prelude.{◌≡◌, ◌++◌, take, drop};
-ghost use Rattle.blockdisk.specs.Crashing.{picked};
+ghost use Rattle.blockdisk.specs.Common.{picked};
 
 use words36::{BLOCK_WORDS, Block, Word};
 

@@ -5,15 +5,13 @@ use Rattle.std.specs.Cmp.Lexicographic.{pointwise}
 use Rattle.std.specs.Bool.{Decides}
 use Rattle.std.proofs.lemmas.Bool.Decides.{Decides-eqb}
 use Rattle.std.proofs.lemmas.Slice.Eq.{slice_eq-Decides}
-use Rattle.blockdisk.specs.Disk.{Contents, DiskState, MayLeave, NoneOpen, SameOutside, Near, Modifies, LeavesOnly}
-use Rattle.blockdisk.specs.Laws.{modifies_on, modifies_wider, leaves_on, leaves_weaker}
-use Rattle.meaning.specs.declared.put.Put.{Put}
-use Rattle.meaning.specs.Maps.{times}
-use Rattle.meaning.specs.Regions.{IsVolumeSize, log_start, table_start}
-use Rattle.meaning.specs.Log.{open_gate, IsGateOpen, targets, IsTarget, IsLog, with_puts}
-use Rattle.meaning.proofs.MapLaws.{some_same, some_none}
-use Rattle.changeset.specs.Puts.{IsPutIn}
-use Rattle.changeset.specs.Crashes.{IsGate, IsInLog, IsGateOrLog, IsShut, SettlesAs, AllOrNone, ArePending}
+use Rattle.blockdisk.specs.Common.{Contents, DiskState, MayLeave, NoneOpen, SameOutside, Near, Modifies, LeavesOnly}
+use Rattle.blockdisk.specs.Common.{modifies_on, modifies_wider, leaves_on, leaves_weaker}
+use Rattle.spec_image.specs.declared.put.Put.{Put}
+use Rattle.spec_image.specs.Common.{times, IsVolumeSize, log_start, table_start, open_gate, IsGateOpen, targets}
+use Rattle.spec_image.specs.Common.{IsTarget, IsLog, with_puts}
+use Rattle.spec_image.proofs.Common.{some_same, some_none}
+use Rattle.changeset.specs.Common.{IsPutIn, IsGate, IsInLog, IsGateOrLog, IsShut, SettlesAs, AllOrNone, ArePending}
 use Rattle.changeset.proofs.PutLists.{all_in, with_puts_same, with_puts_other, images_same}
 
 -- A gate is open or closed.

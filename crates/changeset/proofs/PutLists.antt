@@ -1,20 +1,18 @@
 -- Lists of puts as loops go over them: the first i of them, and one more.
-use Rattle.std.proofs.Common.{◌≡◌, ◌⊎◌, inl, inr, ⊎_elim, ℕ, zero, suc, ◌+◌, ◌-◌, ◌<◌, ◌≤◌, List, [], ◌∷◌, ◌++◌, length}
-use Rattle.std.proofs.Common.{get_or, take, replicate, slice_set, Some, refl, sym, ◌∙◌, ap, subst, arith, append_assoc}
+use Rattle.std.proofs.Common.{◌≡◌, ◌⊎◌, inl, inr, ⊎_elim, ℕ, zero, suc, ◌+◌, ◌-◌, ◌<◌, ◌≤◌, List, [], ◌∷◌, ◌++◌}
+use Rattle.std.proofs.Common.{length, get_or, take, replicate, slice_set, Some, refl, sym, ◌∙◌, ap, subst, arith}
+use Rattle.std.proofs.Common.{append_assoc}
 use Rattle.std.specs.Prelude.{slice_get}
 use Rattle.std.specs.List.{AllByRecursion}
 use Rattle.std.proofs.lemmas.Bool.{cases_eq}
 use Rattle.std.proofs.lemmas.List.{take_more, map-append, length-take-le}
 use Rattle.std.proofs.Math.Seq.{set-append_seam}
-use Rattle.blockdisk.specs.Disk.{Contents}
-use Rattle.meaning.specs.declared.put.Put.{Put}
-use Rattle.meaning.specs.Maps.{times}
-use Rattle.meaning.specs.Log.{targets, AreImages, with_puts, log_word}
-use Rattle.meaning.proofs.MapSums.{times-append}
-use Rattle.meaning.proofs.Settled.{length-targets}
-use Rattle.changeset.specs.Puts.{IsPutIn, AreDistinct, replaced}
-use Rattle.changeset.specs.PutLaws.{times_head, times_tail, with_puts_here, with_puts_later, replaced_here}
-use Rattle.changeset.specs.PutLaws.{replaced_later}
+use Rattle.blockdisk.specs.Common.{Contents}
+use Rattle.spec_image.specs.declared.put.Put.{Put}
+use Rattle.spec_image.specs.Common.{times, targets, AreImages, with_puts, log_word}
+use Rattle.spec_image.proofs.Common.{times-append, length-targets}
+use Rattle.changeset.specs.Common.{IsPutIn, AreDistinct, replaced, times_head, times_tail, with_puts_here}
+use Rattle.changeset.specs.Common.{with_puts_later, replaced_here, replaced_later}
 
 -- what holds of each target holds of this one
 pub all_at : (P : ℕ → Type 0) (puts : List Put) (i : ℕ) (put : Put) → i < length puts → put ≡ get_or puts i put

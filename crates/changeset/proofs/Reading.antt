@@ -7,16 +7,11 @@ use Rattle.std.specs.Cmp.Lexicographic.{pointwise}
 use Rattle.std.proofs.lemmas.Bool.Decides.{Decides-eqb}
 use Rattle.std.proofs.lemmas.Slice.Eq.{slice_eq-Decides}
 use Rattle.std.proofs.lemmas.List.{take_all, take_more, take-append-le, get_or_append_left, get_or-drop}
-use Rattle.blockdisk.specs.Disk.{Contents, DiskState}
-use Rattle.blockdisk.specs.Laws.{still_on}
-use Rattle.meaning.specs.declared.put.Put.{Put}
-use Rattle.meaning.specs.Maps.{times}
-use Rattle.meaning.specs.Regions.{log_start}
-use Rattle.meaning.specs.Log.{targets, log_header, AreImages, IsTarget, IsLog}
-use Rattle.meaning.proofs.MapLaws.{some_same}
-use Rattle.meaning.proofs.Settled.{length-targets}
-use Rattle.changeset.specs.PutLaws.{targets-behind}
-use Rattle.changeset.specs.Reads.{IsNextTarget, OnlyReads}
+use Rattle.blockdisk.specs.Common.{Contents, DiskState, still_on}
+use Rattle.spec_image.specs.declared.put.Put.{Put}
+use Rattle.spec_image.specs.Common.{times, log_start, targets, log_header, AreImages, IsTarget, IsLog}
+use Rattle.spec_image.proofs.Common.{some_same, length-targets}
+use Rattle.changeset.specs.Common.{targets-behind, IsNextTarget, OnlyReads}
 use Rattle.changeset.proofs.PutLists.{all_at, fresh_at, images_behind}
 
 pub only_reads_on : (s s' s'' : DiskState) → OnlyReads s s' → OnlyReads s' s'' → OnlyReads s s''

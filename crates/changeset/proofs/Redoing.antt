@@ -1,13 +1,13 @@
 -- What a crash leaves during recovery.
-use Rattle.std.proofs.Common.{◌≡◌, inl, inr, ℕ, List, Option, Some, None, [], ◌∷◌, replicate, refl, sym, ◌∙◌, ap, subst}
-use Rattle.std.proofs.Common.{arith}
-use Rattle.blockdisk.specs.Disk.{Contents, DiskState, MayLeave, NoneOpen, SameOutside, Still, LeavesOnly}
-use Rattle.blockdisk.specs.Laws.{leaves_on, leaves_still, leaves_weaker, none_open_leaves, same_contents}
-use Rattle.meaning.specs.declared.put.Put.{Put}
-use Rattle.meaning.specs.Log.{open_gate, IsGateOpen, with_puts, IsSettled}
-use Rattle.meaning.proofs.Settled.{settled_same}
-use Rattle.changeset.specs.Crashes.{IsGate, SettlesAs, SettlesLike, SettlesLikeBefore, ArePending, IsRecovered}
-use Rattle.changeset.specs.Reads.{OnlyReads}
+use Rattle.std.proofs.Common.{◌≡◌, inl, inr, ℕ, List, Option, Some, None, [], ◌∷◌, replicate, refl, sym, ◌∙◌, ap}
+use Rattle.std.proofs.Common.{subst, arith}
+use Rattle.blockdisk.specs.Common.{Contents, DiskState, MayLeave, NoneOpen, SameOutside, Still, LeavesOnly, leaves_on}
+use Rattle.blockdisk.specs.Common.{leaves_still, leaves_weaker, none_open_leaves, same_contents}
+use Rattle.spec_image.specs.declared.put.Put.{Put}
+use Rattle.spec_image.specs.Common.{open_gate, IsGateOpen, with_puts, IsSettled}
+use Rattle.spec_image.proofs.Common.{settled_same}
+use Rattle.changeset.specs.Common.{IsGate, SettlesAs, SettlesLike, SettlesLikeBefore, ArePending, IsRecovered}
+use Rattle.changeset.specs.Common.{OnlyReads}
 use Rattle.changeset.proofs.PutLists.{with_puts_same}
 use Rattle.changeset.proofs.Moments.{settles_from}
 

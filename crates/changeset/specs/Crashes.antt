@@ -2,10 +2,9 @@
 -- compared by what they settle to: with a closed gate themselves, with an open one what the log makes
 -- of them. Gate and log are no part of what is compared.
 use Rattle.std.specs.Prelude.{◌≡◌, ◌⊎◌, ◌<◌, ◌≤◌, ℕ, List, Some, replicate}
-use Rattle.blockdisk.specs.Disk.{Contents, DiskState, MayLeave, SameOutside, Syncs, Fails, LeavesOnly}
-use Rattle.meaning.specs.declared.put.Put.{Put}
-use Rattle.meaning.specs.Regions.{table_start}
-use Rattle.meaning.specs.Log.{IsGateOpen, IsLog, IsSettled, with_puts}
+use Rattle.blockdisk.specs.Common.{Contents, DiskState, MayLeave, SameOutside, Syncs, Fails, LeavesOnly}
+use Rattle.spec_image.specs.declared.put.Put.{Put}
+use Rattle.spec_image.specs.Common.{table_start, IsGateOpen, IsLog, IsSettled, with_puts}
 
 -- the sets of blocks that are written
 

@@ -3,3 +3,4 @@ pub mod Crashes
 pub mod Reads
 pub mod Rest
 pub mod PutLaws
+pub mod Common

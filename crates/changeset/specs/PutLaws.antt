@@ -4,11 +4,10 @@ use Rattle.std.specs.List.{AllByRecursion}
 use Rattle.std.proofs.Common.{inl, inr, ⊎_elim, refl, ap, arith, subst, sym, ◌∙◌}
 use Rattle.std.proofs.lemmas.Bool.{cases_eq}
 use Rattle.std.proofs.lemmas.Bool.Decides.{nat_tests}
-use Rattle.blockdisk.specs.Disk.{Contents}
-use Rattle.meaning.specs.declared.put.Put.{Put}
-use Rattle.meaning.specs.Maps.{times}
-use Rattle.meaning.specs.Log.{targets, with_puts}
-use Rattle.meaning.proofs.MapSums.{times-append}
+use Rattle.blockdisk.specs.Common.{Contents}
+use Rattle.spec_image.specs.declared.put.Put.{Put}
+use Rattle.spec_image.specs.Common.{times, targets, with_puts}
+use Rattle.spec_image.proofs.Common.{times-append}
 use Rattle.changeset.specs.Puts.{IsPutIn, AreDistinct, replaced}
 
 pub replaced_here : (new put : Put) (puts : List Put) → put.block ≡ new.block → replaced new (put ∷ puts) ≡ new ∷ puts

@@ -1,9 +1,8 @@
 -- Reading the log, put by put.
 use Rattle.std.specs.Prelude.{◌≡◌, ℕ, ◌+◌, List, get_or}
-use Rattle.blockdisk.specs.Disk.{DiskState, Still}
-use Rattle.meaning.specs.declared.put.Put.{Put}
-use Rattle.meaning.specs.Maps.{times}
-use Rattle.meaning.specs.Log.{IsTarget, targets}
+use Rattle.blockdisk.specs.Common.{DiskState, Still}
+use Rattle.spec_image.specs.declared.put.Put.{Put}
+use Rattle.spec_image.specs.Common.{times, IsTarget, targets}
 
 -- The header names this block at place i of the log, a target that none of the puts before is for.
 pub record IsNextTarget (size : ℕ) (header : List ℕ) (before : List Put) (i block : ℕ) : Type 0 where

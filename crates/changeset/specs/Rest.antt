@@ -2,11 +2,10 @@
 -- is at rest, writes that nobody looks at keep it so, and a commit leads from rest to rest.
 use Rattle.std.specs.Prelude.{◌≡◌, ◌⊎◌, ℕ, List}
 use Rattle.std.proofs.Common.{inl, inr, ⊎_elim, refl, sym, ◌∙◌, subst}
-use Rattle.blockdisk.specs.Disk.{Contents, DiskState, MayLeave, NoneOpen, SameOutside, Near, Modifies, LeavesOnly}
-use Rattle.blockdisk.specs.Laws.{modifies_leaves, leaves_weaker, leaves_on, none_open_leaves}
-use Rattle.meaning.specs.declared.put.Put.{Put}
-use Rattle.meaning.specs.Regions.{IsVolumeSize}
-use Rattle.meaning.specs.Log.{IsGateOpen, IsSettled, with_puts}
+use Rattle.blockdisk.specs.Common.{Contents, DiskState, MayLeave, NoneOpen, SameOutside, Near, Modifies, LeavesOnly}
+use Rattle.blockdisk.specs.Common.{modifies_leaves, leaves_weaker, leaves_on, none_open_leaves}
+use Rattle.spec_image.specs.declared.put.Put.{Put}
+use Rattle.spec_image.specs.Common.{IsVolumeSize, IsGateOpen, IsSettled, with_puts}
 use Rattle.changeset.specs.Crashes.{IsGate, IsGateOrLog, IsShut, SettlesAs, AllOrNone, SettlesLike, SettlesLikeBefore}
 use Rattle.changeset.specs.Crashes.{IsRecovered}
 

@@ -1,13 +1,12 @@
-ghost use Rattle.std.specs.Prelude.{ℕ, ◌≡◌, ◌<◌, ◌≤◌, [], length, take, slice_get, Some, IsSome, IfSome, IfNone, OnOk};
-ghost use Rattle.std.specs.Prelude.{OnErr, IfErr};
-ghost use Rattle.changeset.specs.Puts.{most_puts, IsPutIn, AreDistinct, replaced};
+ghost use Rattle.std.specs.Prelude.{ℕ, ◌≡◌, ◌<◌, ◌≤◌, [], length, take, slice_get, Some, IsSome, IfSome, IfNone};
+ghost use Rattle.std.specs.Prelude.{OnOk, OnErr, IfErr};
+ghost use Rattle.changeset.specs.Common.{most_puts, IsPutIn, AreDistinct, replaced};
 ghost use Rattle.changeset.specs.declared.error.LogError.TheVariants.{TooMany};
-ghost use Rattle.meaning.specs.Log.{targets};
-ghost use Rattle.meaning.specs.Maps.{times};
+ghost use Rattle.spec_image.specs.Common.{targets, times};
 
 use crate::LogError;
 use arrayvec::ArrayVec;
-use meaning::Put;
+use spec_image::Put;
 use std::marker::Model;
 use words36::Block;
 
@@ -22,8 +21,8 @@ pub struct ChangeSet {
 
 impl Model for ChangeSet {
     ghost use Rattle.std.specs.Prelude.{List};
-    ghost use Rattle.meaning.specs.declared.put.Put.{Put};
-    ghost use Rattle.changeset.specs.Puts.{AreDistinct};
+    ghost use Rattle.spec_image.specs.declared.put.Put.{Put};
+    ghost use Rattle.changeset.specs.Common.{AreDistinct};
 
     ghost Value = { List Put };
 

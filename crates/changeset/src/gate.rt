@@ -1,12 +1,12 @@
 ghost use Rattle.std.specs.Prelude.{◌≡◌, ◌<◌, ◌↔◌, IsTrue, IfOk, OnOk, IsErrOf, Some, replicate};
-ghost use Rattle.blockdisk.specs.Disk.{Keeps, Near, Modifies, LeavesOnly, NoneOpen, SameDisk, one_more};
+ghost use Rattle.blockdisk.specs.Common.{Keeps, Near, Modifies, LeavesOnly, NoneOpen, SameDisk, one_more};
 ghost use Rattle.blockdisk.specs.declared.fault.Fault.TheVariants.{Device, Damaged};
-ghost use Rattle.changeset.specs.Crashes.{IsGate};
-ghost use Rattle.meaning.specs.Log.{open_gate};
+ghost use Rattle.changeset.specs.Common.{IsGate};
+ghost use Rattle.spec_image.specs.Common.{open_gate};
 
 use crate::log::word_of;
 use blockdisk::{Disk, Fault, write_through};
-use meaning::layout::GATE;
+use spec_image::layout::GATE;
 use words36::{BLOCK_WORDS, Word};
 
 /// Each word of an open gate.

@@ -1,22 +1,20 @@
-ghost use Rattle.std.specs.Prelude.{ℕ, List, [], ◌≡◌, ◌⊎◌, ◌+◌, ◌<◌, ◌≤◌, ◌^◌, ◌↔◌, IsTrue, IfOk, OnOk, IsErrOf, Some};
-ghost use Rattle.std.specs.Prelude.{length};
+ghost use Rattle.std.specs.Prelude.{ℕ, List, [], ◌≡◌, ◌⊎◌, ◌+◌, ◌<◌, ◌≤◌, ◌^◌, ◌↔◌, IsTrue, IfOk, OnOk, IsErrOf};
+ghost use Rattle.std.specs.Prelude.{Some, length};
 ghost use Rattle.std.specs.List.{AllByRecursion};
-ghost use Rattle.blockdisk.specs.Disk.{Near, Modifies, LeavesOnly, NoneOpen, SameDisk, one_more};
+ghost use Rattle.blockdisk.specs.Common.{Near, Modifies, LeavesOnly, NoneOpen, SameDisk, one_more};
 ghost use Rattle.blockdisk.specs.declared.fault.Fault.TheVariants.{Device, Damaged};
-ghost use Rattle.changeset.specs.Crashes.{IsInLog};
-ghost use Rattle.changeset.specs.Reads.{IsNextTarget, OnlyReads};
-ghost use Rattle.changeset.specs.Puts.{most_puts, AreDistinct};
+ghost use Rattle.changeset.specs.Common.{IsInLog, IsNextTarget, OnlyReads, most_puts, AreDistinct};
 ghost use Rattle.changeset.specs.declared.error.LogError.TheVariants.{Device as Failed, TooMany, BadLog};
-ghost use Rattle.meaning.specs.Log.{IsLog, IsTarget, AreImages, log_header, targets};
-ghost use Rattle.meaning.specs.Regions.{IsVolumeSize, log_images, log_start};
-ghost use Rattle.meaning.specs.declared.put.Put.{Put};
+ghost use Rattle.spec_image.specs.Common.{IsLog, IsTarget, AreImages, log_header, targets, IsVolumeSize, log_images};
+ghost use Rattle.spec_image.specs.Common.{log_start};
+ghost use Rattle.spec_image.specs.declared.put.Put.{Put};
 
 use crate::change_set::place_of;
 use crate::{LogError, MAX_PUTS};
 use arrayvec::ArrayVec;
 use blockdisk::{Disk, Fault};
-use meaning::Put;
-use meaning::layout::{HOME_COPIES, LOG_HEADER, LOG_START, log_images, table_start};
+use spec_image::Put;
+use spec_image::layout::{HOME_COPIES, LOG_HEADER, LOG_START, log_images, table_start};
 use words36::{BLOCK_WORDS, Block, Word};
 
 /// The first word of a log's header: LOG in SIXBIT.

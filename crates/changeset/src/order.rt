@@ -1,20 +1,19 @@
 ghost use Rattle.std.specs.Prelude.{ℕ, ◌≡◌, ◌⊎◌, ◌<◌, ◌≤◌, ◌↔◌, [], OnOk, IsErrOf, Some, length, replicate};
 ghost use Rattle.std.specs.List.{AllByRecursion};
-ghost use Rattle.blockdisk.specs.Disk.{MayLeave, Near, Modifies, Still, NoneOpen, SameDisk, SameOutside, LeavesOnly};
-ghost use Rattle.blockdisk.specs.Disk.{one_more};
+ghost use Rattle.blockdisk.specs.Common.{MayLeave, Near, Modifies, Still, NoneOpen, SameDisk, SameOutside};
+ghost use Rattle.blockdisk.specs.Common.{LeavesOnly, one_more};
 ghost use Rattle.blockdisk.specs.declared.fault.Fault.TheVariants.{Device, Damaged};
-ghost use Rattle.changeset.specs.Crashes.{IsGate, IsGateOrLog, IsShut, SettlesAs, AllOrNone, ArePending};
-ghost use Rattle.changeset.specs.Puts.{IsPutIn, AreDistinct};
+ghost use Rattle.changeset.specs.Common.{IsGate, IsGateOrLog, IsShut, SettlesAs, AllOrNone, ArePending, IsPutIn};
+ghost use Rattle.changeset.specs.Common.{AreDistinct};
 ghost use Rattle.changeset.specs.declared.error.LogError.TheVariants.{Device as Failed, TooMany, BadLog};
-ghost use Rattle.meaning.specs.Log.{IsTarget, targets, with_puts};
-ghost use Rattle.meaning.specs.Regions.{IsVolumeSize, log_images};
+ghost use Rattle.spec_image.specs.Common.{IsTarget, targets, with_puts, IsVolumeSize, log_images};
 
 use crate::gate::{close_gate, open_gate};
 use crate::log::write_log;
 use crate::{ChangeSet, LogError};
 use blockdisk::{Disk, Fault};
-use meaning::Put;
-use meaning::layout::log_images;
+use spec_image::Put;
+use spec_image::layout::log_images;
 
 /// Makes all the puts of a set, or none, and waits until they are on the disk. A set of no puts is one sync.
 ///

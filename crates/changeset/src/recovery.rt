@@ -1,13 +1,12 @@
-ghost use Rattle.std.specs.Prelude.{ℕ, List, [], Ok, true, false, ◌≡◌, ◌⊎◌, ◌<◌, ◌≤◌, IfOk, OnOk, IsErrOf, Some, None, IfSome, IfNone};
+ghost use Rattle.std.specs.Prelude.{ℕ, List, [], Ok, true, false, ◌≡◌, ◌⊎◌, ◌<◌, ◌≤◌, IfOk, OnOk, IsErrOf, Some};
+ghost use Rattle.std.specs.Prelude.{None, IfSome, IfNone};
 ghost use Rattle.std.specs.List.{AllByRecursion};
-ghost use Rattle.blockdisk.specs.Disk.{MayLeave, Still, NoneOpen, SameDisk, LeavesOnly, one_more};
-ghost use Rattle.changeset.specs.Crashes.{SettlesLike, SettlesLikeBefore, IsLost, ArePending, IsRecovered, SyncsFirst};
-ghost use Rattle.changeset.specs.Reads.{OnlyReads};
-ghost use Rattle.changeset.specs.Puts.{AreDistinct};
+ghost use Rattle.blockdisk.specs.Common.{MayLeave, Still, NoneOpen, SameDisk, LeavesOnly, one_more};
+ghost use Rattle.changeset.specs.Common.{SettlesLike, SettlesLikeBefore, IsLost, ArePending, IsRecovered, SyncsFirst};
+ghost use Rattle.changeset.specs.Common.{OnlyReads, AreDistinct};
 ghost use Rattle.changeset.specs.declared.error.LogError.TheVariants.{Device, TooMany, BadLog};
-ghost use Rattle.meaning.specs.Log.{IsGateOpen, IsTarget, targets};
-ghost use Rattle.meaning.specs.Regions.{IsVolumeSize};
-ghost use Rattle.meaning.specs.declared.put.Put.{Put};
+ghost use Rattle.spec_image.specs.Common.{IsGateOpen, IsTarget, targets, IsVolumeSize};
+ghost use Rattle.spec_image.specs.declared.put.Put.{Put};
 
 use crate::gate::has_open_words;
 use crate::log::read_log;
@@ -15,8 +14,8 @@ use crate::order::redo;
 use crate::{LogError, MAX_PUTS};
 use arrayvec::ArrayVec;
 use blockdisk::Disk;
-use meaning::Put;
-use meaning::layout::is_volume_size;
+use spec_image::Put;
+use spec_image::layout::is_volume_size;
 
 /// Makes the puts of a log whose gate a crash left open, and closes the gate. It may be stopped itself at
 /// any moment, and a second recovery changes nothing. On a disk that is no volume it only syncs.

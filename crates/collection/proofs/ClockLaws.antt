@@ -1,6 +1,6 @@
 -- Days and seconds of the calendar that moments have.
-use Rattle.std.proofs.Common.{◌≡◌, ℕ, ◌^◌, ◌≤◌, ◌<◌, arith, rules, ap, sym, ◌∙◌}
-use Rattle.std.proofs.Common.{ℤ, pos, neg_ℤ, ◌*ℤ◌, ◌<ℤ◌, unsigned_abs, int_div, of_z, to_z, w64}
+use Rattle.std.proofs.Common.{◌≡◌, ℕ, ◌^◌, ◌≤◌, ◌<◌, arith, rules, ap, sym, ◌∙◌, ℤ, pos, neg_ℤ, ◌*ℤ◌, ◌<ℤ◌}
+use Rattle.std.proofs.Common.{unsigned_abs, int_div, of_z, to_z, w64}
 use Rattle.std.specs.Int.{w128}
 use Rattle.jiff_core.specs.declared.civil.date.Date.{Date}
 use Rattle.jiff_core.specs.declared.civil.datetime.DateTime.{DateTime}
@@ -13,8 +13,8 @@ use Rattle.jiff_core.proofs.CalendarLemmas.{days_from_civil-day_count, day_count
 use Rattle.jiff_core.proofs.CalendarLemmas.{day_count-min, day_count-end, days_in_year_bounds, day_count-day_of_year}
 use Rattle.jiff_core.proofs.DateLemmas.{civil}
 use Rattle.jiff_core.proofs.DateTimeLemmas.{civil_nanos-civil_seconds, civil_nanos-parts, time_nanos_bound}
-use Rattle.words36.specs.Dates.{IsDate, date_number}
-use Rattle.collection.specs.Clock.{IsDayAt, IsShownAt}
+use Rattle.words36.specs.Common.{IsDate, date_number}
+use Rattle.collection.specs.Common.{IsDayAt, IsShownAt}
 
 -- A day that has a number has the year, the month and the day that the number says.
 parts_same : (number year month day : ℕ) (wanted : Date) → IsDate year month day

@@ -1,10 +1,10 @@
 -- How far things are done that are done one after the other.
-use Rattle.std.proofs.Common.{◌≡◌, ℕ, ◌+◌, ◌<◌, ◌≤◌, List, ◌∷◌, Option, Result, Ok, Err, refl, sym, ◌∙◌, ap}
-use Rattle.std.proofs.Common.{subst, drop, length, get_or, map}
+use Rattle.std.proofs.Common.{◌≡◌, ℕ, ◌+◌, ◌<◌, ◌≤◌, List, ◌∷◌, Option, Result, Ok, Err, refl, sym, ◌∙◌, ap, subst}
+use Rattle.std.proofs.Common.{drop, length, get_or, map}
 use Rattle.std.proofs.lemmas.List.{drop_more, drop_all, length-map}
 use Rattle.commands.specs.declared.answer.Tally.{Tally}
 use Rattle.commands.specs.declared.error.SessionError.{SessionError}
-use Rattle.collection.specs.Each.{EachDone, added, none_counted}
+use Rattle.collection.specs.Common.{EachDone, added, none_counted}
 
 module _ {X S : Type 0} (step : X → Option (List ℕ) → Option (List ℕ) → S → S → Result Tally SessionError → Type 0)
     (xs : List X) (sink : Option (List ℕ)) (old : S) where
@@ -37,10 +37,6 @@ module _ {X S : Type 0} (step : X → Option (List ℕ) → Option (List ℕ) �
   done_all n tally middle now h p = p middle now (Ok tally)
       (subst (λ (l : List X). EachDone step l tally middle middle now now (Ok tally)) (sym (drop_all n xs h))
       (refl, refl, refl))
-
--- places of a list are those of what its things are seen as
-pub within_map : {A X : Type 0} (f : A → X) (xs : List A) (n : ℕ) → n < length xs → n < length (map f xs)
-within_map f xs n h = subst (λ k. n < k) (sym (length-map xs f)) h
 
 pub past_map : {A X : Type 0} (f : A → X) (xs : List A) (n : ℕ) → length xs ≤ n → length (map f xs) ≤ n
 past_map f xs n h = subst (λ k. k ≤ n) (sym (length-map xs f)) h

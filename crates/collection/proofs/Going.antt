@@ -1,23 +1,20 @@
 -- What a service did for one thing after the other is what it did for all of them.
 use Rattle.std.proofs.Common.{◌≡◌, ℕ, List, [], ◌∷◌, ◌++◌, Option, Result, Ok, Err, inl, inr, sym, subst}
-use Rattle.meaning.specs.Plans.{Say}
-use Rattle.meaning.specs.Texts.{silent}
-use Rattle.meaning.specs.declared.call.Reply.{Reply}
-use Rattle.meaning.specs.declared.entry.Entry.{Entry}
-use Rattle.commands.specs.Machines.{AlwaysStands, GoesBy, Machine}
+use Rattle.spec_language.specs.Common.{Say, silent}
+use Rattle.spec_machine.specs.declared.call.Reply.{Reply}
+use Rattle.spec_image.specs.declared.entry.Entry.{Entry}
+use Rattle.commands.specs.Common.{AlwaysStands, GoesBy, Machine, machine_of}
 use Rattle.commands.specs.declared.answer.Tally.{Tally}
 use Rattle.commands.specs.declared.error.SessionError.{SessionError}
-use Rattle.blockdisk.specs.Disk.{DiskState}
-use Rattle.monitor.specs.States.{MonitorState}
-use Rattle.monitor.proofs.EventCrashes.{state_stands}
-use Rattle.commands.specs.Monitors.{machine_of}
+use Rattle.blockdisk.specs.Common.{DiskState}
+use Rattle.monitor.specs.Common.{MonitorState}
+use Rattle.monitor.proofs.Events.EventCrashes.{state_stands}
 use Rattle.commands.proofs.GoingLaws.{goes_nowhere, goes_on}
-use Rattle.collection.specs.Each.{EachDone, Goes, added}
-use Rattle.collection.specs.Exporting as exporting
-use Rattle.collection.specs.HostFacts.{FileFacts}
-use Rattle.collection.specs.Importing as importing
+use Rattle.collection.specs.Common.{EachDone, Goes, added, FileFacts}
 use Rattle.collection.specs.declared.task.ExportTask.{ExportTask}
 use Rattle.collection.specs.declared.task.ImportTask.{ImportTask}
+use Rattle.collection.specs.Exporting as exporting
+use Rattle.collection.specs.Importing as importing
 
 -- whatever the disk of a monitor is, what a crash leaves stands for its files
 pub monitors_stand : {D : Type 0} (state : D → DiskState)

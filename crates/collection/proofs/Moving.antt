@@ -1,26 +1,21 @@
 -- What is the same of a file by other names of its parts.
-use Rattle.std.proofs.Common.{◌≡◌, ℕ, Bool, false, List, Option, Result, Ok, Err, codes, inl, inr, refl, subst, sym, ◌⊎◌}
-use Rattle.meaning.specs.Plans.{Plan}
-use Rattle.meaning.specs.declared.encoding.Encoding.{Encoding}
-use Rattle.meaning.specs.declared.entry.Entry.{Entry}
-use Rattle.commands.specs.Importing.{Imported}
-use Rattle.commands.specs.Machines.{Machine}
+use Rattle.std.proofs.Common.{◌≡◌, ℕ, Bool, false, List, Option, Result, Ok, Err, codes, inl, inr, refl, subst, sym}
+use Rattle.std.proofs.Common.{◌⊎◌}
+use Rattle.spec_language.specs.Common.{Plan, is_broken, owner_text, refusal}
+use Rattle.spec_language.specs.declared.encoding.Encoding.{Encoding}
+use Rattle.spec_image.specs.declared.entry.Entry.{Entry}
+use Rattle.commands.specs.Common.{Imported, Machine, HasEntries}
 use Rattle.commands.specs.declared.answer.Tally.{Tally}
 use Rattle.commands.specs.declared.error.SessionError.{SessionError}
 use Rattle.commands.specs.declared.error.SessionError.TheVariants.{NoMemory}
 use Rattle.std.specs.declared.io.Error.{Error}
-use Rattle.collection.specs.Exporting.{AreEntriesDone, IsTakenOut}
-use Rattle.collection.specs.Importing.{AreDoneWith, GoesOn}
-use Rattle.collection.specs.Lines.{IsRefusedLine}
+use Rattle.collection.specs.Common.{AreEntriesDone, IsTakenOut, AreDoneWith, GoesOn, IsRefusedLine, folder_of}
+use Rattle.collection.specs.Common.{FileFacts}
 use Rattle.collection.specs.declared.task.ImportTask.{ImportTask}
-use Rattle.meaning.specs.Texts.{is_broken, owner_text, refusal}
-use Rattle.meaning.specs.declared.call.Reply.TheVariants.{Refused}
-use Rattle.collection.specs.Naming.{folder_of}
+use Rattle.spec_machine.specs.declared.call.Reply.TheVariants.{Refused}
 use Rattle.collection.specs.declared.task.ExportTask.{ExportTask}
-use Rattle.commands.specs.Exporting.{HasEntries}
 use Rattle.words36.specs.declared.moment.Moment.{Moment}
-use Rattle.meaning.specs.declared.call.Reply.{Reply}
-use Rattle.collection.specs.HostFacts.{FileFacts}
+use Rattle.spec_machine.specs.declared.call.Reply.{Reply}
 
 pub imported_as : {S : Type 0} (machine : S → Machine) (sink full : Option (List ℕ)) (old new : S) (encoding : Encoding)
     (label other bytes more : List ℕ) (plan : Option (List ℕ) → Plan) (result : Result Tally SessionError)

@@ -1,12 +1,13 @@
 -- Names by their parts.
-use Rattle.std.proofs.Common.{◌≡◌, ◌<◌, ◌≤◌, ◌-◌, ◌++◌, ap, drop, nat_eq, arith, ℕ, zero, suc, Bool, true, false, List, [], ◌∷◌, length, map, flat_map, refl, sym}
-use Rattle.std.proofs.Common.{Option, Some, None, Result, Ok, Err, IfOk, IfNone, inl, inr, ◌∙◌, subst}
+use Rattle.std.proofs.Common.{◌≡◌, ◌<◌, ◌≤◌, ◌-◌, ◌++◌, ap, drop, nat_eq, arith, ℕ, zero, suc, Bool, true, false}
+use Rattle.std.proofs.Common.{List, [], ◌∷◌, length, map, flat_map, refl, sym, Option, Some, None, Result, Ok, Err}
+use Rattle.std.proofs.Common.{IfOk, IfNone, inl, inr, ◌∙◌, subst}
 use Rattle.std.proofs.lemmas.List.{append-nil, append_assoc, drop_all}
 use Rattle.words36.specs.declared.names.FileName.{FileName}
-use Rattle.meaning.specs.Lines.{upper}
-use Rattle.meaning.specs.Spellings.{is_letter}
-use Rattle.commands.specs.Files.{IsFileName}
-use Rattle.collection.specs.Naming.{IsNameFor, IsOwnText, IsShortText, dotted, escaped, extended, plain}
+use Rattle.spec_language.specs.Common.{upper, is_letter}
+use Rattle.commands.specs.Common.{IsFileName}
+use Rattle.collection.specs.Common.{IsNameFor, IsOwnText, IsShortText, dotted, escaped, extended, plain}
+use Rattle.directory.proofs.Finding.{true_false}
 
 -- a letter or a digit for which there is room
 pub plain_taken : (room b : ℕ) (bytes : List ℕ) → 0 < room → is_letter (upper b) ≡ true
@@ -59,13 +60,10 @@ pub no_name : (shortens : Bool) (path : List ℕ)
 no_name shortens path own short text file (named, inl is) = own text file is named
 no_name shortens path own short text file (named, inr (wanted, is, other)) = short wanted text file is named
 
-pub apart : true ≡ false → ⊥
-apart e = cc
-
 -- a byte that was appended, in upper case
 pub pushed_plain : (old new : List ℕ) (room b c : ℕ) (bytes : List ℕ) → new ≡ old ++ c ∷ [] → c ≡ upper b
     → nat_eq room 0 ≡ false → is_letter c ≡ true → new ++ plain (room - 1) bytes ≡ old ++ plain room (b ∷ bytes)
-pushed_plain old new zero b c bytes pushed is room letter = absurd (apart room)
+pushed_plain old new zero b c bytes pushed is room letter = absurd (true_false room)
 pushed_plain old new (suc room) b c bytes pushed is some letter =
     ap (λ l. l ++ plain (suc room - 1) bytes) pushed ∙ append_assoc old (c ∷ []) (plain (suc room - 1) bytes)
     ∙ ap (λ l. old ++ l) (ap (λ d. d ∷ plain (suc room - 1) bytes) is

@@ -1,14 +1,12 @@
 -- Files of a disk that was surveyed, one after the other.
-use Rattle.std.proofs.Common.{◌≡◌, ◌<◌, ap, arith, sym, subst, zero, suc, ℕ, List, [], ◌∷◌, Option, Result, get_or, inl}
-use Rattle.std.proofs.Common.{inr, length}
+use Rattle.std.proofs.Common.{◌≡◌, ◌<◌, ap, arith, sym, subst, ℕ, List, [], ◌∷◌, Option, Result, inl, inr}
 use Rattle.std.specs.List.{AllByRecursion}
-use Rattle.blockdisk.specs.Disk.{DiskState}
-use Rattle.salvage.specs.Saved.{FitsDisk}
+use Rattle.blockdisk.specs.Common.{DiskState}
+use Rattle.salvage.specs.Common.{FitsDisk}
 use Rattle.salvage.specs.declared.saved.SavedFile.{SavedFile}
 use Rattle.commands.specs.declared.answer.Tally.{Tally}
 use Rattle.commands.specs.declared.error.SessionError.{SessionError}
-use Rattle.collection.specs.HostFacts.{FileFacts}
-use Rattle.collection.specs.Saving.{IsFileDone}
+use Rattle.collection.specs.Common.{FileFacts, IsFileDone}
 use Rattle.collection.specs.declared.task.ExportTask.{ExportTask}
 
 -- the disk keeps its size
@@ -29,9 +27,3 @@ size_stays facts state task file sink full old new result (inr (other, passed)) 
 pub all_fit : (n m : ℕ) (files : List SavedFile) → m ≡ n → AllByRecursion (FitsDisk n) files
     → AllByRecursion (FitsDisk m) files
 all_fit n m files same all = subst (λ size. AllByRecursion (FitsDisk size) files) (sym same) all
-
-pub fits_at : (size : ℕ) (files : List SavedFile) (i : ℕ) (file : SavedFile) → i < length files
-    → file ≡ get_or files i file → AllByRecursion (FitsDisk size) files → FitsDisk size file
-fits_at size [] i file below is all = absurd (omega arith)
-fits_at size (first ∷ files) zero file below is all = subst (FitsDisk size) (sym is) all.0
-fits_at size (first ∷ files) (suc i) file below is all = fits_at size files i file (omega arith) is all.1

@@ -4,7 +4,7 @@ use Rattle.jiff_core.specs.Timestamp.{IsTimestampNanos}
 use Rattle.jiff_core.specs.DateTime.{civil_nanos}
 use Rattle.jiff_core.specs.declared.civil.date.Date.{Date}
 use Rattle.jiff_core.specs.declared.civil.datetime.DateTime.{DateTime}
-use Rattle.words36.specs.Dates.{IsDate, date_number}
+use Rattle.words36.specs.Common.{IsDate, date_number}
 use Rattle.words36.specs.declared.moment.Moment.{Moment}
 
 -- at the beginning of a second, counted from the beginning of 1970, the calendar shows this

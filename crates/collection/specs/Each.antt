@@ -1,7 +1,7 @@
 -- One thing after the other is done, each with a result that is counted, until one ends the run.
 use Rattle.std.specs.Prelude.{◌≡◌, ◌||◌, ℕ, false, List, [], ◌∷◌, Option, None, Result, Ok, Err, MatchResult}
-use Rattle.meaning.specs.Plans.{Act}
-use Rattle.commands.specs.Machines.{GoesBy, Machine}
+use Rattle.spec_language.specs.Common.{Act}
+use Rattle.commands.specs.Common.{GoesBy, Machine}
 use Rattle.commands.specs.declared.answer.Tally.{Tally}
 use Rattle.commands.specs.declared.error.SessionError.{SessionError}
 

@@ -1,17 +1,14 @@
 -- Files of a volume that become files of the host, directory after directory.
-use Rattle.std.specs.Prelude.{◌≡◌, ◌⊎◌, ◌≤◌, ◌++◌, ℕ, true, false, List, Option, Some, None, Result, Ok, Err}
-use Rattle.std.specs.Prelude.{codes}
+use Rattle.std.specs.Prelude.{◌≡◌, ◌⊎◌, ◌≤◌, ◌++◌, ℕ, true, false, List, Option, Some, None, Result, Ok, Err, codes}
 use Rattle.std.specs.declared.alloc.AllocError.{AllocError}
 use Rattle.std.specs.declared.io.Error.{Error}
 use Rattle.words36.specs.declared.moment.Moment.{Moment}
-use Rattle.meaning.specs.Texts.{is_broken, line, refusal}
-use Rattle.meaning.specs.declared.call.Reply.{Reply}
-use Rattle.meaning.specs.declared.encoding.Encoding.{Encoding}
-use Rattle.meaning.specs.declared.encoding.Encoding.TheVariants.{Characters, Octets, Words}
-use Rattle.meaning.specs.declared.entry.Entry.{Entry}
-use Rattle.commands.specs.Errands.{AreAsked}
-use Rattle.commands.specs.Exporting.{HasEntries, HasExported, takes_out}
-use Rattle.commands.specs.Machines.{Machine}
+use Rattle.spec_language.specs.Common.{is_broken, line, refusal}
+use Rattle.spec_machine.specs.declared.call.Reply.{Reply}
+use Rattle.spec_language.specs.declared.encoding.Encoding.{Encoding}
+use Rattle.spec_language.specs.declared.encoding.Encoding.TheVariants.{Characters, Octets, Words}
+use Rattle.spec_image.specs.declared.entry.Entry.{Entry}
+use Rattle.commands.specs.Common.{AreAsked, HasEntries, HasExported, takes_out, Machine}
 use Rattle.commands.specs.declared.answer.Tally.{Tally}
 use Rattle.commands.specs.declared.error.SessionError.{SessionError}
 use Rattle.commands.specs.declared.error.SessionError.TheVariants.{NoMemory}

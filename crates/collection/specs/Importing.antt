@@ -3,19 +3,13 @@ use Rattle.std.specs.Prelude.{◌≡◌, ◌⊎◌, ℕ, true, false, List, Opti
 use Rattle.std.specs.declared.io.Error.{Error}
 use Rattle.words36.specs.declared.moment.Moment.{Moment}
 use Rattle.words36.specs.declared.names.FileName.{FileName}
-use Rattle.meaning.specs.Errands.{enters, is_character, own_file}
-use Rattle.meaning.specs.Plans.{Plan, asks_make_dir, each}
-use Rattle.meaning.specs.Spellings.{Are}
-use Rattle.meaning.specs.Texts.{is_broken, owner_text, refusal}
-use Rattle.meaning.specs.declared.call.Reply.{Reply}
-use Rattle.meaning.specs.declared.call.Reply.TheVariants.{Refused}
-use Rattle.meaning.specs.declared.encoding.Encoding.{Encoding}
-use Rattle.meaning.specs.declared.encoding.Encoding.TheVariants.{Characters, Octets}
-use Rattle.commands.specs.Asking.{Led, followed}
-use Rattle.commands.specs.Errands.{keeps_as}
-use Rattle.commands.specs.Importing.{Imported}
-use Rattle.commands.specs.Machines.{Machine}
-use Rattle.commands.specs.Reasons.{most_bytes}
+use Rattle.spec_language.specs.Common.{enters, is_character, own_file, Plan, asks_make_dir, each, Are, is_broken}
+use Rattle.spec_language.specs.Common.{owner_text, refusal}
+use Rattle.spec_machine.specs.declared.call.Reply.{Reply}
+use Rattle.spec_machine.specs.declared.call.Reply.TheVariants.{Refused}
+use Rattle.spec_language.specs.declared.encoding.Encoding.{Encoding}
+use Rattle.spec_language.specs.declared.encoding.Encoding.TheVariants.{Characters, Octets}
+use Rattle.commands.specs.Common.{Led, followed, keeps_as, Imported, Machine, most_bytes}
 use Rattle.commands.specs.declared.answer.Tally.{Tally}
 use Rattle.commands.specs.declared.error.SessionError.{SessionError}
 use Rattle.commands.specs.declared.existing.Existing.TheVariants.{Refuse}

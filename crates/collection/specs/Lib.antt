@@ -6,3 +6,4 @@ pub mod Lines
 pub mod Importing
 pub mod Exporting
 pub mod Saving
+pub mod Common

@@ -1,13 +1,11 @@
 -- How files of the host and files of a volume are named after each other.
-use Rattle.std.specs.Prelude.{◌≡◌, ◌⊎◌, ◌/◌, ◌%◌, ◌+◌, ◌==◌, ℕ, zero, suc, Bool, true, nat_lt, if◌then◌else◌, List, []}
-use Rattle.std.specs.Prelude.{◌∷◌, ◌++◌, ◌||◌, map, flat_map, Option, Some, None, codes, option_map}
+use Rattle.std.specs.Prelude.{◌≡◌, ◌⊎◌, ◌/◌, ◌%◌, ◌+◌, ◌==◌, ℕ, zero, suc, Bool, true, nat_lt, if◌then◌else◌, List}
+use Rattle.std.specs.Prelude.{[], ◌∷◌, ◌++◌, ◌||◌, map, flat_map, Option, Some, None, codes, option_map}
 use Rattle.std.specs.Path.{path_file_name, path_file_stem, path_extension}
-use Rattle.words36.specs.Sixbit.{characters}
+use Rattle.words36.specs.Common.{characters}
 use Rattle.words36.specs.declared.names.FileName.{FileName}
-use Rattle.meaning.specs.Lines.{upper}
-use Rattle.meaning.specs.Spellings.{is_letter}
-use Rattle.meaning.specs.Texts.{extension_text, owner_text, trimmed}
-use Rattle.commands.specs.Files.{IsFileName}
+use Rattle.spec_language.specs.Common.{upper, is_letter, extension_text, owner_text, trimmed}
+use Rattle.commands.specs.Common.{IsFileName}
 
 -- Which name a file of the host gets.
 

@@ -5,31 +5,32 @@ use Rattle.std.specs.Fmt.{decimal}
 use Rattle.std.specs.List.{AllByRecursion}
 use Rattle.std.specs.declared.alloc.AllocError.{AllocError}
 use Rattle.std.specs.declared.io.Error.{Error}
-use Rattle.blockdisk.specs.Disk.{DiskState, IsWholeBlock, SameDisk, one_more}
-use Rattle.changeset.specs.Reads.{OnlyReads}
-use Rattle.meaning.specs.Retrieval.{HasBody}
-use Rattle.retrieval.specs.Modes.{mode_number}
-use Rattle.commands.specs.Exporting.{IsExport}
+use Rattle.blockdisk.specs.Common.{DiskState, IsWholeBlock, SameDisk, one_more}
+use Rattle.changeset.specs.Common.{OnlyReads}
+use Rattle.spec_image.specs.Common.{HasBody}
+use Rattle.retrieval.specs.Common.{mode_number}
+use Rattle.commands.specs.Common.{IsExport}
 use Rattle.commands.specs.declared.answer.Tally.{Tally}
 use Rattle.commands.specs.declared.error.SessionError.{SessionError}
 use Rattle.commands.specs.declared.error.SessionError.TheVariants.{NoMemory}
 use Rattle.commands.specs.declared.exporting.Exported.{Exported}
 use Rattle.salvage.specs.declared.finding.Cost.{Cost}
-use Rattle.salvage.specs.declared.finding.Cost.TheVariants as cost
 use Rattle.salvage.specs.declared.finding.Finding.{Finding}
 use Rattle.salvage.specs.declared.error.SalvageError.{SalvageError}
-use Rattle.salvage.specs.declared.error.SalvageError.TheVariants as salvage
 use Rattle.salvage.specs.declared.saved.SavedFile.{SavedFile}
 use Rattle.volume.specs.declared.error.VolumeError.{VolumeError}
-use Rattle.volume.specs.declared.error.VolumeError.TheVariants.{NotVolume, BadHome, BadLog, BadDirectory, BadRetrieval}
-use Rattle.volume.specs.declared.error.VolumeError.TheVariants.{BlockTwice, TableWrong, Device, Failed, BadData}
-use Rattle.volume.specs.declared.error.VolumeError.TheVariants as volume
+use Rattle.volume.specs.declared.error.VolumeError.TheVariants.{NotVolume, BadHome, BadLog, BadDirectory}
+use Rattle.volume.specs.declared.error.VolumeError.TheVariants.{BadRetrieval, BlockTwice, TableWrong, Device, Failed}
+use Rattle.volume.specs.declared.error.VolumeError.TheVariants.{BadData}
 use Rattle.collection.specs.Each.{EachDone, added, none_counted}
 use Rattle.collection.specs.Exporting.{IsListed, IsStored}
 use Rattle.collection.specs.HostFacts.{FileFacts}
 use Rattle.collection.specs.Lines.{IsRefusedLine, IsUnnamed}
 use Rattle.collection.specs.Naming.{folder_of, path_of}
 use Rattle.collection.specs.declared.task.ExportTask.{ExportTask}
+use Rattle.salvage.specs.declared.finding.Cost.TheVariants as cost
+use Rattle.salvage.specs.declared.error.SalvageError.TheVariants as salvage
+use Rattle.volume.specs.declared.error.VolumeError.TheVariants as volume
 
 -- the words that were read, as a list
 abbrev pub words_read : {V E : Type 0} → (V → List ℕ) → Result (Option V) E → Result (Option (List ℕ)) E

@@ -1,6 +1,6 @@
 ghost use Rattle.std.specs.Prelude.{◌≡◌, ◌≤◌, ◌+◌, ◌*◌, IfSome, IfNone, ℕ, ℤ, pos, ◌*ℤ◌};
 ghost use Rattle.jiff_core.specs.Timestamp.{IsTimestampNanos};
-ghost use Rattle.collection.specs.Clock.{IsAtSecond, IsDayAt, IsShownAt, IsUndated, at_first};
+ghost use Rattle.collection.specs.Common.{IsAtSecond, IsDayAt, IsShownAt, IsUndated, at_first};
 
 use jiff_core::civil::{Date, DateTime, Time};
 use jiff_core::{Offset, Timestamp};

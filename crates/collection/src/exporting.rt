@@ -1,10 +1,9 @@
 ghost use Rattle.std.specs.Prelude.{◌≡◌};
-ghost use Rattle.monitor.specs.States.{MonitorState};
-ghost use Rattle.commands.specs.Monitors.{machine_of};
-ghost use Rattle.collection.specs.Each.{EachDone, Goes, none_counted};
-ghost use Rattle.collection.specs.Naming.{folder_of as folder_text};
-ghost use Rattle.collection.specs.Exporting.{AreEntriesDone, AreOwnersDone, IsChangeOf, IsEntryDone, IsExportRun};
-ghost use Rattle.collection.specs.Exporting.{IsOwnerDone, IsStored, IsTakenOut, encoding_text};
+ghost use Rattle.monitor.specs.Common.{MonitorState};
+ghost use Rattle.commands.specs.Common.{machine_of};
+ghost use Rattle.collection.specs.Common.{EachDone, Goes, none_counted, folder_of as folder_text, AreEntriesDone};
+ghost use Rattle.collection.specs.Common.{AreOwnersDone, IsChangeOf, IsEntryDone, IsExportRun, IsOwnerDone, IsStored};
+ghost use Rattle.collection.specs.Common.{IsTakenOut, encoding_text};
 
 use crate::clock::first_moment;
 use crate::lines::{added, say, say_path, turn_down};
@@ -15,7 +14,7 @@ use blockdisk::Disk;
 use commands::{
     Encoding, Export, Exported, Monitor, SessionError, Tally, entries, export, is_broken, refusal,
 };
-use meaning::Entry;
+use spec_image::Entry;
 use std::alloc::{AllocError, Global};
 use std::io::Write;
 use words36::{Moment, Ppn};

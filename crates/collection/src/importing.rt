@@ -1,13 +1,11 @@
 ghost use Rattle.std.specs.Prelude.{◌≡◌, ◌⊎◌, ◌<◌, ℕ, List, length, get_or, map, true, IfSome, IfNone, Ok, Err, None};
-ghost use Rattle.meaning.specs.declared.call.Reply.TheVariants.{Refused};
-ghost use Rattle.meaning.specs.Texts.{is_broken, owner_text, refusal};
+ghost use Rattle.spec_machine.specs.declared.call.Reply.TheVariants.{Refused};
+ghost use Rattle.spec_language.specs.Common.{is_broken, owner_text, refusal};
 ghost use Rattle.commands.specs.declared.error.SessionError.TheVariants.{NoMemory};
-ghost use Rattle.collection.specs.Lines.{IsRefusedLine};
-ghost use Rattle.monitor.specs.States.{MonitorState};
-ghost use Rattle.commands.specs.Monitors.{machine_of};
-ghost use Rattle.collection.specs.Each.{Goes};
-ghost use Rattle.collection.specs.Importing.{AreDoneWith, IsDoneWith, IsEncodingFor, IsImportRun, IsMomentFor, IsSourcePut};
-ghost use Rattle.collection.specs.Importing.{most_read};
+ghost use Rattle.collection.specs.Common.{IsRefusedLine, Goes, AreDoneWith, IsDoneWith, IsEncodingFor, IsImportRun};
+ghost use Rattle.collection.specs.Common.{IsMomentFor, IsSourcePut, most_read};
+ghost use Rattle.monitor.specs.Common.{MonitorState};
+ghost use Rattle.commands.specs.Common.{machine_of};
 
 use crate::clock::first_moment;
 use crate::lines::{added, label, turn_down};
@@ -20,7 +18,7 @@ use commands::{
     Encoding, Import, Misfit, Monitor, Reason, SessionError, Tally, encoding_of, import, is_broken,
     make_directory, most_bytes, refusal,
 };
-use meaning::Reply;
+use spec_machine::Reply;
 use std::alloc::Global;
 use std::io::Write;
 use words36::{Moment, Ppn};

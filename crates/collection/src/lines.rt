@@ -1,8 +1,8 @@
 ghost use Rattle.std.specs.Prelude.{◌≡◌, ◌++◌, ◌∷◌, [], OnOk, IfOk};
-ghost use Rattle.meaning.specs.Texts.{line as line_of};
-ghost use Rattle.collection.specs.Each.{added as added_to, none_counted};
-ghost use Rattle.collection.specs.Naming.{shown as shown_text, shown_byte};
-ghost use Rattle.collection.specs.Lines.{IsLineWritten, IsCounted, IsRefusedLine, label_of, refused_tally};
+ghost use Rattle.spec_language.specs.Common.{line as line_of};
+ghost use Rattle.collection.specs.Common.{added as added_to, none_counted, shown_byte, IsLineWritten, IsCounted};
+ghost use Rattle.collection.specs.Common.{IsRefusedLine, label_of, refused_tally};
+ghost use Rattle.collection.specs.Naming.{shown as shown_text};
 
 use commands::{SessionError, Tally, write_text};
 use std::alloc::{AllocError, Global};

@@ -1,9 +1,8 @@
 ghost use Rattle.std.specs.Prelude.{◌≡◌, ◌++◌, ◌∷◌, map, List, ℕ, IfOk, OnOk, IfSome, IfNone, Some, option_map};
-ghost use Rattle.commands.specs.Files.{IsFileName};
-ghost use Rattle.meaning.specs.Lines.{upper as upper_of};
-ghost use Rattle.meaning.specs.Spellings.{is_letter as is_plain};
+ghost use Rattle.commands.specs.Common.{IsFileName};
+ghost use Rattle.spec_language.specs.Common.{upper as upper_of, is_letter as is_plain};
 ghost use Rattle.words36.specs.declared.names.FileName.{FileName as Names};
-ghost use Rattle.collection.specs.Naming.{IsNameFor, IsOwnText, IsShortText, dotted, plain};
+ghost use Rattle.collection.specs.Common.{IsNameFor, IsOwnText, IsShortText, dotted, plain};
 
 use commands::file_named;
 use std::alloc::{AllocError, Global};

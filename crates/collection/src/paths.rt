@@ -1,6 +1,6 @@
 ghost use Rattle.std.specs.Prelude.{◌≡◌, ◌++◌, ◌∷◌, ◌<◌, [], All, IfOk, OnOk, flat_map, string_bytes};
-ghost use Rattle.meaning.specs.Texts.{owner_text};
-ghost use Rattle.collection.specs.Naming.{dotted, escaped, folder_of as folder_text, hexadecimal, host_name};
+ghost use Rattle.spec_language.specs.Common.{owner_text};
+ghost use Rattle.collection.specs.Common.{dotted, escaped, folder_of as folder_text, hexadecimal, host_name};
 ghost use Rattle.collection.specs.Naming.{path_of as path_text};
 
 use crate::naming::is_plain;

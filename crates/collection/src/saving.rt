@@ -1,13 +1,13 @@
 ghost use Rattle.std.specs.Prelude.{◌≡◌, ◌↔◌, IfOk, IsErrOf, IsTrue, length, string_bytes};
 ghost use Rattle.std.specs.List.{AllByRecursion};
-ghost use Rattle.blockdisk.specs.Memory.{memory_state};
-ghost use Rattle.salvage.specs.Saved.{FitsDisk};
-ghost use Rattle.collection.specs.Each.{EachDone, none_counted};
-ghost use Rattle.salvage.specs.declared.finding.Cost.TheVariants as cost;
+ghost use Rattle.blockdisk.specs.Common.{memory_state};
+ghost use Rattle.salvage.specs.Common.{FitsDisk};
+ghost use Rattle.collection.specs.Common.{EachDone, none_counted, AreFilesSaved, IsFileDone, IsFindingDone};
+ghost use Rattle.collection.specs.Common.{IsReadStored, IsSalvageRun, IsSavedAt, IsWanted, IsWantedCost};
+ghost use Rattle.collection.specs.Common.{IsWantedDone, fault_text, head_findings, is_device, path_of_cost};
+ghost use Rattle.collection.specs.Common.{words_read};
 ghost use Rattle.salvage.specs.declared.error.SalvageError.TheVariants.{NotVolume};
-ghost use Rattle.collection.specs.Saving.{AreFilesSaved, IsFileDone, IsFindingDone, IsReadStored, IsSalvageRun};
-ghost use Rattle.collection.specs.Saving.{IsSavedAt, IsWanted, IsWantedCost, IsWantedDone, fault_text, head_findings};
-ghost use Rattle.collection.specs.Saving.{is_device, path_of_cost, words_read};
+ghost use Rattle.salvage.specs.declared.finding.Cost.TheVariants as cost;
 
 use crate::exporting::store;
 use crate::lines::{added, say_path, turn_down};

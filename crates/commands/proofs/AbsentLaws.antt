@@ -1,21 +1,19 @@
 -- Files that must not be there, and what comes before a file is entered.
-use Rattle.std.proofs.Common.{◌≡◌, ℕ, zero, suc, Bool, false, nat_eq, if◌then◌else◌, List, Some, None, Result}
-use Rattle.std.proofs.Common.{refl, sym, ap, subst, arith}
+use Rattle.std.proofs.Common.{◌≡◌, ℕ, zero, suc, Bool, false, nat_eq, if◌then◌else◌, List, Some, None, Result, refl}
+use Rattle.std.proofs.Common.{sym, ap, subst, arith}
 use Rattle.std.proofs.lemmas.Bool.Decides.{nat_tests}
 use Rattle.words36.specs.declared.moment.Moment.{Moment}
-use Rattle.meaning.specs.Errands.{creates, enters, unfit}
-use Rattle.meaning.specs.Plans.{Plan, Ask, Say, calls, each, ends, fails, file_words, ok}
-use Rattle.meaning.specs.Texts.{complains}
-use Rattle.meaning.specs.declared.call.Call.TheVariants.{Lookup}
-use Rattle.meaning.specs.declared.call.Event.{Event}
-use Rattle.meaning.specs.declared.call.Reply.{Reply}
-use Rattle.meaning.specs.declared.call.Reply.TheVariants.{Done, Value, Refused, Stopped, NoChannel, AddressCheck, NoJob}
-use Rattle.meaning.specs.declared.call.Reply.TheVariants.{NoMemory, Device, Failed, DateRange}
-use Rattle.meaning.specs.declared.command.Spec.{Spec}
-use Rattle.meaning.specs.declared.encoding.Encoding.{Encoding}
-use Rattle.commands.specs.Asking.{Led, followed}
-use Rattle.commands.specs.Errands.{absent, if_absent, keeps_as, looks_for, makes_way}
-use Rattle.commands.specs.Machines.{AlwaysStands, IsAnswered, Machine}
+use Rattle.spec_language.specs.Common.{creates, enters, unfit, Plan, Ask, Say, calls, each, ends, fails, file_words}
+use Rattle.spec_language.specs.Common.{ok, complains}
+use Rattle.spec_machine.specs.declared.call.Call.TheVariants.{Lookup}
+use Rattle.spec_machine.specs.declared.call.Event.{Event}
+use Rattle.spec_machine.specs.declared.call.Reply.{Reply}
+use Rattle.spec_machine.specs.declared.call.Reply.TheVariants.{Done, Value, Refused, Stopped, NoChannel, AddressCheck}
+use Rattle.spec_machine.specs.declared.call.Reply.TheVariants.{NoJob, NoMemory, Device, Failed, DateRange}
+use Rattle.spec_language.specs.declared.command.Spec.{Spec}
+use Rattle.spec_language.specs.declared.encoding.Encoding.{Encoding}
+use Rattle.commands.specs.Common.{Led, followed, absent, if_absent, keeps_as, looks_for, makes_way, AlwaysStands}
+use Rattle.commands.specs.Common.{IsAnswered, Machine}
 use Rattle.commands.specs.declared.existing.Existing.{Existing}
 use Rattle.commands.specs.declared.existing.Existing.TheVariants.{Replace, Refuse}
 use Rattle.commands.proofs.LedLaws.{led_asked, led_on}

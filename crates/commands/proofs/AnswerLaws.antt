@@ -3,23 +3,22 @@ use Rattle.std.proofs.Common.{◌≡◌, ◌≢◌, ℕ, ◌||◌, Bool, true, f
 use Rattle.std.proofs.Common.{Some, None, Result, Ok, Err, IfOk, unwrap_or}
 use Rattle.std.specs.Prelude.{codes}
 use Rattle.words36.specs.declared.moment.Moment.{Moment}
-use Rattle.meaning.specs.Texts.{Spoken, complains, refuses, prints, refusal, is_broken, greeting, line, list_text}
-use Rattle.meaning.specs.Texts.{list_said}
-use Rattle.meaning.specs.Plans.{Act, Asks, Looks, Plan, Show, Say, Conducts, begins, fails, ends, ok}
-use Rattle.meaning.specs.Transcripts.{Speaks, core_words}
-use Rattle.meaning.specs.declared.entry.Entry.{Entry}
-use Rattle.meaning.specs.declared.style.Style.{Style}
-use Rattle.meaning.specs.declared.style.Style.TheVariants.{Columns}
-use Rattle.meaning.specs.declared.command.Command.{Command}
-use Rattle.meaning.specs.declared.command.Command.TheVariants.{Login as LoginLine, Directory as DirectoryLine}
-use Rattle.meaning.specs.declared.command.Command.TheVariants.{Copy, Rename, Delete, TypeOut, Protect, MakeDir, Quota}
-use Rattle.meaning.specs.declared.call.Event.TheVariants.{Login, Login as LogsIn}
-use Rattle.meaning.specs.declared.call.Reply.{Reply}
-use Rattle.meaning.specs.declared.call.Reply.TheVariants.{Done, Value, Refused, Stopped, NoChannel, AddressCheck, NoJob}
-use Rattle.meaning.specs.declared.call.Reply.TheVariants.{NoMemory, Device, Failed, DateRange}
-use Rattle.commands.specs.Machines.{Machine, AlwaysStands, IsAnswered, IsListed, GoesBy}
-use Rattle.commands.specs.Asking.{Led, Concludes, HasShown}
-use Rattle.commands.specs.Sessions.{Spoke}
+use Rattle.spec_language.specs.Common.{Spoken, complains, refuses, prints, refusal, is_broken, greeting, line}
+use Rattle.spec_language.specs.Common.{list_text, list_said, Act, Asks, Looks, Plan, Show, Say, Conducts, begins}
+use Rattle.spec_language.specs.Common.{fails, ends, ok, Speaks, core_words}
+use Rattle.spec_image.specs.declared.entry.Entry.{Entry}
+use Rattle.spec_language.specs.declared.style.Style.{Style}
+use Rattle.spec_language.specs.declared.style.Style.TheVariants.{Columns}
+use Rattle.spec_language.specs.declared.command.Command.{Command}
+use Rattle.spec_language.specs.declared.command.Command.TheVariants.{Login as LoginLine, Directory as DirectoryLine}
+use Rattle.spec_language.specs.declared.command.Command.TheVariants.{Copy, Rename, Delete, TypeOut, Protect, MakeDir}
+use Rattle.spec_language.specs.declared.command.Command.TheVariants.{Quota}
+use Rattle.spec_machine.specs.declared.call.Event.TheVariants.{Login, Login as LogsIn}
+use Rattle.spec_machine.specs.declared.call.Reply.{Reply}
+use Rattle.spec_machine.specs.declared.call.Reply.TheVariants.{Done, Value, Refused, Stopped, NoChannel, AddressCheck}
+use Rattle.spec_machine.specs.declared.call.Reply.TheVariants.{NoJob, NoMemory, Device, Failed, DateRange}
+use Rattle.commands.specs.Common.{Machine, AlwaysStands, IsAnswered, IsListed, GoesBy, Led, Concludes, HasShown}
+use Rattle.commands.specs.Common.{Spoke}
 use Rattle.commands.specs.declared.answer.Tally.{Tally}
 use Rattle.commands.proofs.GoingLaws.{goes_nowhere, goes_answered, goes_listed}
 use Rattle.commands.proofs.LedLaws.{led_on}

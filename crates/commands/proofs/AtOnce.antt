@@ -1,26 +1,21 @@
 -- What a monitor does at once is what it does event by event.
-use Rattle.std.proofs.Common.{◌≡◌, ◌+◌, ◌<◌, ℕ, Bool, List, [], ◌∷◌, length, slice_index, Option}
-use Rattle.std.proofs.Common.{None, Some, refl, sym, subst, arith}
+use Rattle.std.proofs.Common.{◌≡◌, ◌+◌, ◌<◌, ℕ, Bool, List, [], ◌∷◌, length, slice_index, Option, None, Some, refl}
+use Rattle.std.proofs.Common.{sym, subst, arith}
 use Rattle.std.specs.Prelude.{IfSome}
-use Rattle.blockdisk.specs.Disk.{DiskState, Contents, MayLeave}
-use Rattle.blockdisk.specs.Laws.{still_start}
-use Rattle.meaning.specs.Plans.{Asks, each, deposits}
-use Rattle.meaning.specs.Runs.{Service, Serving, Broken, Answers}
-use Rattle.meaning.specs.declared.call.Event.{Event}
-use Rattle.meaning.specs.declared.call.Event.TheVariants.{Deposit, Examine}
-use Rattle.meaning.specs.declared.call.Reply.{Reply}
-use Rattle.meaning.specs.declared.call.Reply.TheVariants.{Done, Value, Device}
-use Rattle.volume.specs.Live.{VolumeCore}
-use Rattle.monitor.specs.Deposits.{DepositsBy}
-use Rattle.meaning.specs.Layouts.{pack_of}
-use Rattle.meaning.specs.declared.layout.Layout.{Layout}
-use Rattle.monitor.specs.Serving.{Serves}
-use Rattle.monitor.specs.States.{MonitorState}
+use Rattle.blockdisk.specs.Common.{DiskState, Contents, MayLeave, still_start}
+use Rattle.spec_language.specs.Common.{Asks, each, deposits}
+use Rattle.spec_machine.specs.Common.{Service, Serving, Broken, Answers}
+use Rattle.spec_machine.specs.declared.call.Event.{Event}
+use Rattle.spec_machine.specs.declared.call.Event.TheVariants.{Deposit, Examine}
+use Rattle.spec_machine.specs.declared.call.Reply.{Reply}
+use Rattle.spec_machine.specs.declared.call.Reply.TheVariants.{Done, Value, Device}
+use Rattle.volume.specs.Common.{VolumeCore}
+use Rattle.monitor.specs.Common.{DepositsBy, Serves, MonitorState}
+use Rattle.spec_image.specs.Common.{pack_of}
+use Rattle.spec_image.specs.declared.layout.Layout.{Layout}
 use Rattle.monitor.specs.declared.job.Job.{Job}
-use Rattle.monitor.proofs.EventCrashes.{state_stands, untouched_event}
-use Rattle.commands.specs.Asking.{HasDone}
-use Rattle.commands.specs.Machines.{Machine, AlwaysStands, GoesBy, IsAnswered, KeepsPack, AreShown}
-use Rattle.commands.specs.Monitors.{machine_of}
+use Rattle.monitor.proofs.Events.EventCrashes.{state_stands, untouched_event}
+use Rattle.commands.specs.Common.{HasDone, Machine, AlwaysStands, GoesBy, IsAnswered, KeepsPack, AreShown, machine_of}
 use Rattle.commands.proofs.GoingLaws.{goes_on, goes_answered, goes_nowhere}
 
 module _ {D : Type 0} (state : D → DiskState) (only_now : (disk : D) (contents : Contents) → (state disk).honest

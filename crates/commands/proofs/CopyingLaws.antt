@@ -1,16 +1,15 @@
 -- How a file is copied: its plan, step by step.
-use Rattle.std.proofs.Common.{◌≡◌, ◌≢◌, ℕ, zero, suc, ◌+◌, ◌-◌, ◌/◌, ◌%◌, ◌<◌, ◌≤◌, List, [], ◌∷◌, ◌++◌, refl, sym, ◌∙◌, ap}
-use Rattle.std.proofs.Common.{subst, arith}
+use Rattle.std.proofs.Common.{◌≡◌, ◌≢◌, ℕ, zero, suc, ◌+◌, ◌-◌, ◌/◌, ◌%◌, ◌<◌, ◌≤◌, List, [], ◌∷◌, ◌++◌, refl, sym}
+use Rattle.std.proofs.Common.{◌∙◌, ap, subst, arith}
 use Rattle.words36.specs.declared.moment.Moment.{Moment}
-use Rattle.meaning.specs.Plans.{Plan, each, examines, fails, finds}
-use Rattle.meaning.specs.Plans.{writes, lists, takes, asks_out, calls, copies_runs, copies_blocks}
-use Rattle.meaning.specs.Plans.{copies_last, copies_body, until_end, blocks_said, file_words, blocks_at_once}
-use Rattle.meaning.specs.declared.command.Spec.{Spec}
-use Rattle.meaning.specs.declared.call.Call.TheVariants.{Close}
-use Rattle.meaning.specs.declared.call.Reply.{Reply}
-use Rattle.meaning.specs.declared.call.Event.{Event}
-use Rattle.commands.specs.Asking.{Led}
-use Rattle.commands.specs.Machines.{Machine, AlwaysStands}
+use Rattle.spec_language.specs.Common.{Plan, each, examines, fails, finds, writes, lists, takes, asks_out, calls}
+use Rattle.spec_language.specs.Common.{copies_runs, copies_blocks, copies_last, copies_body, until_end, blocks_said}
+use Rattle.spec_language.specs.Common.{file_words, blocks_at_once}
+use Rattle.spec_language.specs.declared.command.Spec.{Spec}
+use Rattle.spec_machine.specs.declared.call.Call.TheVariants.{Close}
+use Rattle.spec_machine.specs.declared.call.Reply.{Reply}
+use Rattle.spec_machine.specs.declared.call.Event.{Event}
+use Rattle.commands.specs.Common.{Led, Machine, AlwaysStands}
 use Rattle.commands.proofs.LedLaws.{led_on, led_still, each_append}
 
 one_less : (m i : ℕ) → i < m → m - i ≡ suc (m - (i + 1))

@@ -1,14 +1,13 @@
 -- What is found in the text of a day.
-use Rattle.std.proofs.Common.{◌≡◌, ℕ, ◌+◌, ◌-◌, ◌<◌, ◌≤◌, ◌==◌, true, List, ◌∷◌, length}
-use Rattle.std.proofs.Common.{get_or, refl, sym, ◌∙◌, ap, subst, arith, map, inl, inr, zero, suc, if◌then◌else◌}
-use Rattle.std.proofs.Common.{Option, Some, None, IfNone, Result, Ok, Err, IsOk, is_some, is_ok, false}
+use Rattle.std.proofs.Common.{◌≡◌, ℕ, ◌+◌, ◌-◌, ◌<◌, ◌≤◌, ◌==◌, true, List, ◌∷◌, length, get_or, refl, sym, ◌∙◌, ap}
+use Rattle.std.proofs.Common.{subst, arith, map, inl, inr, zero, suc, if◌then◌else◌, Option, Some, None, IfNone}
+use Rattle.std.proofs.Common.{Result, Ok, Err, IsOk, is_some, is_ok, false}
 use Rattle.std.specs.Char.{to_ascii_lowercase}
-use Rattle.words36.specs.Dates.{IsDate}
-use Rattle.meaning.specs.Texts.{month_text}
-use Rattle.meaning.proofs.SpellingLaws.{stretch, same_tail}
-use Rattle.commands.specs.Characters.{is_other_than}
-use Rattle.commands.specs.DayTexts.{IsMonthName, IsAtHyphen, IsHyphened}
-use Rattle.commands.specs.DayTexts.{AreDayParts, IsDayText}
+use Rattle.words36.specs.Common.{IsDate}
+use Rattle.spec_language.specs.Common.{month_text}
+use Rattle.spec_language.proofs.Common.{stretch}
+use Rattle.spec_image.proofs.Common.{same_tail}
+use Rattle.commands.specs.Common.{is_other_than, IsMonthName, IsAtHyphen, IsHyphened, AreDayParts, IsDayText}
 use Rattle.commands.proofs.DecimalLaws.{decimal_value}
 use Rattle.commands.proofs.MadeLaws.{AreParted}
 

@@ -1,6 +1,6 @@
 -- Some days, and their numbers.
 use Rattle.std.proofs.Common.{inl, inr, refl, codes, arith}
-use Rattle.commands.specs.DayTexts.{IsDayText}
+use Rattle.commands.specs.Common.{IsDayText}
 
 last_of_layout_1 : IsDayText (codes "1975-01-04") 4095
 last_of_layout_1 = record {

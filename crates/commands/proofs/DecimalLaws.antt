@@ -4,8 +4,8 @@ use Rattle.std.proofs.Common.{refl, sym, ◌∙◌, ap, subst, arith}
 use Rattle.std.proofs.Math.Nat.{pow-succ', mul-le-mul_right, mul_assoc, pow-le-pow_right}
 use Rattle.std.proofs.lemmas.List.{take_more, take_all, length-take}
 use Rattle.std.proofs.lemmas.Bool.Decides.{nat_tests}
-use Rattle.meaning.specs.Spellings.{Are, is_digit, decimal_after, IsBlockCount}
-use Rattle.commands.specs.DayTexts.{IsDecimal}
+use Rattle.spec_language.specs.Common.{Are, is_digit, decimal_after, IsBlockCount}
+use Rattle.commands.specs.Common.{IsDecimal}
 use Rattle.commands.proofs.FieldLaws.{are_more, are_at}
 
 digit : (c : ℕ) → 48 ≤ c → c ≤ 57 → is_digit c ≡ true

@@ -1,26 +1,20 @@
 -- What is left of a service and of a writer where a job logs in for one thing.
-use Rattle.std.proofs.Common.{◌≡◌, ◌⊎◌, ℕ, ◌||◌, Bool, true, false, List, [], Option, None, Some, Result, Ok, Err, refl}
-use Rattle.std.proofs.Common.{sym, ◌∙◌, ap, subst, inl, inr, IfOk, ℤ, ◌≤◌, length, arith}
+use Rattle.std.proofs.Common.{◌≡◌, ◌⊎◌, ℕ, ◌||◌, Bool, true, false, List, [], Option, None, Some, Result, Ok, Err}
+use Rattle.std.proofs.Common.{refl, sym, ◌∙◌, ap, subst, inl, inr, IfOk, ℤ, ◌≤◌, length, arith}
 use Rattle.std.specs.Prelude.{IsErrOf}
 use Rattle.std.specs.Io.KnownBytes.{Appends, Consumes, IsAtEnd}
 use Rattle.std.proofs.KnownBytes.{Appends-nil}
 use Rattle.words36.specs.declared.moment.Moment.{Moment}
-use Rattle.meaning.specs.Errands.{AreWords, surveys, volume_line}
-use Rattle.meaning.specs.Jobs.{State}
-use Rattle.meaning.specs.Plans.{Act, Plan, Say}
-use Rattle.meaning.specs.Room.{room as room_in}
-use Rattle.meaning.specs.Runs.{Serving}
-use Rattle.meaning.specs.Texts.{Spoken, complains, refuses, refusal, is_broken, line}
-use Rattle.meaning.specs.declared.style.Style.{Style}
-use Rattle.meaning.specs.declared.call.Reply.{Reply}
-use Rattle.meaning.specs.declared.call.Reply.TheVariants.{NoMemory as NoMemoryReply, Failed}
-use Rattle.meaning.specs.declared.encoding.Encoding.{Encoding}
-use Rattle.commands.specs.Asking.{Led, Concludes}
-use Rattle.commands.specs.Errands.{fresh, Carries, Performs, Errand, IsUnread, Delivery, Checked, TellsMisfit, no_room}
-use Rattle.commands.specs.Machines.{Machine, AlwaysStands}
-use Rattle.commands.specs.Reasons.{HasWords, IsInputReason, words_said, most_bytes, IsTooLong, BeginsNoFile}
-use Rattle.commands.specs.Sessions.{WritesText}
-use Rattle.commands.specs.Streams.{spoken}
+use Rattle.spec_language.specs.Common.{AreWords, surveys, volume_line, Act, Plan, Say, Spoken, complains, refuses}
+use Rattle.spec_language.specs.Common.{refusal, is_broken, line}
+use Rattle.spec_machine.specs.Common.{State, room as room_in, Serving}
+use Rattle.spec_language.specs.declared.style.Style.{Style}
+use Rattle.spec_machine.specs.declared.call.Reply.{Reply}
+use Rattle.spec_machine.specs.declared.call.Reply.TheVariants.{NoMemory as NoMemoryReply, Failed}
+use Rattle.spec_language.specs.declared.encoding.Encoding.{Encoding}
+use Rattle.commands.specs.Common.{Led, Concludes, fresh, Carries, Performs, Errand, IsUnread, Delivery, Checked}
+use Rattle.commands.specs.Common.{TellsMisfit, no_room, Machine, AlwaysStands, HasWords, IsInputReason, words_said}
+use Rattle.commands.specs.Common.{most_bytes, IsTooLong, BeginsNoFile, WritesText, spoken}
 use Rattle.commands.specs.declared.answer.Tally.{Tally}
 use Rattle.commands.specs.declared.error.SessionError.{SessionError}
 use Rattle.commands.specs.declared.reason.Misfit.{Misfit}

@@ -1,12 +1,11 @@
 -- How many words an input has, and which inputs are too long.
 use Rattle.std.proofs.Common.{◌≡◌, ◌↔◌, ◌+◌, ◌*◌, ◌<◌, ◌≤◌, ℕ, List, [], ◌∷◌, length, Some, ap, sym, ◌∙◌, arith}
-use Rattle.words36.specs.Ascii.{packed}
-use Rattle.words36.specs.Octets.{octets_packed}
-use Rattle.meaning.specs.Errands.{AreWords}
-use Rattle.meaning.specs.Outputs.{longest}
-use Rattle.meaning.specs.declared.encoding.Encoding.{Encoding}
-use Rattle.meaning.specs.declared.encoding.Encoding.TheVariants.{Characters, Words, Octets}
-use Rattle.commands.specs.Reasons.{IsTooLong}
+use Rattle.words36.specs.Common.{packed, octets_packed}
+use Rattle.spec_language.specs.Common.{AreWords}
+use Rattle.spec_machine.specs.Common.{longest}
+use Rattle.spec_language.specs.declared.encoding.Encoding.{Encoding}
+use Rattle.spec_language.specs.declared.encoding.Encoding.TheVariants.{Characters, Words, Octets}
+use Rattle.commands.specs.Common.{IsTooLong}
 use Rattle.commands.proofs.WordLaws.{length-words}
 
 length-packed : (text : List ℕ) → (length text ≤ 5 * length (packed text))

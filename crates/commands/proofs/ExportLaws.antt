@@ -2,29 +2,23 @@
 use Rattle.std.proofs.Common.{◌≡◌, ℕ, List, [], ◌∷◌, ◌++◌, All, Option, Some, None, Result, Ok, Err, IfOk, refl, sym}
 use Rattle.std.proofs.Common.{ap, subst, inl, inr, ◌+◌}
 use Rattle.std.specs.Prelude.{flat_map, MatchResult}
-use Rattle.words36.specs.Blocks.{word_bytes}
-use Rattle.words36.specs.Octets.{IsOctet}
-use Rattle.words36.specs.Words.{IsWord}
+use Rattle.words36.specs.Common.{word_bytes, IsOctet, IsWord}
 use Rattle.words36.specs.declared.moment.Moment.{Moment}
-use Rattle.meaning.specs.Errands.{AreWords, operator}
-use Rattle.meaning.specs.Plans.{Act, Asks, Looks, Plan, Show, Say, Leads, blocks_said, calls, each, ends, examines}
-use Rattle.meaning.specs.Plans.{fails}
-use Rattle.meaning.specs.Plans.{file_words, finds, lists, reads_file, types_body, until_end}
-use Rattle.meaning.specs.Texts.{Spoken, file_said, prints, refuses}
-use Rattle.meaning.specs.Transcripts.{core_words}
-use Rattle.meaning.specs.declared.call.Call.TheVariants.{Reset}
-use Rattle.meaning.specs.declared.call.Event.{Event}
-use Rattle.meaning.specs.declared.call.Event.TheVariants.{Login}
-use Rattle.meaning.specs.declared.call.Reply.{Reply}
-use Rattle.meaning.specs.declared.call.Reply.TheVariants.{Done}
-use Rattle.meaning.specs.declared.command.Spec.{Spec}
-use Rattle.meaning.specs.declared.encoding.Encoding.{Encoding}
-use Rattle.meaning.specs.declared.encoding.Encoding.TheVariants.{Words}
-use Rattle.meaning.specs.declared.entry.Entry.{Entry}
-use Rattle.commands.specs.Asking.{AreTyped, HasTyped, Led}
-use Rattle.commands.specs.Exporting.{Exports, HasBytes, HasEntries, HasExported, HasWordsRead, IsExport}
-use Rattle.commands.specs.Exporting.{ComesBack, IsFirstFor, SaysWords, asks_for, entries_answered}
-use Rattle.commands.specs.Machines.{AlwaysStands, IsAnswered, IsListed, Machine}
+use Rattle.spec_language.specs.Common.{AreWords, operator, Act, Asks, Looks, Plan, Show, Say, Leads, blocks_said}
+use Rattle.spec_language.specs.Common.{calls, each, ends, examines, fails, file_words, finds, lists, reads_file}
+use Rattle.spec_language.specs.Common.{types_body, until_end, Spoken, file_said, prints, refuses, core_words}
+use Rattle.spec_machine.specs.declared.call.Call.TheVariants.{Reset}
+use Rattle.spec_machine.specs.declared.call.Event.{Event}
+use Rattle.spec_machine.specs.declared.call.Event.TheVariants.{Login}
+use Rattle.spec_machine.specs.declared.call.Reply.{Reply}
+use Rattle.spec_machine.specs.declared.call.Reply.TheVariants.{Done}
+use Rattle.spec_language.specs.declared.command.Spec.{Spec}
+use Rattle.spec_language.specs.declared.encoding.Encoding.{Encoding}
+use Rattle.spec_language.specs.declared.encoding.Encoding.TheVariants.{Words}
+use Rattle.spec_image.specs.declared.entry.Entry.{Entry}
+use Rattle.commands.specs.Common.{AreTyped, HasTyped, Led, Exports, HasBytes, HasEntries, HasExported, HasWordsRead}
+use Rattle.commands.specs.Common.{IsExport, ComesBack, IsFirstFor, SaysWords, asks_for, entries_answered}
+use Rattle.commands.specs.Common.{AlwaysStands, IsAnswered, IsListed, Machine}
 use Rattle.commands.specs.declared.exporting.Exported.{Exported}
 use Rattle.commands.specs.declared.exporting.Exported.TheVariants.{File, Refused, NotBytes}
 use Rattle.commands.specs.declared.typing.Target.TheVariants.{List as ListTarget}

@@ -1,14 +1,14 @@
 -- How the fields of a text are found.
-use Rattle.std.proofs.Common.{◌≡◌, ◌≢◌, ℕ, ◌+◌, ◌<◌, nat_eq, not, Bool, true, false, List, [], ◌∷◌, ◌++◌, length, take}
-use Rattle.std.proofs.Common.{drop, get_or, refl, sym, ◌∙◌, ap, subst, arith, eq-eqb, append-nil, inl, inr, zero, suc}
+use Rattle.std.proofs.Common.{◌≡◌, ◌≢◌, ℕ, ◌+◌, ◌<◌, nat_eq, not, Bool, true, false, List, [], ◌∷◌, ◌++◌, length}
+use Rattle.std.proofs.Common.{take, drop, get_or, refl, sym, ◌∙◌, ap, subst, arith, eq-eqb, append-nil, inl, inr}
+use Rattle.std.proofs.Common.{zero, suc}
 use Rattle.std.proofs.Math.Seq.{drop-cons}
 use Rattle.std.proofs.lemmas.List.{take_more, take-append-drop, drop_all}
 use Rattle.std.specs.Prelude.{◌==◌}
 use Rattle.std.proofs.lemmas.Bool.{eqb-true, cases_lt}
-use Rattle.meaning.specs.Spellings.{is_space, is_visible, Are, IsField, AreFields}
-use Rattle.commands.specs.Orders.{Begins}
-use Rattle.meaning.proofs.SpellingLaws.{Stops, stretch, are_append}
-use Rattle.commands.specs.Characters.{is_other_than}
+use Rattle.spec_language.specs.Common.{is_space, is_visible, Are, IsField, AreFields}
+use Rattle.commands.specs.Common.{Begins, is_other_than}
+use Rattle.spec_language.proofs.Common.{Stops, stretch, are_append}
 
 -- Characters of a kind, one after the other, up to one of another.
 
@@ -115,7 +115,7 @@ both_none : (xs ys : List ℕ) → xs ++ ys ≡ [] → (xs ≡ []) × (ys ≡ []
 both_none [] ys e = (refl, e)
 both_none (x ∷ xs) ys e = cc
 
-not_blank : (b : Bool) → not b ≡ true → b ≡ false
+pub not_blank : (b : Bool) → not b ≡ true → b ≡ false
 not_blank true e = let wrong = e in cc
 not_blank false e = refl
 

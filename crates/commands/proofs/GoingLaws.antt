@@ -1,15 +1,15 @@
 -- Acts that follow one another.
 use Rattle.std.proofs.Common.{◌≡◌, ℕ, List, [], ◌∷◌, ◌++◌, refl, subst, ◌∙◌, Result}
-use Rattle.blockdisk.specs.Laws.{still_start, still_on}
-use Rattle.meaning.specs.Jobs.{State}
-use Rattle.meaning.specs.Room.{Pack}
-use Rattle.meaning.specs.Runs.{Service, Serving, Broken, Answers, Lists}
-use Rattle.meaning.specs.Plans.{Act, Asks, Looks}
-use Rattle.meaning.specs.Transcripts.{Went}
-use Rattle.meaning.specs.declared.entry.Entry.{Entry}
-use Rattle.meaning.specs.declared.call.Reply.{Reply}
-use Rattle.meaning.specs.declared.call.Event.{Event}
-use Rattle.commands.specs.Machines.{Machine, IsAnswered, IsListed, AlwaysStands, ActsBy, GoesBy, KeepsPack, CountsFailures}
+use Rattle.blockdisk.specs.Common.{still_start, still_on}
+use Rattle.spec_machine.specs.Common.{State, Service, Serving, Broken, Answers, Lists}
+use Rattle.spec_image.specs.Common.{Pack}
+use Rattle.spec_language.specs.Common.{Act, Asks, Looks, Went}
+use Rattle.spec_image.specs.declared.entry.Entry.{Entry}
+use Rattle.spec_machine.specs.declared.call.Reply.{Reply}
+use Rattle.spec_machine.specs.declared.call.Event.{Event}
+use Rattle.commands.specs.Common.{Machine, IsAnswered, IsListed, AlwaysStands, ActsBy, GoesBy, KeepsPack}
+use Rattle.commands.specs.Common.{CountsFailures}
+use Rattle.spec_language.proofs.Common.{went_broken}
 
 went-append : (pack : Pack) (first : Service) (acts more : List Act) (mid last : Service) → Went pack first acts mid
     → Went pack mid more last → Went pack first (acts ++ more) last
@@ -22,15 +22,7 @@ went_apart pack first [] more last p = (first, refl, p)
 went_apart pack first (act ∷ acts) more last p = let rest = went_apart pack p.0 acts more last p.2 in
     (rest.0, (p.0, p.1, rest.1), rest.2)
 
--- after a fault each act tells of it
-went_broken : (pack : Pack) (acts : List Act) (last : Service) → Went pack Broken acts last → last ≡ Broken
-went_broken pack [] last p = p
-went_broken pack (Asks event reply ∷ acts) last (Broken, answers, rest) = went_broken pack acts last rest
-went_broken pack (Asks event reply ∷ acts) last (Serving s, answers, rest) = absurd answers
-went_broken pack (Looks owner answer ∷ acts) last (mid, lists, rest) = went_broken pack acts last
-    (subst (λ (s : Service). Went pack s acts last) lists.1 rest)
-
-served_apart : (s : State) → Serving s ≡ Broken → ⊥
+pub served_apart : (s : State) → Serving s ≡ Broken → ⊥
 served_apart s e = cc
 
 -- The failures of acts are those of the first ones, and of the ones after these.

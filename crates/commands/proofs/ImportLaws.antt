@@ -1,16 +1,11 @@
 -- Plans behind a label, and files that are made of bytes in memory.
-use Rattle.std.proofs.Common.{◌≡◌, ◌≤◌, ℕ, List, [], ◌∷◌, ◌++◌, Option, Result, Ok, Err, IfOk, length, refl, ap}
-use Rattle.std.proofs.Common.{inl, inr, subst, sym}
+use Rattle.std.proofs.Common.{◌≡◌, ◌≤◌, ℕ, List, [], ◌∷◌, ◌++◌, Option, Result, Ok, Err, IfOk, length, refl, ap, inl}
+use Rattle.std.proofs.Common.{inr, subst, sym}
 use Rattle.std.proofs.KnownBytes.{Appends-nil}
-use Rattle.meaning.specs.Errands.{AreWords}
-use Rattle.meaning.specs.Plans.{Act, Asks, Looks, Plan, Ask, Show, Say, Leads, Conducts}
-use Rattle.meaning.specs.Texts.{Spoken}
-use Rattle.meaning.specs.declared.encoding.Encoding.{Encoding}
-use Rattle.commands.specs.Asking.{Concludes}
-use Rattle.commands.specs.Errands.{Errand, Performs, TellsMisfit, no_room}
-use Rattle.commands.specs.Importing.{Imported, labels, said_behind}
-use Rattle.commands.specs.Machines.{AlwaysStands, Machine}
-use Rattle.commands.specs.Reasons.{IsTooLong, most_bytes}
+use Rattle.spec_language.specs.Common.{AreWords, Act, Asks, Looks, Plan, Ask, Show, Say, Leads, Conducts, Spoken}
+use Rattle.spec_language.specs.declared.encoding.Encoding.{Encoding}
+use Rattle.commands.specs.Common.{Concludes, Errand, Performs, TellsMisfit, no_room, Imported, labels, said_behind}
+use Rattle.commands.specs.Common.{AlwaysStands, Machine, IsTooLong, most_bytes}
 use Rattle.commands.specs.declared.answer.Tally.{Tally}
 use Rattle.commands.specs.declared.error.SessionError.{SessionError}
 use Rattle.commands.specs.declared.error.SessionError.TheVariants.{NoMemory}

@@ -1,11 +1,10 @@
 -- Inputs that are read piece by piece, and where that stops.
-use Rattle.std.proofs.Common.{◌⊎◌, ◌<◌, ◌≤◌, ℕ, Bool, List, [], ◌∷◌, ◌++◌, Some, None, subst, inl, inr}
-use Rattle.std.proofs.Common.{append-nil, arith}
-use Rattle.meaning.specs.Errands.{is_character, AreWords}
-use Rattle.meaning.specs.Spellings.{Are}
-use Rattle.meaning.specs.declared.encoding.Encoding.{Encoding}
-use Rattle.meaning.specs.declared.encoding.Encoding.TheVariants.{Characters, Words, Octets}
-use Rattle.commands.specs.Reasons.{BeginsNoFile}
+use Rattle.std.proofs.Common.{◌⊎◌, ◌<◌, ◌≤◌, ℕ, Bool, List, [], ◌∷◌, ◌++◌, Some, None, subst, inl, inr, append-nil}
+use Rattle.std.proofs.Common.{arith}
+use Rattle.spec_language.specs.Common.{is_character, AreWords, Are}
+use Rattle.spec_language.specs.declared.encoding.Encoding.{Encoding}
+use Rattle.spec_language.specs.declared.encoding.Encoding.TheVariants.{Characters, Words, Octets}
+use Rattle.commands.specs.Common.{BeginsNoFile}
 
 are_front : (is : ℕ → Bool) (xs ys : List ℕ) → Are is (xs ++ ys) → Are is xs
 are_front is [] ys a = tt

@@ -1,34 +1,26 @@
 -- What is found in a line that gives a quota: QUOTA [p,n] N.
-use Rattle.std.proofs.Common.{◌≡◌, ◌≢◌, ℕ, ◌<◌, nat_eq, not, Bool, true, false, List, [], ◌∷◌, ◌++◌, length, refl, sym, ◌∙◌, ap, subst}
-use Rattle.std.proofs.Common.{Option, Some, None, IfSome, IfNone, arith}
+use Rattle.std.proofs.Common.{◌≡◌, ◌≢◌, ℕ, ◌<◌, nat_eq, not, Bool, true, false, List, [], ◌∷◌, ◌++◌, length, refl}
+use Rattle.std.proofs.Common.{sym, ◌∙◌, ap, subst, Option, Some, None, IfSome, IfNone, arith}
 use Rattle.std.specs.Prelude.{◌==◌, codes}
 use Rattle.std.specs.Cmp.Lexicographic.{pointwise}
 use Rattle.std.proofs.lemmas.Bool.{eqb-true}
-use Rattle.meaning.specs.Spellings.{is_space, is_visible, Are, IsBracketed, IsBlockCount}
-use Rattle.meaning.specs.Commands.{IsLimit, IsCommand}
-use Rattle.meaning.specs.declared.command.Command.TheVariants.{Quota}
-use Rattle.meaning.proofs.SpellingLaws.{Stops, stretch, bracketed_other, differs, same_head, same_tail, none_all}
-use Rattle.commands.specs.Characters.{is_other_than}
-use Rattle.commands.specs.Orders.{IsBehind}
-use Rattle.commands.proofs.FieldLaws.{IsSplit, not_same, one_gap}
+use Rattle.spec_language.specs.Common.{is_space, is_visible, Are, IsBracketed, IsBlockCount, IsLimit, IsCommand}
+use Rattle.spec_language.specs.declared.command.Command.TheVariants.{Quota}
+use Rattle.spec_language.proofs.Common.{Stops, stretch, bracketed_other, differs, none_all}
+use Rattle.spec_image.proofs.Common.{same_head, same_tail}
+use Rattle.commands.specs.Common.{is_other_than, IsBehind}
+use Rattle.commands.proofs.FieldLaws.{IsSplit, not_same, one_gap, not_blank}
 use Rattle.commands.proofs.MadeLaws.{AreParted}
 use Rattle.commands.proofs.SayingLaws.{differ, agree}
+use Rattle.spec_machine.proofs.Common.{not_false}
 
 -- Two texts that were compared.
 
-no_more : (b : Bool) → not b ≡ true → b ≡ false
-no_more true e = cc
-no_more false e = refl
-
-no_less : (b : Bool) → not b ≡ false → b ≡ true
-no_less true e = refl
-no_less false e = cc
-
 pub unlike : (xs ys : List ℕ) (t : Bool) → t ≡ not (pointwise nat_eq xs ys) → t ≡ true → xs ≢ ys
-unlike xs ys t e f = differ xs ys ys (pointwise nat_eq xs ys) refl refl (no_more (pointwise nat_eq xs ys) (sym e ∙ f))
+unlike xs ys t e f = differ xs ys ys (pointwise nat_eq xs ys) refl refl (not_blank (pointwise nat_eq xs ys) (sym e ∙ f))
 
 pub alike : (xs ys : List ℕ) (t : Bool) → t ≡ not (pointwise nat_eq xs ys) → t ≡ false → xs ≡ ys
-alike xs ys t e f = agree xs ys ys (pointwise nat_eq xs ys) refl refl (no_less (pointwise nat_eq xs ys) (sym e ∙ f))
+alike xs ys t e f = agree xs ys ys (pointwise nat_eq xs ys) refl refl (not_false (pointwise nat_eq xs ys) (sym e ∙ f))
 
 -- A word, spaces, and what follows them.
 
@@ -81,7 +73,7 @@ same_behind text word rest other visible a b =
 -- [p,n] N
 
 a_space : (c : ℕ) → is_other_than 32 c ≡ false → c ≡ 32
-a_space c e = eqb-true c 32 (no_less (c == 32) e)
+a_space c e = eqb-true c 32 (not_false (c == 32) e)
 
 pub limit_is : (text front back digits : List ℕ) (space p n : ℕ) → AreParted 32 text front back
     → back ≡ space ∷ digits → IsBracketed front p → IsBlockCount digits n → IsLimit text p n

@@ -2,8 +2,8 @@
 use Rattle.std.proofs.Common.{◌≡◌, ◌≢◌, ℕ, ◌<◌, ◌≤◌, ◌==◌, Bool, true, false, cond, List, [], ◌∷◌, ◌++◌, length, map}
 use Rattle.std.proofs.Common.{refl, sym, ◌∙◌, ap, arith}
 use Rattle.std.proofs.lemmas.Bool.Decides.{nat_tests}
-use Rattle.meaning.specs.Lines.{Line, TooLong, without_return, line_of, fitting, upper}
-use Rattle.commands.specs.PartialLines.{KeepsLine, text_line}
+use Rattle.spec_language.specs.Common.{Line, TooLong, without_return, line_of, fitting, upper}
+use Rattle.commands.specs.Common.{KeepsLine, text_line}
 
 -- A return in the place of the last byte.
 

@@ -3,11 +3,12 @@ use Rattle.std.proofs.Common.{◌≡◌, ℕ, ◌^◌, ◌<◌, ◌≤◌, List,
 use Rattle.std.proofs.Common.{subst, Option, Some, None, IfNone, arith}
 use Rattle.std.proofs.Math.Nat.{pow-le-pow_right}
 use Rattle.std.proofs.lemmas.List.{take-append-drop}
-use Rattle.meaning.specs.Spellings.{Are, IsNumber, IsSmall, IsBracketed, IsSpec}
-use Rattle.meaning.specs.Commands.{IsAngled, IsProtection, IsProtected, IsNewDirectory}
-use Rattle.meaning.specs.declared.command.Spec.{Spec}
-use Rattle.meaning.proofs.SpellingLaws.{Stops, stretch, bracketed_other, spec_other, same_but_last, same_tail}
-use Rattle.commands.specs.Characters.{is_other_than}
+use Rattle.spec_language.specs.Common.{Are, IsNumber, IsSmall, IsBracketed, IsSpec, IsAngled, IsProtection}
+use Rattle.spec_language.specs.Common.{IsProtected, IsNewDirectory}
+use Rattle.spec_language.specs.declared.command.Spec.{Spec}
+use Rattle.spec_language.proofs.Common.{Stops, stretch, bracketed_other, spec_other, same_but_last}
+use Rattle.spec_image.proofs.Common.{same_tail}
+use Rattle.commands.specs.Common.{is_other_than}
 use Rattle.commands.proofs.FieldLaws.{mark_stops}
 use Rattle.commands.proofs.NumberLaws.{below_power}
 

@@ -1,12 +1,11 @@
 -- Names of files, in the case in which they are given.
 use Rattle.std.proofs.Common.{◌≡◌, ℕ, ◌+◌, ◌<◌, ◌≤◌, nat_lt, if◌then◌else◌, Bool, true, false, List, [], ◌∷◌, length}
-use Rattle.std.proofs.Common.{map, Option, Some, None, IfNone, inl, inr}
-use Rattle.std.proofs.Common.{refl, ◌∙◌, ap, arith}
+use Rattle.std.proofs.Common.{map, Option, Some, None, IfNone, inl, inr, refl, ◌∙◌, ap, arith}
 use Rattle.std.proofs.lemmas.List.{length-map, length-append}
 use Rattle.std.proofs.lemmas.Bool.Decides.{nat_tests}
-use Rattle.meaning.specs.Lines.{Line, Bytes, TooLong, fitting, line_of, upper}
-use Rattle.meaning.specs.Spellings.{IsExtension, IsPair, IsBracketed}
-use Rattle.commands.specs.Files.{IsFileName, IsOwnerName}
+use Rattle.spec_language.specs.Common.{Line, Bytes, TooLong, fitting, line_of, upper, IsExtension, IsPair}
+use Rattle.spec_language.specs.Common.{IsBracketed}
+use Rattle.commands.specs.Common.{IsFileName, IsOwnerName}
 
 bytes_in : Line → List ℕ → List ℕ
 bytes_in (Bytes text) other = text

@@ -1,84 +1,46 @@
 -- A file that job 1 puts if there is none of its name: the name is looked up, and the file is put from where that
 -- leaves the job.
 use Rattle.std.proofs.Common.{◌≡◌, ◌≢◌, ◌⊎◌, inl, inr, ⊎_elim, ℕ, ◌+◌, ◌*◌, ◌^◌, ◌<◌, ◌||◌, Bool, true, false}
-use Rattle.std.proofs.Common.{if◌then◌else◌, List, [], ◌∷◌, ◌++◌, length, replicate, Option, Some, None, refl, sym, ap}
-use Rattle.std.proofs.Common.{subst, ◌∙◌, arith, zero, suc, nat_eq}
+use Rattle.std.proofs.Common.{if◌then◌else◌, List, [], ◌∷◌, ◌++◌, length, Option, Some, None, refl, sym, ap, subst}
+use Rattle.std.proofs.Common.{◌∙◌, arith, zero, suc, nat_eq}
 use Rattle.std.specs.Prelude.{slice_index, unwrap_or, is_none, is_some, not, ◌==◌, nat_lt}
 use Rattle.std.specs.List.{AllByRecursion}
 use Rattle.std.proofs.Math.ListN.{length-set}
 use Rattle.std.proofs.lemmas.Bool.Decides.{nat_tests}
-use Rattle.std.proofs.lemmas.List.{get_or-set_other, get_or-set_same, length-replicate}
-use Rattle.words36.specs.Words.{join}
+use Rattle.std.proofs.lemmas.List.{get_or-set_other}
+use Rattle.words36.specs.Common.{join}
 use Rattle.words36.specs.declared.moment.Moment.{Moment}
-use Rattle.meaning.specs.Copies.{Comes, HasHalfwordExtension, IsLineRefused, IsPut, made, place_of, put_mode}
-use Rattle.meaning.specs.Cores.{after_writes, first_free, lies_outside, placed, rings_begin, with_right}
-use Rattle.meaning.specs.Errands.{creates, fills_all, parts_of}
-use Rattle.meaning.specs.Files.{File, Place}
-use Rattle.meaning.specs.Jobs.{Channel, Job, State, channel_at, job_at, with_job}
-use Rattle.meaning.specs.Looking.{digit_at, directory_digit_at, has_no_directory, is_absent, lookup, lookup_answer}
-use Rattle.meaning.specs.Looking.{lookup_done}
-use Rattle.meaning.specs.Looking.{place_at}
-use Rattle.meaning.specs.Opening.{disk, dump_mode}
-use Rattle.meaning.specs.Outcomes.{refused_at, settled}
-use Rattle.meaning.specs.Plans.{Plan, Ask, asks_open, asks_out, calls, deposits, each, ends, fails, file_words, names}
-use Rattle.meaning.specs.Plans.{new_words, ok, open_words}
-use Rattle.meaning.specs.Published.{Version, file_at}
-use Rattle.meaning.specs.Rights.{may_look, may_read}
-use Rattle.meaning.specs.Room.{Pack}
-use Rattle.meaning.specs.Runs.{Answers, Broken, Service, Serving, Steps}
-use Rattle.meaning.specs.Sessions.{login_answer, new_job}
-use Rattle.meaning.specs.Step.{call_of, last_date, of_job, on_channel, on_job}
-use Rattle.meaning.specs.Texts.{Spoken}
-use Rattle.meaning.specs.Transcripts.{core_words}
-use Rattle.meaning.specs.declared.call.Call.TheVariants.{Close, Enter, Lookup, Open, Outbuf}
-use Rattle.meaning.specs.declared.call.Event.{Event}
-use Rattle.meaning.specs.declared.call.Event.TheVariants.{Login}
-use Rattle.meaning.specs.declared.call.Reply.{Reply}
-use Rattle.meaning.specs.declared.call.Reply.TheVariants.{AddressCheck, DateRange, Device, Done, Failed, NoChannel}
-use Rattle.meaning.specs.declared.call.Reply.TheVariants.{NoJob, NoMemory, Refused, Stopped, Value}
-use Rattle.meaning.specs.declared.command.Spec.{Spec}
-use Rattle.meaning.specs.declared.encoding.Encoding.{Encoding}
-use Rattle.meaning.specs.declared.encoding.Encoding.TheVariants.{Characters, Octets, Words}
-use Rattle.meaning.proofs.CallRuns.{IsJob, at, at_again, deposits_done, job_there, settled_done, slot_set, with_core}
-use Rattle.meaning.proofs.CopyLaws.{at_home, closes_done, quiet_writes}
-use Rattle.meaning.proofs.CopyRuns.{with_body}
-use Rattle.meaning.proofs.CoreWrites.{spared, writes_length}
-use Rattle.meaning.proofs.EnterRuns.{side}
-use Rattle.meaning.proofs.FillLaws.{PutsWords, parts_done, words_done}
-use Rattle.meaning.proofs.OpenRuns.{at_own, job_core, job_open, naming, open_channel, opening, opens_done, place_named}
-use Rattle.meaning.proofs.OpenRuns.{with_open}
-use Rattle.meaning.proofs.OutcomeLaws.{settled_by}
-use Rattle.meaning.proofs.PlanRuns.{AllDone, IsQuiet, answered_files, asked, each_done, failed, one_done, quiet_files}
-use Rattle.meaning.proofs.PlanRuns.{split_done}
-use Rattle.meaning.proofs.PutRuns.{PutsCharacters, characters_begun, characters_done, opening_words, ring_channel}
-use Rattle.meaning.proofs.PutRuns.{words_begun}
-use Rattle.meaning.proofs.RingRuns.{no_last}
-use Rattle.meaning.proofs.SizeRuns.{quiet_deposits}
-use Rattle.meaning.proofs.SlotLaws.{all_append}
-use Rattle.commands.specs.Errands.{absent, if_absent, keeps_new, looks_for}
-use Rattle.commands.specs.Outcomes.{IsFree}
+use Rattle.spec_language.specs.Common.{Comes, HasHalfwordExtension, IsLineRefused, IsPut, made, place_of, put_mode}
+use Rattle.spec_language.specs.Common.{creates, fills_all, parts_of, Plan, Ask, asks_open, calls, each, ends, fails}
+use Rattle.spec_language.specs.Common.{file_words, names, ok, open_words, Spoken, core_words}
+use Rattle.spec_machine.specs.Common.{after_writes, first_free, lies_outside, placed, rings_begin, with_right}
+use Rattle.spec_machine.specs.Common.{Channel, Job, State, channel_at, job_at, with_job, digit_at, directory_digit_at}
+use Rattle.spec_machine.specs.Common.{has_no_directory, is_absent, lookup, lookup_answer, lookup_done, place_at, disk}
+use Rattle.spec_machine.specs.Common.{dump_mode, refused_at, settled, may_look, may_read, Answers, Broken, Service}
+use Rattle.spec_machine.specs.Common.{Serving, Steps, new_job, call_of, last_date, of_job, on_channel, on_job}
+use Rattle.spec_image.specs.Common.{File, Place, Version, file_at, Pack}
+use Rattle.spec_machine.specs.declared.call.Call.TheVariants.{Close, Lookup}
+use Rattle.spec_machine.specs.declared.call.Event.{Event}
+use Rattle.spec_machine.specs.declared.call.Event.TheVariants.{Login}
+use Rattle.spec_machine.specs.declared.call.Reply.{Reply}
+use Rattle.spec_machine.specs.declared.call.Reply.TheVariants.{AddressCheck, DateRange, Device, Done, Failed}
+use Rattle.spec_machine.specs.declared.call.Reply.TheVariants.{NoChannel, NoJob, NoMemory, Refused, Stopped, Value}
+use Rattle.spec_language.specs.declared.command.Spec.{Spec}
+use Rattle.spec_language.specs.declared.encoding.Encoding.{Encoding}
+use Rattle.spec_language.specs.declared.encoding.Encoding.TheVariants.{Characters, Octets, Words}
+use Rattle.spec_language.proofs.Common.{IsJob, at, at_again, deposits_done, job_there, slot_set, with_core, at_home}
+use Rattle.spec_language.proofs.Common.{closes_done, with_body, side, PutsWords, parts_done, words_done, at_own}
+use Rattle.spec_language.proofs.Common.{job_core, job_open, naming, open_channel, opening, opens_done, place_named}
+use Rattle.spec_language.proofs.Common.{with_open, AllDone, answered_files, asked, each_done, failed, one_done}
+use Rattle.spec_language.proofs.Common.{split_done, PutsCharacters, characters_begun, characters_done, ring_channel}
+use Rattle.spec_language.proofs.Common.{words_begun, is_job, ring_base, login_done, quiet_creates}
+use Rattle.spec_machine.proofs.Common.{spared, writes_length, settled_by, IsQuiet, quiet_files, no_last}
+use Rattle.commands.specs.Common.{absent, if_absent, keeps_new, looks_for, IsFree}
 
 -- Job 1 logs in.
 
 abbrev logged : State → ℕ → State
 logged s me = with_job s 1 (new_job me core_words)
-
-login_done : (pack : Pack) (s : State) (me : ℕ) (t : State) → Steps pack s (Login 1 me core_words) Done t
-    → t ≡ logged s me
-login_done pack s me t (serial, fresh, e) =
-    sym (ap (λ x. x.1) e)
-    ∙ (settled_done {A = State} (login_answer 1 core_words) (logged s me) (λ r. s) (ap (λ x. x.0) e)).1
-
-is_job : (me : ℕ) → IsJob me (new_job me core_words)
-is_job me = record {
-  owner = refl;
-  core = length-set (replicate core_words 0) first_free rings_begin ∙ length-replicate {A = ℕ} core_words 0;
-  channels = refl;
-}
-
-ring_base : (me : ℕ) → slice_index (new_job me core_words).core first_free ≡ rings_begin
-ring_base me = get_or-set_same (replicate core_words 0) first_free rings_begin 0
-    (omega (arith, length-replicate {A = ℕ} core_words 0))
 
 -- What comes before the LOOKUP.
 
@@ -216,16 +178,6 @@ module _ (pack : Pack) (s : State) (j0 : Job) (there : job_at s 1 ≡ Some j0) (
 abbrev put_then : Moment → Encoding → Spec → List ℕ → Plan
 put_then moment encoding spec words = each moment (creates moment encoding spec)
     (fills_all moment encoding words (each moment (calls moment (Close 2 0) ∷ []) (ends moment ok)))
-
-quiet_creates : (moment : Moment) (encoding : Encoding) (spec : Spec)
-    → AllByRecursion IsQuiet (creates moment encoding spec)
-quiet_creates moment Characters spec =
-    let rest : List Event = calls moment (Open 2 open_words) ∷ (names new_words spec 0
-    ++ calls moment (Enter 2 new_words) ∷ calls moment (Outbuf 2 1) ∷ asks_out moment ∷ []) in
-    let quiet : AllByRecursion IsQuiet rest = (tt, (tt, (tt, (tt, (tt, (tt, (tt, (tt, tt)))))))) in
-    all_append IsQuiet (deposits open_words opening_words) rest (quiet_deposits opening_words open_words) quiet
-quiet_creates moment Words spec = quiet_writes moment spec
-quiet_creates moment Octets spec = quiet_writes moment spec
 
 module _ (pack : Pack) (s : State) (j0 : Job) (there : job_at s 1 ≡ Some j0) (moment : Moment) (me : ℕ)
     (spec : Spec) (few : HasHalfwordExtension spec) (words : List ℕ) (said : Spoken) (new : Service) where

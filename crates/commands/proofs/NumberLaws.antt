@@ -4,9 +4,10 @@ use Rattle.std.proofs.Common.{refl, sym, Option, Some, None, IfSome, IfNone, IsS
 use Rattle.std.proofs.Math.Nat.{pow-succ', mul-le-mul_right, mul_assoc, pow-le-pow_right}
 use Rattle.std.proofs.lemmas.List.{take_more, take_all, length-take}
 use Rattle.std.proofs.lemmas.Bool.Decides.{nat_tests}
-use Rattle.words36.specs.Words.{join}
-use Rattle.meaning.specs.Spellings.{is_octal, Are, octal_after, octal, IsNumber, IsSmall, IsPair, IsBracketed}
-use Rattle.meaning.proofs.SpellingLaws.{stretch, are_other, other_than, same_but_last, same_tail}
+use Rattle.words36.specs.Common.{join}
+use Rattle.spec_language.specs.Common.{is_octal, Are, octal_after, octal, IsNumber, IsSmall, IsPair, IsBracketed}
+use Rattle.spec_language.proofs.Common.{stretch, are_other, other_than, same_but_last}
+use Rattle.spec_image.proofs.Common.{same_tail}
 use Rattle.commands.proofs.FieldLaws.{are_more, are_at}
 
 pub is_digit : (c : ℕ) → 48 ≤ c → c ≤ 55 → is_octal c ≡ true

@@ -1,23 +1,17 @@
 -- What a line of a call script is answered with.
-use Rattle.std.proofs.Common.{◌≡◌, ℕ, ◌||◌, Bool, true, false, [], ◌∷◌, List, refl, sym, ◌∙◌, subst, Option, Some, None}
-use Rattle.std.proofs.Common.{Result, IfOk}
+use Rattle.std.proofs.Common.{◌≡◌, ℕ, ◌||◌, true, [], ◌∷◌, List, refl, sym, ◌∙◌, subst, Option, Some, None, Result}
+use Rattle.std.proofs.Common.{IfOk}
 use Rattle.words36.specs.declared.moment.Moment.{Moment}
-use Rattle.meaning.specs.Scripts.{words_given, wrong}
-use Rattle.meaning.specs.Transcripts.{is_success, refused_unless, reports_reply}
-use Rattle.meaning.specs.Texts.{complains, is_broken, line}
-use Rattle.meaning.specs.Plans.{Asks}
-use Rattle.meaning.specs.declared.call.Reply.{Reply}
-use Rattle.meaning.specs.declared.call.Event.{Event}
-use Rattle.commands.specs.Machines.{Machine, AlwaysStands, IsAnswered}
-use Rattle.commands.specs.Sessions.{Replied}
+use Rattle.spec_language.specs.Common.{words_given, wrong, is_success, refused_unless, reports_reply, complains}
+use Rattle.spec_language.specs.Common.{is_broken, line, Asks}
+use Rattle.spec_machine.specs.declared.call.Reply.{Reply}
+use Rattle.spec_machine.specs.declared.call.Event.{Event}
+use Rattle.commands.specs.Common.{Machine, AlwaysStands, IsAnswered, Replied}
 use Rattle.commands.specs.declared.answer.Tally.{Tally}
 use Rattle.commands.specs.declared.run.Heard.TheVariants.{Ordered}
 use Rattle.commands.proofs.GoingLaws.{goes_nowhere, goes_answered}
 use Rattle.commands.proofs.TranscriptLaws.{or-false}
-
-or-true : (b : Bool) → true ≡ b || true
-or-true true = refl
-or-true false = refl
+use Rattle.commands.proofs.AnswerLaws.{or-true}
 
 module _ {V E S : Type 0} (machine : S → Machine) (stands : AlwaysStands machine) (bytes : V
     → List ℕ) (result : Result V E) (moment : Moment) (who : Option ℕ) (tally counted : Tally)

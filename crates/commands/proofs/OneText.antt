@@ -1,28 +1,13 @@
 -- The text of lines is one: those that say nothing stand like lines that are too long.
-use Rattle.std.proofs.Common.{◌≡◌, ℕ, List, [], ◌∷◌, Option, Some, None, refl, sym, ap, subst, ◌∙◌}
+use Rattle.std.proofs.Common.{◌≡◌, ℕ, List, [], ◌∷◌, Option, Some, None, refl, sym, subst, ◌∙◌}
 use Rattle.words36.specs.declared.moment.Moment.{Moment}
-use Rattle.meaning.specs.Lines.{Line, Bytes, TooLong}
-use Rattle.meaning.specs.Commands.{Says, Means}
-use Rattle.meaning.specs.Texts.{Spoken}
-use Rattle.meaning.specs.Plans.{Act}
-use Rattle.meaning.specs.Transcripts.{IsTranscript, Scripts, Served}
-use Rattle.meaning.specs.Room.{Pack}
-use Rattle.meaning.specs.Jobs.{State}
-use Rattle.meaning.specs.declared.command.Command.{Command}
-use Rattle.meaning.proofs.CommandLaws.{same_command}
-use Rattle.meaning.proofs.TranscriptLaws.{one_text, one_script}
-use Rattle.commands.specs.Streams.{IsServedTranscript}
+use Rattle.spec_language.specs.Common.{Line, Bytes, TooLong, Means, Spoken, Act, IsTranscript, Scripts, Served}
+use Rattle.spec_image.specs.Common.{Pack}
+use Rattle.spec_machine.specs.Common.{State}
+use Rattle.spec_language.specs.declared.command.Command.{Command}
+use Rattle.spec_language.proofs.Common.{one_text, one_script, same_means}
+use Rattle.commands.specs.Common.{IsServedTranscript}
 use Rattle.commands.specs.declared.language.Language.TheVariants.{Commands, Events}
-
-same_says : (text : List ℕ) (x y : Option Command) → Says text x → Says text y → x ≡ y
-same_says text None None a b = refl
-same_says text None (Some c) a b = absurd (a c b)
-same_says text (Some c) None a b = absurd (b c a)
-same_says text (Some c) (Some d) a b = ap Some (same_command text c d a b)
-
-pub same_meant : (line : Line) (x y : Option Command) → Means line x → Means line y → x ≡ y
-same_meant (Bytes text) x y a b = same_says text x y a b
-same_meant TooLong x y a b = a ∙ sym b
 
 -- a line, or one that is too long in the place of one that says nothing
 abbrev form : Option Command → Line → Line
@@ -42,7 +27,7 @@ Forms (line ∷ lines) forms = (meant : Option Command) × Means line meant × (
 same_forms : (lines x y : List Line) → Forms lines x → Forms lines y → x ≡ y
 same_forms [] x y a b = a ∙ sym b
 same_forms (line ∷ lines) x y a b =
-    let m = same_meant line a.0 b.0 a.1 b.1 in
+    let m = same_means line a.0 b.0 a.1 b.1 in
     let r = same_forms lines a.2 b.2 a.3 b.3 in
     a.4 ∙ (λ i. form (m i) line ∷ r i) ∙ sym b.4
 

@@ -6,16 +6,15 @@ use Rattle.std.specs.Cmp.Lexicographic.{pointwise}
 use Rattle.std.proofs.lemmas.Bool.{eqb-true, and_parts}
 use Rattle.std.proofs.Math.Nat.{pow-le-pow_right}
 use Rattle.words36.specs.declared.moment.Moment.{Moment}
-use Rattle.meaning.specs.Spellings.{AreFields, IsNumber, IsPair}
-use Rattle.meaning.specs.Scripts.{same_text, calls_of_one, calls_of_two, IsPlace, IsCallText, IsEventText, IsEvent}
-use Rattle.meaning.specs.Scripts.{SaysEvent}
-use Rattle.meaning.specs.declared.call.Call.{Call}
-use Rattle.meaning.specs.declared.call.Call.TheVariants.{Reset}
-use Rattle.meaning.specs.declared.call.Event.{Event}
-use Rattle.meaning.specs.declared.call.Event.TheVariants.{Login, Deposit, Examine, Call as Calls}
-use Rattle.meaning.proofs.SpellingLaws.{same_fields, same_head, same_tail, none_all}
-use Rattle.meaning.proofs.ScriptLaws.{same_event}
-use Rattle.commands.specs.Orders.{Begins, FieldsSay, with_one, with_two}
+use Rattle.spec_language.specs.Common.{AreFields, IsNumber, IsPair, same_text, calls_of_one, calls_of_two, IsPlace}
+use Rattle.spec_language.specs.Common.{IsCallText, IsEventText, IsEvent, SaysEvent}
+use Rattle.spec_machine.specs.declared.call.Call.{Call}
+use Rattle.spec_machine.specs.declared.call.Call.TheVariants.{Reset}
+use Rattle.spec_machine.specs.declared.call.Event.{Event}
+use Rattle.spec_machine.specs.declared.call.Event.TheVariants.{Login, Deposit, Examine, Call as Calls}
+use Rattle.spec_language.proofs.Common.{same_fields, none_all, no_login as no_login_call}
+use Rattle.spec_image.proofs.Common.{same_head, same_tail}
+use Rattle.commands.specs.Common.{Begins, FieldsSay, with_one, with_two}
 use Rattle.commands.proofs.FieldLaws.{no_text, no_bytes}
 use Rattle.commands.proofs.NumberLaws.{below_power}
 
@@ -253,9 +252,6 @@ call_with_one_said f w x moment n m call p q e =
 deposit-login : codes "DEP" ≡ codes "LOGIN" → ⊥
 deposit-login e = let wrong = same_head e in cc
 
-no_login_call : (x y : List ℕ) (call : Call) → IsCallText (codes "LOGIN" ∷ x ∷ y ∷ []) call → ⊥
-no_login_call x y call a = let wrong = a.1 in cc
-
 pub no_login : (f x y : List ℕ) (moment : Moment) → ((p k : ℕ) → IsPair 12 x p → IsPlace y k → ⊥) → (event : Event)
     → IsEventText (f ∷ codes "LOGIN" ∷ x ∷ y ∷ []) moment event → ⊥
 no_login f x y moment none (Login n p k) a =
@@ -303,11 +299,3 @@ pub number_word : (text : List ℕ) (n : ℕ) → IsNumber 12 text n → n < 2 ^
 number_word text n s =
     let p : 8 ^ length text ≤ 8 ^ 12 = pow-le-pow_right (omega arith) s.few in
     omega (arith, below_power 0 text s.digits, p, s.value)
-
--- A text says one event, or none.
-pub one_order : (text : List ℕ) (moment : Moment) (said other : Option Event) → SaysEvent text moment said
-    → SaysEvent text moment other → said ≡ other
-one_order text moment None None a b = refl
-one_order text moment None (Some e) a b = absurd (a e b)
-one_order text moment (Some e) None a b = absurd (b e a)
-one_order text moment (Some e) (Some f) a b = ap Some (same_event text moment e f a b)

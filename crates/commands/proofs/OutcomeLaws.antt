@@ -4,35 +4,21 @@ use Rattle.std.proofs.Common.{None, All, Ok, refl, sym, ap, subst, ◌∙◌}
 use Rattle.std.specs.Prelude.{codes, flat_map, IsTrue}
 use Rattle.std.specs.Io.KnownBytes.{IsAtEnd}
 use Rattle.std.specs.declared.alloc.AllocError.{AllocError}
-use Rattle.words36.specs.Blocks.{word_bytes}
-use Rattle.words36.specs.Words.{IsWord}
+use Rattle.words36.specs.Common.{word_bytes, IsWord}
 use Rattle.words36.specs.declared.moment.Moment.{Moment}
-use Rattle.meaning.specs.Copies.{AreShort, HasFiles, IsLineRefused, IsPrinted, HasHalfwordExtension}
-use Rattle.meaning.specs.Causes.{IsRefusedAt}
-use Rattle.meaning.specs.Errands.{AreWords, gets, keeps, operator, unfit}
-use Rattle.meaning.specs.Files.{Files}
-use Rattle.meaning.specs.Jobs.{State}
-use Rattle.meaning.specs.Plans.{Act, Say, Conducts, ok}
-use Rattle.meaning.specs.Published.{Version}
-use Rattle.meaning.specs.Room.{Pack}
-use Rattle.meaning.specs.Runs.{Service, Serving}
-use Rattle.meaning.specs.Texts.{Spoken, complains, prints, refuses}
-use Rattle.meaning.specs.Transcripts.{Went}
-use Rattle.meaning.specs.declared.call.Reply.{Reply}
-use Rattle.meaning.specs.declared.command.Spec.{Spec}
-use Rattle.meaning.specs.declared.encoding.Encoding.{Encoding}
-use Rattle.meaning.specs.declared.encoding.Encoding.TheVariants.{Words}
-use Rattle.meaning.proofs.CauseLaws.{put_refusals, get_refusals}
-use Rattle.meaning.proofs.ErrandRuns.{puts_are_exact, gets_are_exact}
-use Rattle.meaning.proofs.ToldLaws.{no_reply}
-use Rattle.commands.specs.Machines.{Machine}
-use Rattle.commands.specs.Errands.{keeps_new, no_room}
-use Rattle.commands.specs.Exporting.{Exports, ExportsWords, takes_out}
-use Rattle.commands.specs.Importing.{said_behind}
-use Rattle.commands.specs.Outcomes.{IsStored, IsStoredNew, DeliveriesKeepFiles, DeliveriesMakeFiles, ErrandsShowFiles}
-use Rattle.commands.specs.Outcomes.{AreReadOf, ExportsShowFiles, ImportsMakeFiles, IsExportOf}
-use Rattle.commands.specs.Reasons.{BeginsNoFile}
-use Rattle.commands.specs.Streams.{spoken}
+use Rattle.spec_language.specs.Common.{AreShort, HasFiles, IsLineRefused, IsPrinted, HasHalfwordExtension}
+use Rattle.spec_language.specs.Common.{IsRefusedAt, AreWords, gets, keeps, operator, unfit, Act, Say, Conducts, ok}
+use Rattle.spec_language.specs.Common.{Spoken, complains, prints, refuses, Went}
+use Rattle.spec_image.specs.Common.{Files, Version, Pack}
+use Rattle.spec_machine.specs.Common.{State, Service, Serving}
+use Rattle.spec_machine.specs.declared.call.Reply.{Reply}
+use Rattle.spec_language.specs.declared.command.Spec.{Spec}
+use Rattle.spec_language.specs.declared.encoding.Encoding.{Encoding}
+use Rattle.spec_language.specs.declared.encoding.Encoding.TheVariants.{Words}
+use Rattle.spec_language.proofs.Common.{put_refusals, get_refusals, puts_are_exact, gets_are_exact, no_reply}
+use Rattle.commands.specs.Common.{Machine, keeps_new, no_room, Exports, ExportsWords, takes_out, said_behind}
+use Rattle.commands.specs.Common.{IsStored, IsStoredNew, DeliveriesKeepFiles, DeliveriesMakeFiles, ErrandsShowFiles}
+use Rattle.commands.specs.Common.{AreReadOf, ExportsShowFiles, ImportsMakeFiles, IsExportOf, BeginsNoFile, spoken}
 use Rattle.commands.specs.declared.exporting.Exported.{Exported}
 use Rattle.commands.specs.declared.exporting.Exported.TheVariants.{File, Refused, NotBytes}
 use Rattle.commands.proofs.GoingLaws.{acts_went}

@@ -1,23 +1,22 @@
 -- How a file is put: its plan, step by step.
-use Rattle.std.proofs.Common.{◌≡◌, ℕ, suc, ◌+◌, ◌-◌, ◌<◌, ◌≤◌, List, [], ◌∷◌, Result, refl}
-use Rattle.std.proofs.Common.{sym, ◌∙◌, ap, subst, take, drop, length, get_or, min, arith, Bool, true, false, nat_le}
+use Rattle.std.proofs.Common.{◌≡◌, ℕ, suc, ◌+◌, ◌-◌, ◌<◌, ◌≤◌, List, [], ◌∷◌, Result, refl, sym, ◌∙◌, ap, subst, take}
+use Rattle.std.proofs.Common.{drop, length, get_or, min, arith, Bool, true, false, nat_le}
 use Rattle.std.proofs.lemmas.Bool.Decides.{nat_tests}
 use Rattle.std.proofs.lemmas.List.{drop_more, drop_all, take_all, length-drop}
 use Rattle.words36.specs.declared.moment.Moment.{Moment}
-use Rattle.meaning.specs.Errands.{creates, fills, fills_parts, fills_all, announces, part_address, part_words}
-use Rattle.meaning.specs.Errands.{parts_of}
-use Rattle.meaning.specs.Plans.{Plan, each, fails, deposits, calls}
-use Rattle.meaning.specs.declared.call.Call.TheVariants.{Close}
-use Rattle.meaning.specs.declared.call.Event.{Event}
-use Rattle.meaning.specs.declared.call.Event.TheVariants.{Deposit}
-use Rattle.meaning.specs.declared.call.Reply.{Reply}
-use Rattle.meaning.specs.declared.command.Spec.{Spec}
-use Rattle.meaning.specs.declared.encoding.Encoding.{Encoding}
-use Rattle.meaning.specs.declared.encoding.Encoding.TheVariants.{Characters, Words, Octets}
-use Rattle.commands.specs.Asking.{Led, followed}
-use Rattle.commands.specs.Machines.{Machine, AlwaysStands}
+use Rattle.spec_language.specs.Common.{creates, fills, fills_parts, fills_all, announces, part_address, part_words}
+use Rattle.spec_language.specs.Common.{parts_of, Plan, each, fails, deposits, calls}
+use Rattle.spec_machine.specs.declared.call.Call.TheVariants.{Close}
+use Rattle.spec_machine.specs.declared.call.Event.{Event}
+use Rattle.spec_machine.specs.declared.call.Event.TheVariants.{Deposit}
+use Rattle.spec_machine.specs.declared.call.Reply.{Reply}
+use Rattle.spec_language.specs.declared.command.Spec.{Spec}
+use Rattle.spec_language.specs.declared.encoding.Encoding.{Encoding}
+use Rattle.spec_language.specs.declared.encoding.Encoding.TheVariants.{Characters, Words, Octets}
+use Rattle.commands.specs.Common.{Led, followed, Machine, AlwaysStands}
 use Rattle.commands.proofs.LedLaws.{led_on, led_still}
 use Rattle.commands.proofs.CopyingLaws.{led_first}
+use Rattle.spec_language.proofs.Common.{some_part}
 
 -- Words that are deposited.
 
@@ -89,11 +88,6 @@ no_parts Characters n e = omega arith
 no_parts Words n e = omega arith
 no_parts Octets n e = omega arith
 
-some_words : (encoding : Encoding) → 0 < part_words encoding
-some_words Characters = omega arith
-some_words Words = omega arith
-some_words Octets = omega arith
-
 part_filled : (moment : Moment) (encoding : Encoding) (more : ℕ) (words : List ℕ) (next : Plan)
     → fills_parts moment encoding (suc more) words next
     ≡ each moment (fills moment encoding (take (part_words encoding) words))
@@ -144,7 +138,7 @@ pub rest_shorter : (encoding : Encoding) (words after : List ℕ) → 0 < length
     → after ≡ drop (part_words encoding) words → length after < length words
 rest_shorter encoding words after h e =
     let long : length after ≡ length words - part_words encoding = ap length e ∙ length-drop (part_words encoding) words
-    in omega (arith, some_words encoding)
+    in omega (arith, some_part encoding)
 
 module _ {S : Type 0} (machine : S → Machine) (moment : Moment) (encoding : Encoding) (words : List ℕ) where
   abbrev pub Filled : S → S → List ℕ → Type 0

@@ -1,21 +1,20 @@
 -- Plans that are followed one after the other, and words of a body that are read by them.
 use Rattle.std.proofs.Common.{◌≡◌, ℕ, zero, suc, ◌+◌, ◌-◌, ◌<◌, ◌≤◌, ◌%◌, ◌/◌, ◌*◌, ◌^◌, ◌==◌, if◌then◌else◌, Bool}
-use Rattle.std.proofs.Common.{true, false, List, [], ◌∷◌, ◌++◌, length, take, get_or, replicate, Option, Some}
-use Rattle.std.proofs.Common.{None, Result, Ok, Err, bit_and, refl, sym, ◌∙◌, ap, subst, append_assoc, append-nil}
-use Rattle.std.proofs.Common.{add-one, zero-mul, arith, slice_index}
+use Rattle.std.proofs.Common.{true, false, List, [], ◌∷◌, ◌++◌, length, take, get_or, replicate, Option, Some, None}
+use Rattle.std.proofs.Common.{Result, Ok, Err, bit_and, refl, sym, ◌∙◌, ap, subst, append_assoc, append-nil, add-one}
+use Rattle.std.proofs.Common.{zero-mul, arith, slice_index}
 use Rattle.std.proofs.lemmas.List.{take_all, take-append-le}
 use Rattle.std.proofs.lemmas.Nat.Bits.{and_pow}
-use Rattle.words36.specs.Words.{left}
+use Rattle.words36.specs.Common.{left}
 use Rattle.words36.specs.declared.moment.Moment.{Moment}
-use Rattle.meaning.specs.Plans.{Asks, Plan, Ask, each, fails, deposits, fetches, examines, same_words, takes}
-use Rattle.meaning.specs.Plans.{takes_over, counts, sizes, last_said, says_words, is_end, if_end, until_end}
-use Rattle.meaning.specs.declared.call.Event.TheVariants.{Deposit, Examine}
-use Rattle.meaning.specs.declared.call.Reply.{Reply}
-use Rattle.meaning.specs.declared.call.Reply.TheVariants.{Done, Value, Refused, Stopped, NoChannel, AddressCheck, NoJob}
-use Rattle.meaning.specs.declared.call.Reply.TheVariants.{NoMemory, Device, Failed, DateRange}
-use Rattle.meaning.specs.declared.call.Event.{Event}
-use Rattle.commands.specs.Asking.{Led, followed}
-use Rattle.commands.specs.Machines.{Machine, AlwaysStands, AreShown, IsAnswered}
+use Rattle.spec_language.specs.Common.{Asks, Plan, Ask, each, fails, deposits, fetches, examines, same_words, takes}
+use Rattle.spec_language.specs.Common.{takes_over, counts, sizes, last_said, says_words, is_end, if_end, until_end}
+use Rattle.spec_machine.specs.declared.call.Event.TheVariants.{Deposit, Examine}
+use Rattle.spec_machine.specs.declared.call.Reply.{Reply}
+use Rattle.spec_machine.specs.declared.call.Reply.TheVariants.{Done, Value, Refused, Stopped, NoChannel, AddressCheck}
+use Rattle.spec_machine.specs.declared.call.Reply.TheVariants.{NoJob, NoMemory, Device, Failed, DateRange}
+use Rattle.spec_machine.specs.declared.call.Event.{Event}
+use Rattle.commands.specs.Common.{Led, followed, Machine, AlwaysStands, AreShown, IsAnswered}
 use Rattle.commands.proofs.GoingLaws.{goes_answered}
 use Rattle.commands.proofs.LedLaws.{led_on, led_still, led_told, each_append}
 

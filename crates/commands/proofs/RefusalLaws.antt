@@ -1,15 +1,10 @@
 -- Lines with their numbers, which of them are refused, and what is counted of them.
-use Rattle.std.proofs.Common.{◌≡◌, ℕ, ◌+◌, ◌-◌, ◌^◌, ◌==◌, min, Bool, true, false, cond, List}
-use Rattle.std.proofs.Common.{[], ◌∷◌, ◌++◌, length, map, refl, sym, ◌∙◌, ap, subst, arith, append_assoc, append-nil}
-use Rattle.std.proofs.Common.{inl, inr, Option, Some}
+use Rattle.std.proofs.Common.{◌≡◌, ℕ, ◌+◌, ◌-◌, ◌^◌, ◌==◌, min, Bool, true, false, cond, List, [], ◌∷◌, ◌++◌, length}
+use Rattle.std.proofs.Common.{map, refl, sym, ◌∙◌, ap, subst, arith, append_assoc, append-nil, inl, inr, Option, Some}
 use Rattle.words36.specs.declared.moment.Moment.{Moment}
-use Rattle.meaning.specs.Lines.{Line, without_return, fitting}
-use Rattle.meaning.specs.Plans.{Act}
-use Rattle.meaning.specs.Texts.{Spoken, both_said, silent}
-use Rattle.commands.specs.Languages.{LineSays}
-use Rattle.commands.specs.Reasons.{capped, feeds, numbered_after, numbered, mark, reason_of, counts}
-use Rattle.commands.specs.Sessions.{HeardIn, Hears}
-use Rattle.commands.specs.Streams.{HasNoFeed, AreWholeLines, IsNumberedTranscript}
+use Rattle.spec_language.specs.Common.{Line, without_return, fitting, Act, Spoken, both_said, silent}
+use Rattle.commands.specs.Common.{LineSays, capped, feeds, numbered_after, numbered, mark, reason_of, counts, HeardIn}
+use Rattle.commands.specs.Common.{Hears, HasNoFeed, AreWholeLines, IsNumberedTranscript}
 use Rattle.commands.specs.declared.language.Language.{Language}
 use Rattle.commands.specs.declared.reason.Reason.{Reason}
 use Rattle.commands.specs.declared.reason.Reason.TheVariants.{Lines}

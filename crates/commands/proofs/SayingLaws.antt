@@ -1,20 +1,18 @@
 -- What a text says.
-use Rattle.std.proofs.Common.{◌≡◌, ◌≢◌, ◌<◌, ◌^◌, ℕ, nat_eq, ◌==◌, Bool, true, false, ◌&&◌, List, [], ◌∷◌, Option, Some}
-use Rattle.std.proofs.Common.{None, refl, sym, ◌∙◌, ap, subst}
+use Rattle.std.proofs.Common.{◌≡◌, ◌≢◌, ◌<◌, ◌^◌, ℕ, nat_eq, ◌==◌, Bool, true, false, ◌&&◌, List, [], ◌∷◌, Option}
+use Rattle.std.proofs.Common.{Some, None, refl, sym, ◌∙◌, ap, subst}
 use Rattle.std.specs.Prelude.{codes}
 use Rattle.std.specs.Cmp.Lexicographic.{pointwise}
 use Rattle.std.proofs.lemmas.Bool.{eq-eqb, eqb-true, both_ways, and_parts}
-use Rattle.meaning.specs.Lines.{Line, Bytes, TooLong}
-use Rattle.meaning.specs.Spellings.{AreFields, IsBracketed, IsSpec}
-use Rattle.meaning.specs.Commands.{IsNewDirectory, IsProtected, AreSpecs, IsCommand, Says, Means}
-use Rattle.meaning.specs.declared.command.Spec.{Spec}
-use Rattle.meaning.specs.declared.command.Command.{Command}
-use Rattle.meaning.specs.declared.command.Command.TheVariants.{Login, Directory, Copy, Rename, Delete, TypeOut, Protect}
-use Rattle.meaning.specs.declared.command.Command.TheVariants.{MakeDir, Quota}
-use Rattle.meaning.proofs.CommandLaws.{limit_fields}
-use Rattle.meaning.proofs.SpellingLaws.{differs, same_fields, same_head, same_tail, none_all}
-use Rattle.commands.specs.Fitting.{Fits}
-use Rattle.commands.specs.Sessions.{HeardIn, FitsIn}
+use Rattle.spec_language.specs.Common.{Line, Bytes, TooLong, AreFields, IsBracketed, IsSpec, IsNewDirectory}
+use Rattle.spec_language.specs.Common.{IsProtected, AreSpecs, IsCommand, Says, Means}
+use Rattle.spec_language.specs.declared.command.Spec.{Spec}
+use Rattle.spec_language.specs.declared.command.Command.{Command}
+use Rattle.spec_language.specs.declared.command.Command.TheVariants.{Login, Directory, Copy, Rename, Delete, TypeOut}
+use Rattle.spec_language.specs.declared.command.Command.TheVariants.{Protect, MakeDir, Quota}
+use Rattle.spec_language.proofs.Common.{limit_fields, differs, same_fields, none_all}
+use Rattle.spec_image.proofs.Common.{same_head, same_tail}
+use Rattle.commands.specs.Common.{Fits, HeardIn, FitsIn}
 use Rattle.words36.specs.declared.moment.Moment.{Moment}
 use Rattle.commands.specs.declared.language.Language.{Language}
 use Rattle.commands.specs.declared.run.Heard.{Heard}

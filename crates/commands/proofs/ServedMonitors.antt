@@ -1,18 +1,15 @@
 -- A monitor that goes on serving keeps the pack of its disk.
 use Rattle.std.proofs.Common.{◌≡◌, Bool, List, Option}
-use Rattle.blockdisk.specs.Disk.{DiskState, LeavesOnly}
-use Rattle.meaning.specs.Crashes.{StandsForEither}
-use Rattle.meaning.specs.Jobs.{State}
-use Rattle.meaning.specs.Layouts.{pack_of}
-use Rattle.meaning.specs.Runs.{Service, Serving, Broken, Answers}
-use Rattle.meaning.specs.declared.call.Event.{Event}
-use Rattle.meaning.specs.declared.call.Reply.{Reply}
-use Rattle.volume.specs.Live.{VolumeCore}
-use Rattle.monitor.specs.Serving.{Serves}
+use Rattle.blockdisk.specs.Common.{DiskState, LeavesOnly}
+use Rattle.spec_machine.specs.Common.{StandsForEither, State, Service, Serving, Broken, Answers}
+use Rattle.spec_image.specs.Common.{pack_of}
+use Rattle.spec_machine.specs.declared.call.Event.{Event}
+use Rattle.spec_machine.specs.declared.call.Reply.{Reply}
+use Rattle.volume.specs.Common.{VolumeCore}
+use Rattle.monitor.specs.Common.{Serves}
 use Rattle.monitor.specs.declared.job.Job.{Job}
-use Rattle.monitor.proofs.ServedPacks.{event_keeps_pack}
-use Rattle.commands.specs.Machines.{KeepsPack}
-use Rattle.commands.specs.Monitors.{machine_of}
+use Rattle.monitor.proofs.Shared.ServedPacks.{event_keeps_pack}
+use Rattle.commands.specs.Common.{KeepsPack, machine_of}
 
 pub event_kept : (d d' : DiskState) (map map' : VolumeCore) (failed failed' : Bool) (jobs jobs' : List (Option Job))
     (event : Event) (reply : Reply) (old new : Service) → d'.size ≡ d.size

@@ -1,20 +1,16 @@
 -- A session or a call script, from its first byte to its end.
-use Rattle.std.proofs.Common.{◌≡◌, ◌<◌, ℕ, List, [], ◌∷◌, ◌++◌, length, take, refl, sym, ◌∙◌, ap, subst}
-use Rattle.std.proofs.Common.{append-nil, inl, inr, Option, None, Result, Ok, Err, IfOk, IfErr}
+use Rattle.std.proofs.Common.{◌≡◌, ◌<◌, ℕ, List, [], ◌∷◌, ◌++◌, length, take, refl, sym, ◌∙◌, ap, subst, append-nil}
+use Rattle.std.proofs.Common.{inl, inr, Option, None, Result, Ok, Err, IfOk, IfErr}
 use Rattle.std.specs.Io.KnownBytes.{Appends, Consumes, Keeps, IsAtEnd}
 use Rattle.std.proofs.KnownBytes.{Appends-nil, Appends-trans, Consumes-trans, Consumes-nil, Consumes-kept}
 use Rattle.words36.specs.declared.moment.Moment.{Moment}
-use Rattle.meaning.specs.Lines.{lines}
-use Rattle.meaning.specs.Plans.{Act, Asks, calls}
-use Rattle.meaning.specs.Transcripts.{Went}
-use Rattle.meaning.specs.Room.{Pack}
-use Rattle.meaning.specs.Runs.{Service, Answers}
-use Rattle.meaning.specs.declared.call.Call.TheVariants.{Reset}
-use Rattle.commands.specs.PartialLines.{IsPartialLine}
-use Rattle.commands.specs.Errands.{fresh}
-use Rattle.commands.specs.Machines.{Machine, AlwaysStands, GoesBy}
-use Rattle.commands.specs.Streams.{IsServedTranscript, IsServedSession, IsServedScript, spoken, Finished}
-use Rattle.commands.specs.Sessions.{SoFar, StepsOn, IsBreak, BreaksOff, EndsWell, Ends, Talked, Session, Script}
+use Rattle.spec_language.specs.Common.{lines, Act, Asks, calls, Went}
+use Rattle.spec_image.specs.Common.{Pack}
+use Rattle.spec_machine.specs.Common.{Service, Answers}
+use Rattle.spec_machine.specs.declared.call.Call.TheVariants.{Reset}
+use Rattle.commands.specs.Common.{IsPartialLine, fresh, Machine, AlwaysStands, GoesBy, IsServedTranscript}
+use Rattle.commands.specs.Common.{IsServedSession, IsServedScript, spoken, Finished, SoFar, StepsOn, IsBreak}
+use Rattle.commands.specs.Common.{BreaksOff, EndsWell, Ends, Talked, Session, Script}
 use Rattle.commands.specs.declared.error.SessionError.{SessionError}
 use Rattle.commands.specs.declared.error.SessionError.TheVariants.{Read, Write, NoMemory}
 use Rattle.commands.specs.declared.answer.Tally.{Tally}

@@ -4,13 +4,12 @@ use Rattle.std.proofs.Common.{not, Bool, refl, sym, ◌∙◌, ap, subst, Option
 use Rattle.std.proofs.Common.{suc}
 use Rattle.std.proofs.lemmas.Bool.{eqb-true}
 use Rattle.std.proofs.lemmas.Bool.Decides.{nat_tests}
-use Rattle.words36.specs.Sixbit.{IsSixbitCharacter, IsSixbitText}
-use Rattle.meaning.specs.Spellings.{is_letter, Are, IsName, IsExtension, IsOwner, IsSpec}
-use Rattle.meaning.specs.Commands.{AreSpecs}
-use Rattle.meaning.specs.declared.command.Spec.{Spec}
-use Rattle.meaning.proofs.SpellingLaws.{Stops, stretch, are_append, are_other, spec_other, same_tail}
-use Rattle.commands.specs.Files.{IsFileName}
-use Rattle.commands.specs.Characters.{is_other_than}
+use Rattle.words36.specs.Common.{IsSixbitCharacter, IsSixbitText}
+use Rattle.spec_language.specs.Common.{is_letter, Are, IsName, IsExtension, IsOwner, IsSpec, AreSpecs}
+use Rattle.spec_language.specs.declared.command.Spec.{Spec}
+use Rattle.spec_language.proofs.Common.{Stops, stretch, are_append, are_other, spec_other}
+use Rattle.spec_image.proofs.Common.{same_tail}
+use Rattle.commands.specs.Common.{IsFileName, is_other_than}
 use Rattle.commands.proofs.FieldLaws.{are_at}
 use Rattle.commands.proofs.MadeLaws.{AreParted}
 

@@ -1,8 +1,8 @@
 -- The lines of an input are those of its whole lines, and then those of the rest.
 use Rattle.std.proofs.Common.{◌≡◌, ℕ, ◌==◌, not, Bool, true, false, cond, List, [], ◌∷◌, ◌++◌, refl, sym, ◌∙◌, ap}
 use Rattle.std.proofs.Common.{subst, append_assoc, append-nil, inl, inr}
-use Rattle.meaning.specs.Lines.{Line, without_return, fitting, lines_after, lines}
-use Rattle.commands.specs.Streams.{HasNoFeed, AreWholeLines}
+use Rattle.spec_language.specs.Common.{Line, without_return, fitting, lines_after, lines}
+use Rattle.commands.specs.Common.{HasNoFeed, AreWholeLines}
 
 pub unless : {X : Type 0} (t : Bool) (x y : X) → not t ≡ true → cond t x y ≡ y
 unless true x y e = cc

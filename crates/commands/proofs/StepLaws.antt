@@ -1,28 +1,20 @@
 -- The steps of a session: a byte, a piece, the end.
-use Rattle.std.proofs.Common.{◌≡◌, ◌≢◌, ℕ, ◌+◌, ◌-◌, ◌^◌, ◌<◌, ◌≤◌, ◌||◌, min, List, [], ◌∷◌, ◌++◌, length, take, drop}
-use Rattle.std.proofs.Common.{get_or, refl, sym}
-use Rattle.std.proofs.Common.{◌∙◌, ap, subst, append_assoc, append-nil, inl, inr, Option, None, ◌⊎◌, Result, Ok, Err}
-use Rattle.std.proofs.Common.{IfErr, IfOk, OnOk, Bool}
+use Rattle.std.proofs.Common.{◌≡◌, ◌≢◌, ℕ, ◌+◌, ◌-◌, ◌^◌, ◌<◌, ◌≤◌, ◌||◌, min, List, [], ◌∷◌, ◌++◌, length, take}
+use Rattle.std.proofs.Common.{drop, get_or, refl, sym, ◌∙◌, ap, subst, append_assoc, append-nil, inl, inr, Option}
+use Rattle.std.proofs.Common.{None, ◌⊎◌, Result, Ok, Err, IfErr, IfOk, OnOk, Bool}
 use Rattle.std.proofs.lemmas.List.{take-append-drop, take_more, take_all}
 use Rattle.std.proofs.KnownBytes.{Appends-nil, Appends-trans}
 use Rattle.words36.specs.declared.moment.Moment.{Moment}
-use Rattle.meaning.specs.Lines.{Line, without_return, fitting, lines}
-use Rattle.meaning.specs.Texts.{Spoken, silent}
-use Rattle.meaning.specs.declared.command.Command.{Command}
-use Rattle.meaning.specs.Plans.{Act, Asks, calls}
-use Rattle.meaning.specs.declared.call.Call.TheVariants as played
-use Rattle.meaning.specs.declared.call.Reply.{Reply}
-use Rattle.commands.specs.PartialLines.{IsPartialLine}
-use Rattle.commands.specs.Characters.{is_other_than}
-use Rattle.meaning.specs.declared.call.Call.TheVariants.{Reset}
-use Rattle.meaning.specs.declared.call.Event.{Event}
-use Rattle.meaning.specs.declared.call.Event.TheVariants.{Call as Calls}
-use Rattle.commands.specs.Machines.{Machine, AlwaysStands, IsAnswered}
-use Rattle.commands.specs.Errands.{fresh}
-use Rattle.commands.specs.Reasons.{capped, counts, feeds, mark, numbered}
-use Rattle.commands.specs.Streams.{IsServedTranscript, IsNumberedTranscript, spoken, AreWholeLines}
-use Rattle.commands.specs.Sessions.{HeardIn, Hears, Replied, AddsText, IsFlushed, IsBreak, Told, Closed, SoFar, StepsOn}
-use Rattle.commands.specs.Sessions.{BreaksOff, EndsWell, Spoke}
+use Rattle.spec_language.specs.Common.{Line, without_return, fitting, lines, Spoken, silent, Act, Asks, calls}
+use Rattle.spec_language.specs.declared.command.Command.{Command}
+use Rattle.spec_machine.specs.declared.call.Reply.{Reply}
+use Rattle.commands.specs.Common.{IsPartialLine, is_other_than, Machine, AlwaysStands, IsAnswered, fresh, capped}
+use Rattle.commands.specs.Common.{counts, feeds, mark, numbered, IsServedTranscript, IsNumberedTranscript, spoken}
+use Rattle.commands.specs.Common.{AreWholeLines, HeardIn, Hears, Replied, AddsText, IsFlushed, IsBreak, Told, Closed}
+use Rattle.commands.specs.Common.{SoFar, StepsOn, BreaksOff, EndsWell, Spoke}
+use Rattle.spec_machine.specs.declared.call.Call.TheVariants.{Reset}
+use Rattle.spec_machine.specs.declared.call.Event.{Event}
+use Rattle.spec_machine.specs.declared.call.Event.TheVariants.{Call as Calls}
 use Rattle.commands.specs.declared.error.SessionError.{SessionError}
 use Rattle.commands.specs.declared.error.SessionError.TheVariants.{Read, Write, NoMemory}
 use Rattle.commands.specs.declared.answer.Tally.{Tally}
@@ -32,7 +24,7 @@ use Rattle.commands.specs.declared.language.Language.TheVariants.{Commands, Even
 use Rattle.commands.specs.declared.run.Heard.{Heard}
 use Rattle.commands.specs.declared.run.Heard.TheVariants.{Nothing, Said, Ordered}
 use Rattle.commands.specs.declared.run.Talk.{Talk}
-use Rattle.meaning.proofs.SpellingLaws.{are_append}
+use Rattle.spec_language.proofs.Common.{are_append}
 use Rattle.commands.proofs.FieldLaws.{is_other}
 use Rattle.commands.proofs.GoingLaws.{goes_nowhere, goes_on, goes_answered}
 use Rattle.commands.proofs.RefusalLaws.{with_number, numbered_fed, numbered_ended, feeds_fed, refusals_on}
@@ -40,6 +32,7 @@ use Rattle.commands.proofs.RefusalLaws.{refusals_heard, capped_more, reason_more
 use Rattle.commands.proofs.SplitLaws.{lines_fed, lines_ended}
 use Rattle.commands.proofs.TranscriptLaws.{transcript_on, transcript_heard, heard_line, spoken_more, or-false}
 use Rattle.commands.proofs.WaitingLaws.{adds_flushed, adds_unwritten, said_on, waits_on}
+use Rattle.spec_machine.specs.declared.call.Call.TheVariants as played
 
 -- Steps one after another.
 

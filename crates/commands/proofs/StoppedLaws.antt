@@ -1,24 +1,17 @@
 -- What a crash leaves in the course of acts.
 use Rattle.std.proofs.Common.{◌≡◌, inl, inr, ⊎_elim, ℕ, List, [], ◌∷◌, refl, sym, subst, arith, Result, ◌∙◌}
-use Rattle.blockdisk.specs.Disk.{Contents, DiskState, MayLeave, Still, Passes}
-use Rattle.blockdisk.specs.Laws.{passes_start, passes_on, passes_weaker}
-use Rattle.meaning.specs.Plans.{Act, Asks, Looks}
-use Rattle.meaning.specs.Crashes.{StandsForState, StandsForEither}
-use Rattle.meaning.specs.Jobs.{State}
-use Rattle.meaning.specs.Room.{Pack}
-use Rattle.meaning.specs.Runs.{Service, Serving, Broken, Answers, Lists}
-use Rattle.meaning.specs.Step.{step}
-use Rattle.meaning.specs.declared.call.Event.{Event}
-use Rattle.meaning.specs.declared.call.Reply.{Reply}
-use Rattle.meaning.specs.declared.entry.Entry.{Entry}
-use Rattle.meaning.specs.Published.{without_serials}
-use Rattle.meaning.specs.Layouts.{pack_in, pack_of, StandsOn}
-use Rattle.monitor.specs.Moments.{StandsNow}
-use Rattle.monitor.specs.Runs.{AreStopped}
-use Rattle.monitor.specs.States.{MonitorState}
-use Rattle.monitor.proofs.Along.{stopped_like}
-use Rattle.commands.specs.Monitors.{machine_of}
-use Rattle.commands.specs.Machines.{Machine, ActsBy, IsAlongActs}
+use Rattle.blockdisk.specs.Common.{Contents, DiskState, MayLeave, Still, Passes, passes_start, passes_on}
+use Rattle.blockdisk.specs.Common.{passes_weaker}
+use Rattle.spec_language.specs.Common.{Act, Asks, Looks}
+use Rattle.spec_machine.specs.Common.{StandsForState, StandsForEither, State, Service, Serving, Broken, Answers}
+use Rattle.spec_machine.specs.Common.{Lists, step}
+use Rattle.spec_image.specs.Common.{Pack, without_serials, pack_in, pack_of, StandsOn}
+use Rattle.spec_machine.specs.declared.call.Event.{Event}
+use Rattle.spec_machine.specs.declared.call.Reply.{Reply}
+use Rattle.spec_image.specs.declared.entry.Entry.{Entry}
+use Rattle.monitor.specs.Common.{StandsNow, AreStopped, MonitorState}
+use Rattle.monitor.proofs.Events.Along.{stopped_like}
+use Rattle.commands.specs.Common.{machine_of, Machine, ActsBy, IsAlongActs}
 
 -- the contents stand for the files after some of the acts, or after one more
 abbrev pub Found : Pack → State → List Act → Contents → Type 0

@@ -1,18 +1,14 @@
 -- Directories that are listed one after the other.
-use Rattle.std.proofs.Common.{◌≡◌, ℕ, ◌+◌, ◌<◌, ◌≤◌, List, [], ◌∷◌, ◌++◌, Result, Ok, Err, refl, sym, ◌∙◌, ap}
-use Rattle.std.proofs.Common.{subst, drop, length, get_or, IfOk}
+use Rattle.std.proofs.Common.{◌≡◌, ℕ, ◌+◌, ◌<◌, ◌≤◌, List, [], ◌∷◌, ◌++◌, Result, Ok, Err, refl, sym, ◌∙◌, ap, subst}
+use Rattle.std.proofs.Common.{drop, length, get_or, IfOk}
 use Rattle.std.proofs.lemmas.List.{drop_more, drop_all}
 use Rattle.std.specs.Prelude.{IfErr}
 use Rattle.words36.specs.declared.moment.Moment.{Moment}
-use Rattle.meaning.specs.Errands.{enters, operator, shows_all, surveys}
-use Rattle.meaning.specs.Plans.{Plan, Show, Say, each, fails}
-use Rattle.meaning.specs.Texts.{Spoken, both_said, silent, list_said}
-use Rattle.meaning.specs.declared.style.Style.{Style}
-use Rattle.meaning.specs.declared.call.Reply.{Reply}
-use Rattle.commands.specs.Asking.{Led, Concludes, HasShown}
-use Rattle.commands.specs.Errands.{Carries, fresh}
-use Rattle.commands.specs.Machines.{Machine, AlwaysStands}
-use Rattle.commands.specs.Streams.{spoken}
+use Rattle.spec_language.specs.Common.{enters, operator, shows_all, surveys, Plan, Show, Say, each, fails, Spoken}
+use Rattle.spec_language.specs.Common.{both_said, silent, list_said}
+use Rattle.spec_language.specs.declared.style.Style.{Style}
+use Rattle.spec_machine.specs.declared.call.Reply.{Reply}
+use Rattle.commands.specs.Common.{Led, Concludes, HasShown, Carries, fresh, Machine, AlwaysStands, spoken}
 use Rattle.commands.specs.declared.answer.Tally.{Tally}
 use Rattle.commands.proofs.ErrandLaws.{carried, carried_behind}
 use Rattle.commands.proofs.LedLaws.{led_on, led_still}

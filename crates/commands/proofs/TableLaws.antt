@@ -1,7 +1,6 @@
 -- Lines of a list as a table, part by part.
-use Rattle.std.proofs.Common.{◌≡◌, ℕ, ◌+◌, ◌-◌, ◌≤◌, ◌==◌, List, [], ◌∷◌, ◌++◌, length, take}
-use Rattle.std.proofs.Common.{get_or}
-use Rattle.std.proofs.Common.{◌/◌, ◌%◌, ◌^◌, append_assoc, sym, ◌∙◌, ap, subst, arith}
+use Rattle.std.proofs.Common.{◌≡◌, ℕ, ◌+◌, ◌-◌, ◌≤◌, ◌==◌, List, [], ◌∷◌, ◌++◌, length, take, get_or, ◌/◌, ◌%◌, ◌^◌}
+use Rattle.std.proofs.Common.{append_assoc, sym, ◌∙◌, ap, subst, arith}
 use Rattle.std.proofs.lemmas.Bool.Decides.{nat_tests}
 use Rattle.std.proofs.lemmas.List.Elements.{All-nil, All-cons}
 use Rattle.std.specs.Prelude.{codes, All}
@@ -10,13 +9,13 @@ use Rattle.std.specs.Fmt.{decimal}
 use Rattle.std.specs.List.{suffix_len}
 use Rattle.std.specs.Str.{IsTrimAsciiEnd}
 use Rattle.std.proofs.lemmas.List.Sums.{suffix_len_is}
-use Rattle.words36.specs.Sixbit.{characters}
+use Rattle.words36.specs.Common.{characters}
 use Rattle.words36.specs.declared.names.FileName.{FileName}
-use Rattle.meaning.specs.Texts.{extension_text, three_digits, two_octal, two_digits, trimmed, owner_text}
-use Rattle.meaning.specs.Texts.{place_fields, right_fields, day_field, minute_field, size_fields, row_text}
-use Rattle.meaning.specs.declared.entry.Entry.{Entry}
+use Rattle.spec_language.specs.Common.{extension_text, three_digits, two_octal, two_digits, trimmed, owner_text}
+use Rattle.spec_language.specs.Common.{place_fields, right_fields, day_field, minute_field, size_fields, row_text}
+use Rattle.spec_image.specs.declared.entry.Entry.{Entry}
 
-behind : (old a b x p : List ℕ) → a ≡ old ++ x → b ≡ a ++ p → b ≡ old ++ (x ++ p)
+pub behind : (old a b x p : List ℕ) → a ≡ old ++ x → b ≡ a ++ p → b ≡ old ++ (x ++ p)
 behind old a b x p e f = f ∙ ap (λ (l : List ℕ). l ++ p) e ∙ append_assoc old x p
 
 -- of the characters from a blank on, a blank alone is white space

@@ -7,13 +7,12 @@ use Rattle.std.proofs.Padding.{padded_integral_zeros}
 use Rattle.std.specs.Prelude.{codes}
 use Rattle.std.specs.Fmt.{decimal, digits, format_spec, padded_integral, ◌++?◌}
 use Rattle.std.specs.Option.{option_map}
-use Rattle.words36.specs.Words.{ppn_text}
-use Rattle.words36.specs.Sixbit.{characters}
-use Rattle.meaning.specs.Scripts.{octal_in, words_given}
-use Rattle.meaning.specs.Texts.{line, blocks_in, total_text, right_in, three_digits, extension_text, day_text}
-use Rattle.meaning.specs.Texts.{entry_text}
-use Rattle.meaning.specs.declared.call.Reply.{Reply}
-use Rattle.meaning.specs.declared.entry.Entry.{Entry}
+use Rattle.words36.specs.Common.{ppn_text, characters}
+use Rattle.spec_language.specs.Common.{octal_in, words_given, line, blocks_in, total_text, right_in, three_digits}
+use Rattle.spec_language.specs.Common.{extension_text, day_text, entry_text}
+use Rattle.spec_machine.specs.declared.call.Reply.{Reply}
+use Rattle.spec_image.specs.declared.entry.Entry.{Entry}
+use Rattle.commands.proofs.TableLaws.{behind}
 
 blocks-append : (xs : List Entry) (e : Entry) → blocks_in (xs ++ e ∷ []) ≡ blocks_in xs + e.blocks
 blocks-append [] e = omega arith
@@ -53,9 +52,6 @@ total_ok bytes (Ok s) owner entries blocks some same is =
 total_ok bytes (Err e) owner entries blocks some same is = tt
 
 -- An entry's line, part by part.
-
-behind : (old a b x p : List ℕ) → a ≡ old ++ x → b ≡ a ++ p → b ≡ old ++ (x ++ p)
-behind old a b x p e f = f ∙ ap (λ (l : List ℕ). l ++ p) e ∙ append_assoc old x p
 
 pub entry_pushed : (e : Entry) (old named spaced blocked opened protected closed dated ended text digits : List ℕ)
     → text ≡ decimal e.blocks → digits ≡ three_digits e.protection

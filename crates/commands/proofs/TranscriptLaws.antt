@@ -2,17 +2,10 @@
 use Rattle.std.proofs.Common.{◌≡◌, ◌≢◌, ℕ, ◌||◌, Bool, true, false, List, [], ◌∷◌, ◌++◌, refl, sym, ◌∙◌, ap, subst}
 use Rattle.std.proofs.Common.{append_assoc, append-nil, Option}
 use Rattle.words36.specs.declared.moment.Moment.{Moment}
-use Rattle.meaning.specs.Commands.{Means}
-use Rattle.meaning.specs.Lines.{Line}
-use Rattle.meaning.specs.Texts.{Spoken, both_said, silent}
-use Rattle.meaning.specs.Plans.{Act}
-use Rattle.meaning.specs.Transcripts.{Speaks, Orders}
-use Rattle.meaning.specs.declared.command.Command.{Command}
-use Rattle.meaning.specs.declared.call.Event.{Event}
-use Rattle.commands.specs.Languages.{LineSays}
-use Rattle.meaning.specs.Scripts.{MeansEvent}
-use Rattle.commands.specs.Streams.{IsServedTranscript, spoken}
-use Rattle.commands.specs.Sessions.{HeardIn, Hears}
+use Rattle.spec_language.specs.Common.{Means, Line, Spoken, both_said, silent, Act, Speaks, Orders, MeansEvent}
+use Rattle.spec_language.specs.declared.command.Command.{Command}
+use Rattle.spec_machine.specs.declared.call.Event.{Event}
+use Rattle.commands.specs.Common.{LineSays, IsServedTranscript, spoken, HeardIn, Hears}
 use Rattle.commands.specs.declared.answer.Tally.{Tally}
 use Rattle.commands.specs.declared.language.Language.{Language}
 use Rattle.commands.specs.declared.language.Language.TheVariants.{Commands, Events}

@@ -1,24 +1,24 @@
 -- What is asked where a file is read and how far its plan has come, call by call; and the bytes of words that follow
 -- one another.
 use Rattle.std.proofs.Common.{◌≡◌, ℕ, ◌+◌, ◌-◌, ◌*◌, ◌/◌, ◌%◌, ◌<◌, ◌≤◌, ◌||◌, Bool, true, List, [], ◌∷◌, ◌++◌, zero}
-use Rattle.std.proofs.Common.{suc, length, take, drop, arith}
+use Rattle.std.proofs.Common.{suc, length, take, drop, arith, sym, ◌∙◌, ap, subst, append_assoc, append-nil, Result}
+use Rattle.std.proofs.Common.{Ok, Err, IfOk}
 use Rattle.std.proofs.lemmas.List.{take_all, take-append-drop, drop-drop}
-use Rattle.std.proofs.Common.{sym, ◌∙◌, ap, subst, append_assoc, append-nil, Result, Ok, Err, IfOk}
 use Rattle.std.proofs.lemmas.Grind.{flat_map-append}
 use Rattle.std.specs.Prelude.{flat_map}
 use Rattle.std.specs.Simd.{first_chunks}
 use Rattle.words36.specs.declared.moment.Moment.{Moment}
-use Rattle.meaning.specs.Plans.{Plan, Say, each, examines, fetches, sizes, finds, lists, takes, goes_to, ends, fails}
-use Rattle.meaning.specs.Plans.{file_words, block_address, blocks_said, types_blocks, types_last, types_body, until_end}
-use Rattle.meaning.specs.Plans.{reads_file, blocks_at_once, types_runs}
-use Rattle.words36.specs.Blocks.{word_bytes, block_bytes}
-use Rattle.meaning.specs.Texts.{Spoken, typed, file_said, refuses, refusal, is_broken, line}
-use Rattle.meaning.specs.declared.encoding.Encoding.{Encoding}
-use Rattle.meaning.specs.declared.call.Event.{Event}
-use Rattle.meaning.specs.declared.call.Reply.{Reply}
-use Rattle.meaning.specs.declared.command.Spec.{Spec}
-use Rattle.commands.specs.Asking.{Led, Concludes, Tells, followed, AreTyped, HasTyped}
-use Rattle.commands.specs.Machines.{Machine, AlwaysStands, AreShown}
+use Rattle.spec_language.specs.Common.{Plan, Say, each, examines, fetches, sizes, finds, lists, takes, goes_to, ends}
+use Rattle.spec_language.specs.Common.{fails, file_words, block_address, blocks_said, types_blocks, types_last}
+use Rattle.spec_language.specs.Common.{types_body, until_end, reads_file, blocks_at_once, types_runs, Spoken, typed}
+use Rattle.spec_language.specs.Common.{file_said, refuses, refusal, is_broken, line}
+use Rattle.words36.specs.Common.{word_bytes, block_bytes}
+use Rattle.spec_language.specs.declared.encoding.Encoding.{Encoding}
+use Rattle.spec_machine.specs.declared.call.Event.{Event}
+use Rattle.spec_machine.specs.declared.call.Reply.{Reply}
+use Rattle.spec_language.specs.declared.command.Spec.{Spec}
+use Rattle.commands.specs.Common.{Led, Concludes, Tells, followed, AreTyped, HasTyped, Machine, AlwaysStands}
+use Rattle.commands.specs.Common.{AreShown}
 use Rattle.commands.specs.declared.answer.Tally.{Tally}
 use Rattle.commands.specs.declared.typing.Target.{Target}
 use Rattle.commands.specs.declared.typing.Target.TheVariants.{Text}

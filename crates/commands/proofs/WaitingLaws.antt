@@ -4,11 +4,11 @@ use Rattle.std.proofs.Common.{arith, Option, Result, Ok, Err, IfErr, OnOk}
 use Rattle.std.proofs.lemmas.List.{length-append}
 use Rattle.std.specs.Io.KnownBytes.{Appends}
 use Rattle.std.proofs.KnownBytes.{Appends-trans}
-use Rattle.commands.specs.Sessions.{IsFlushed, IsGivenUp, AddsText}
+use Rattle.commands.specs.Common.{IsFlushed, IsGivenUp, AddsText}
 use Rattle.commands.specs.declared.error.SessionError.{SessionError}
 use Rattle.commands.specs.declared.error.SessionError.TheVariants.{Read, Write, NoMemory}
 
-longer : (xs ys : List ℕ) → 0 < length xs → 0 < length (xs ++ ys)
+pub longer : (xs ys : List ℕ) → 0 < length xs → 0 < length (xs ++ ys)
 longer xs ys some = omega (arith, some, length-append xs ys)
 
 -- what is left unwritten grows by a text

@@ -1,26 +1,23 @@
 -- The words of a file as bytes: characters, bytes of eight bits, eight bytes for each.
-use Rattle.std.proofs.Common.{◌≡◌, ℕ, ◌*◌, ◌/◌, ◌%◌, ◌^◌, ◌<◌, ◌≤◌, true, false, Bool, List, [], ◌∷◌, ◌++◌}
-use Rattle.std.proofs.Common.{length, All, refl, sym, ◌∙◌, ap, subst, arith, zero, suc, nat_eq, nat_le}
-use Rattle.std.proofs.Common.{if◌then◌else◌, take, drop, append_assoc, append-nil, Option, Some, None, IfNone, min}
+use Rattle.std.proofs.Common.{◌≡◌, ℕ, ◌*◌, ◌/◌, ◌%◌, ◌^◌, ◌<◌, ◌≤◌, true, false, Bool, List, [], ◌∷◌, ◌++◌, length}
+use Rattle.std.proofs.Common.{All, refl, sym, ◌∙◌, ap, subst, arith, zero, suc, nat_eq, nat_le, if◌then◌else◌, take}
+use Rattle.std.proofs.Common.{drop, append_assoc, append-nil, Option, Some, None, IfNone, min}
 use Rattle.std.proofs.lemmas.List.{append_cancel_left, take-append-drop, take_at, drop_all, length-take-le}
 use Rattle.std.proofs.lemmas.List.{ext_get_or, length-append}
 use Rattle.std.proofs.lemmas.List.Elements.{All-nil, All-cons, All-append, All-from_recursion}
 use Rattle.std.proofs.lemmas.Bool.Decides.{nat_tests}
 use Rattle.std.proofs.lemmas.Grind.{flat_map-append}
 use Rattle.std.specs.Prelude.{flat_map}
-use Rattle.words36.specs.Ascii.{ascii_word_of, five_characters, packed, unpacked}
-use Rattle.words36.specs.Blocks.{number_at, word_bytes}
-use Rattle.words36.specs.Octets.{AreOctets, IsOctet}
-use Rattle.words36.specs.Words.{IsWord}
+use Rattle.words36.specs.Common.{ascii_word_of, five_characters, packed, unpacked, number_at, word_bytes, AreOctets}
+use Rattle.words36.specs.Common.{IsOctet, IsWord}
 use Rattle.words36.proofs.BlockLaws.{number_at-block_bytes}
-use Rattle.meaning.specs.Errands.{is_character, AreWords}
-use Rattle.meaning.specs.Spellings.{Are}
-use Rattle.meaning.specs.Texts.{not_null, typed}
-use Rattle.meaning.specs.declared.encoding.Encoding.{Encoding}
-use Rattle.meaning.specs.declared.encoding.Encoding.TheVariants.{Characters, Words, Octets}
-use Rattle.meaning.proofs.SpellingLaws.{are_append}
-use Rattle.commands.specs.Exporting.{HasBytes}
+use Rattle.spec_language.specs.Common.{is_character, AreWords, Are, not_null, typed}
+use Rattle.spec_language.specs.declared.encoding.Encoding.{Encoding}
+use Rattle.spec_language.specs.declared.encoding.Encoding.TheVariants.{Characters, Words, Octets}
+use Rattle.spec_language.proofs.Common.{are_append}
+use Rattle.commands.specs.Common.{HasBytes}
 use Rattle.commands.proofs.WordLaws.{length-words}
+use Rattle.words36.proofs.AsciiLaws.{five-ascii}
 
 pub typed-append : (xs ys : List ℕ) → typed (xs ++ ys) ≡ typed xs ++ typed ys
 typed-append xs ys = ap (flat_map not_null) (flat_map-append five_characters xs ys)
@@ -36,34 +33,29 @@ character_shown zero is = let wrong : false ≡ true = is in cc
 character_shown (suc c) is = let some : nat_eq (suc c) 0 ≡ false = grind (arith, nat_tests) in
     ap (λ (b : Bool). if b then [] else suc c ∷ []) some
 
--- the characters of a word that has all five
-word_of_five : (a b c d e : ℕ) → a ≤ 127 → b ≤ 127 → c ≤ 127 → d ≤ 127 → e ≤ 127
-    → five_characters (ascii_word_of (a ∷ b ∷ c ∷ d ∷ e ∷ [])) ≡ a ∷ b ∷ c ∷ d ∷ e ∷ []
-word_of_five a b c d e p q r s t = grind arith
-
 -- what is typed of a text's words is the text
 pub typed_packed : (text : List ℕ) → Are is_character text → typed (packed text) ≡ text
 typed_packed [] are = refl
 typed_packed (a ∷ []) are =
-    ap (flat_map not_null) (word_of_five a 0 0 0 0 (character_fits a are.0) (omega arith) (omega arith) (omega arith)
+    ap (flat_map not_null) (five-ascii a 0 0 0 0 (character_fits a are.0) (omega arith) (omega arith) (omega arith)
     (omega arith))
     ∙ ap (λ l. l ++ []) (character_shown a are.0)
 typed_packed (a ∷ b ∷ []) are =
-    ap (flat_map not_null) (word_of_five a b 0 0 0 (character_fits a are.0) (character_fits b are.1.0) (omega arith)
+    ap (flat_map not_null) (five-ascii a b 0 0 0 (character_fits a are.0) (character_fits b are.1.0) (omega arith)
     (omega arith) (omega arith))
     ∙ (λ i. character_shown a are.0 i ++ (character_shown b are.1.0 i ++ []))
 typed_packed (a ∷ b ∷ c ∷ []) are =
-    ap (flat_map not_null) (word_of_five a b c 0 0 (character_fits a are.0) (character_fits b are.1.0)
+    ap (flat_map not_null) (five-ascii a b c 0 0 (character_fits a are.0) (character_fits b are.1.0)
     (character_fits c are.1.1.0) (omega arith) (omega arith))
     ∙ (λ i. character_shown a are.0 i ++ (character_shown b are.1.0 i ++ (character_shown c are.1.1.0 i ++ [])))
 typed_packed (a ∷ b ∷ c ∷ d ∷ []) are =
-    ap (flat_map not_null) (word_of_five a b c d 0 (character_fits a are.0) (character_fits b are.1.0)
+    ap (flat_map not_null) (five-ascii a b c d 0 (character_fits a are.0) (character_fits b are.1.0)
     (character_fits c are.1.1.0) (character_fits d are.1.1.1.0) (omega arith))
     ∙ (λ i. character_shown a are.0 i ++ (character_shown b are.1.0 i ++ (character_shown c are.1.1.0 i
     ++ (character_shown d are.1.1.1.0 i ++ []))))
 typed_packed (a ∷ b ∷ c ∷ d ∷ e ∷ rest) are =
     ap (λ l. flat_map not_null (l ++ unpacked (packed rest)))
-    (word_of_five a b c d e (character_fits a are.0) (character_fits b are.1.0)
+    (five-ascii a b c d e (character_fits a are.0) (character_fits b are.1.0)
     (character_fits c are.1.1.0) (character_fits d are.1.1.1.0) (character_fits e are.1.1.1.1.0))
     ∙ (λ i. character_shown a are.0 i ++ (character_shown b are.1.0 i ++ (character_shown c are.1.1.0 i
     ++ (character_shown d are.1.1.1.0 i ++ (character_shown e are.1.1.1.1.0 i

@@ -6,13 +6,10 @@ use Rattle.std.proofs.lemmas.Bool.Decides.{nat_tests}
 use Rattle.std.specs.List.{list_any}
 use Rattle.std.specs.Prelude.{flat_map}
 use Rattle.std.proofs.lemmas.List.Elements.{All-from_get_or}
-use Rattle.words36.specs.Words.{IsWord}
-use Rattle.words36.specs.Blocks.{word_bytes, number_at}
+use Rattle.words36.specs.Common.{IsWord, word_bytes, number_at}
 use Rattle.words36.proofs.BlockLaws.{AreRead, block_bytes-read, number_at-block_bytes}
-use Rattle.meaning.specs.Errands.{is_character, AreWords}
-use Rattle.meaning.specs.Spellings.{Are}
-use Rattle.meaning.specs.Texts.{not_null}
-use Rattle.meaning.specs.declared.encoding.Encoding.TheVariants.{Words}
+use Rattle.spec_language.specs.Common.{is_character, AreWords, Are, not_null}
+use Rattle.spec_language.specs.declared.encoding.Encoding.TheVariants.{Words}
 use Rattle.commands.proofs.FieldLaws.{are_at}
 
 pub no_character : (bytes : List ℕ) (i : ℕ) → i < length bytes → false ≡ is_character (get_or bytes i 0)

@@ -1,15 +1,13 @@
 -- What a line asks of a service, event by event, and how far its plan has come.
 use Rattle.std.specs.Prelude.{◌≡◌, ℕ, ◌||◌, true, List, ◌++◌, Result, Ok, Err, IfOk, flat_map}
-use Rattle.words36.specs.Blocks.{word_bytes}
-use Rattle.words36.specs.OctetReading.{HasRead}
+use Rattle.words36.specs.Common.{word_bytes, HasRead}
 use Rattle.words36.specs.declared.moment.Moment.{Moment}
-use Rattle.meaning.specs.Plans.{Act, Plan, Leads, Show, Say, each, fails}
-use Rattle.meaning.specs.Texts.{Spoken, typed, list_said}
-use Rattle.meaning.specs.declared.entry.Entry.{Entry}
-use Rattle.meaning.specs.declared.encoding.Encoding.TheVariants.{Characters, Words, Octets}
-use Rattle.meaning.specs.declared.style.Style.{Style}
-use Rattle.meaning.specs.declared.call.Reply.{Reply}
-use Rattle.meaning.specs.declared.call.Event.{Event}
+use Rattle.spec_language.specs.Common.{Act, Plan, Leads, Show, Say, each, fails, Spoken, typed, list_said}
+use Rattle.spec_image.specs.declared.entry.Entry.{Entry}
+use Rattle.spec_language.specs.declared.encoding.Encoding.TheVariants.{Characters, Words, Octets}
+use Rattle.spec_language.specs.declared.style.Style.{Style}
+use Rattle.spec_machine.specs.declared.call.Reply.{Reply}
+use Rattle.spec_machine.specs.declared.call.Event.{Event}
 use Rattle.commands.specs.Machines.{Machine, GoesBy}
 use Rattle.commands.specs.declared.answer.Tally.{Tally}
 use Rattle.commands.specs.declared.typing.Target.{Target}

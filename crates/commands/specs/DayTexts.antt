@@ -1,9 +1,8 @@
 -- The texts that a day may be given as: `1975-01-04`, as `list --tsv` prints it, or `4-Jan-1975`, as DIRECTORY does.
 use Rattle.std.specs.Prelude.{◌≡◌, ◌⊎◌, ℕ, ◌-◌, ◌≤◌, List, ◌∷◌, ◌++◌, length, map}
 use Rattle.std.specs.Char.{to_ascii_lowercase}
-use Rattle.words36.specs.Dates.{IsDate, date_number}
-use Rattle.meaning.specs.Spellings.{Are, is_digit, decimal_after}
-use Rattle.meaning.specs.Texts.{month_text}
+use Rattle.words36.specs.Common.{IsDate, date_number}
+use Rattle.spec_language.specs.Common.{Are, is_digit, decimal_after, month_text}
 use Rattle.commands.specs.Characters.{is_other_than}
 
 -- a number of at least and at most so many digits

@@ -3,22 +3,19 @@ use Rattle.std.specs.Prelude.{◌≡◌, ◌⊎◌, ◌<◌, ℕ, false, List, [
 use Rattle.std.specs.Prelude.{Some, None, Result, Ok, Err, codes, ◌≤◌, ◌==◌, if◌then◌else◌}
 use Rattle.words36.specs.declared.moment.Moment.{Moment}
 use Rattle.std.specs.Io.KnownBytes.{Appends, Consumes, IsAtEnd}
-use Rattle.meaning.specs.Errands.{AreWords, creates, enters, fills_all, keeps, surveys_of, unfit, volume_line}
-use Rattle.meaning.specs.Jobs.{State}
-use Rattle.meaning.specs.Maps.{keys}
-use Rattle.meaning.specs.Plans.{Act, Plan, Ask, Say, Leads, Conducts, asks_open, begins, calls, each, ends, fails}
-use Rattle.meaning.specs.Plans.{file_words, names, ok}
-use Rattle.meaning.specs.Room.{room}
-use Rattle.meaning.specs.Runs.{Serving, Broken}
-use Rattle.meaning.specs.Texts.{Spoken, complains}
-use Rattle.meaning.specs.declared.call.Call.TheVariants.{Lookup, Close}
-use Rattle.meaning.specs.declared.call.Event.{Event}
-use Rattle.meaning.specs.declared.call.Reply.{Reply}
-use Rattle.meaning.specs.declared.call.Reply.TheVariants.{Done, Refused, NoMemory as NoMemoryReply, Failed}
-use Rattle.meaning.specs.declared.command.Command.TheVariants.{Delete as DeleteLine}
-use Rattle.meaning.specs.declared.command.Spec.{Spec}
-use Rattle.meaning.specs.declared.encoding.Encoding.{Encoding}
-use Rattle.meaning.specs.declared.style.Style.{Style}
+use Rattle.spec_language.specs.Common.{AreWords, creates, enters, fills_all, keeps, surveys_of, unfit, volume_line}
+use Rattle.spec_language.specs.Common.{Act, Plan, Ask, Say, Leads, Conducts, asks_open, begins, calls, each, ends}
+use Rattle.spec_language.specs.Common.{fails, file_words, names, ok, Spoken, complains}
+use Rattle.spec_machine.specs.Common.{State, room, Serving, Broken}
+use Rattle.spec_image.specs.Common.{keys}
+use Rattle.spec_machine.specs.declared.call.Call.TheVariants.{Lookup, Close}
+use Rattle.spec_machine.specs.declared.call.Event.{Event}
+use Rattle.spec_machine.specs.declared.call.Reply.{Reply}
+use Rattle.spec_machine.specs.declared.call.Reply.TheVariants.{Done, Refused, NoMemory as NoMemoryReply, Failed}
+use Rattle.spec_language.specs.declared.command.Command.TheVariants.{Delete as DeleteLine}
+use Rattle.spec_language.specs.declared.command.Spec.{Spec}
+use Rattle.spec_language.specs.declared.encoding.Encoding.{Encoding}
+use Rattle.spec_language.specs.declared.style.Style.{Style}
 use Rattle.commands.specs.Asking.{Led}
 use Rattle.commands.specs.Machines.{Machine, GoesBy}
 use Rattle.commands.specs.Reasons.{IsInputReason, BeginsNoFile, IsTooLong, most_bytes}

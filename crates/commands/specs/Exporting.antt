@@ -1,21 +1,17 @@
 -- What a directory has, and files that are taken out so that they can come back exactly.
 use Rattle.std.specs.Prelude.{◌≡◌, ◌⊎◌, ℕ, nat_le, if◌then◌else◌, List, [], ◌∷◌, All, Option, Some, None, flat_map}
 use Rattle.std.specs.Prelude.{Result, Ok, Err}
-use Rattle.words36.specs.Blocks.{word_bytes}
-use Rattle.words36.specs.Octets.{IsOctet, octets_unpacked}
-use Rattle.words36.specs.Words.{IsWord}
+use Rattle.words36.specs.Common.{word_bytes, IsOctet, octets_unpacked, IsWord}
 use Rattle.words36.specs.declared.moment.Moment.{Moment}
-use Rattle.meaning.specs.Errands.{AreWords, enters, gets, operator}
-use Rattle.meaning.specs.Plans.{Act, Asks, Plan, Show, Say, Leads, Conducts, calls, each}
-use Rattle.meaning.specs.Texts.{Spoken, prints, refuses, typed}
-use Rattle.meaning.specs.Transcripts.{core_words}
-use Rattle.meaning.specs.declared.call.Call.TheVariants.{Reset}
-use Rattle.meaning.specs.declared.call.Event.TheVariants.{Login}
-use Rattle.meaning.specs.declared.call.Reply.{Reply}
-use Rattle.meaning.specs.declared.command.Spec.{Spec}
-use Rattle.meaning.specs.declared.encoding.Encoding.{Encoding}
-use Rattle.meaning.specs.declared.encoding.Encoding.TheVariants.{Characters, Words, Octets}
-use Rattle.meaning.specs.declared.entry.Entry.{Entry}
+use Rattle.spec_language.specs.Common.{AreWords, enters, gets, operator, Act, Asks, Plan, Show, Say, Leads, Conducts}
+use Rattle.spec_language.specs.Common.{calls, each, Spoken, prints, refuses, typed, core_words}
+use Rattle.spec_machine.specs.declared.call.Call.TheVariants.{Reset}
+use Rattle.spec_machine.specs.declared.call.Event.TheVariants.{Login}
+use Rattle.spec_machine.specs.declared.call.Reply.{Reply}
+use Rattle.spec_language.specs.declared.command.Spec.{Spec}
+use Rattle.spec_language.specs.declared.encoding.Encoding.{Encoding}
+use Rattle.spec_language.specs.declared.encoding.Encoding.TheVariants.{Characters, Words, Octets}
+use Rattle.spec_image.specs.declared.entry.Entry.{Entry}
 use Rattle.commands.specs.Asking.{Led}
 use Rattle.commands.specs.Machines.{Machine, GoesBy}
 use Rattle.commands.specs.declared.exporting.Exported.{Exported}

@@ -1,7 +1,7 @@
 -- The parts of what names a file.
 use Rattle.std.specs.Prelude.{◌≡◌, ◌⊎◌, ℕ, ◌≤◌, List, ◌++◌, length}
-use Rattle.words36.specs.Sixbit.{sixbit}
-use Rattle.meaning.specs.Spellings.{is_letter, Are, IsName, IsExtension, IsPair, IsBracketed}
+use Rattle.words36.specs.Common.{sixbit}
+use Rattle.spec_language.specs.Common.{is_letter, Are, IsName, IsExtension, IsPair, IsBracketed}
 
 -- at most so many letters and digits, and the word that they pack into
 pub record AreLetters (most : ℕ) (text : List ℕ) (word : ℕ) : Type 0 where

@@ -1,8 +1,8 @@
 -- Commands as their lines spell them.
 use Rattle.std.specs.Prelude.{◌<◌, ◌^◌, Option, Some, None}
-use Rattle.meaning.specs.declared.command.Command.{Command}
-use Rattle.meaning.specs.declared.command.Command.TheVariants.{Login, Directory, Copy, Rename, Delete, TypeOut, Protect}
-use Rattle.meaning.specs.declared.command.Command.TheVariants.{MakeDir, Quota}
+use Rattle.spec_language.specs.declared.command.Command.{Command}
+use Rattle.spec_language.specs.declared.command.Command.TheVariants.{Login, Directory, Copy, Rename, Delete, TypeOut}
+use Rattle.spec_language.specs.declared.command.Command.TheVariants.{Protect, MakeDir, Quota}
 
 -- A protection that a command has is one of nine bits, and a quota one of eighteen.
 abbrev pub Fits : Option Command → Type 0

@@ -1,10 +1,8 @@
 -- Files that are made of bytes in memory, each answered behind a label.
 use Rattle.std.specs.Prelude.{◌≡◌, ◌⊎◌, ◌≤◌, ℕ, List, [], ◌++◌, length, Option, Result, Err}
 use Rattle.std.specs.Io.KnownBytes.{Appends}
-use Rattle.meaning.specs.Errands.{AreWords}
-use Rattle.meaning.specs.Plans.{Act, Plan, Ask, Show, Say}
-use Rattle.meaning.specs.Texts.{Spoken}
-use Rattle.meaning.specs.declared.encoding.Encoding.{Encoding}
+use Rattle.spec_language.specs.Common.{AreWords, Act, Plan, Ask, Show, Say, Spoken}
+use Rattle.spec_language.specs.declared.encoding.Encoding.{Encoding}
 use Rattle.commands.specs.Errands.{Performs, TellsMisfit, no_room}
 use Rattle.commands.specs.Machines.{Machine, GoesBy}
 use Rattle.commands.specs.Reasons.{IsTooLong, most_bytes}

@@ -1,16 +1,11 @@
 -- What a line of an input says in either language, and what is done at the end of the input.
 use Rattle.std.specs.Prelude.{◌≡◌, ℕ, List, [], ◌∷◌, Option}
 use Rattle.words36.specs.declared.moment.Moment.{Moment}
-use Rattle.meaning.specs.Commands.{Means}
-use Rattle.meaning.specs.Lines.{Line}
-use Rattle.meaning.specs.Scripts.{MeansEvent}
-use Rattle.meaning.specs.Texts.{Spoken}
-use Rattle.meaning.specs.Plans.{Act, Asks, calls}
-use Rattle.meaning.specs.Transcripts.{Speaks, Orders}
-use Rattle.meaning.specs.declared.command.Command.{Command}
-use Rattle.meaning.specs.declared.call.Call.TheVariants.{Reset}
-use Rattle.meaning.specs.declared.call.Event.{Event}
-use Rattle.meaning.specs.declared.call.Reply.{Reply}
+use Rattle.spec_language.specs.Common.{Means, Line, MeansEvent, Spoken, Act, Asks, calls, Speaks, Orders}
+use Rattle.spec_language.specs.declared.command.Command.{Command}
+use Rattle.spec_machine.specs.declared.call.Call.TheVariants.{Reset}
+use Rattle.spec_machine.specs.declared.call.Event.{Event}
+use Rattle.spec_machine.specs.declared.call.Reply.{Reply}
 use Rattle.commands.specs.declared.language.Language.{Language}
 use Rattle.commands.specs.declared.language.Language.TheVariants.{Commands, Events}
 

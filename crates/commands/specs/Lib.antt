@@ -15,3 +15,4 @@ pub mod DayTexts
 pub mod Reasons
 pub mod Importing
 pub mod Exporting
+pub mod Common

@@ -1,20 +1,17 @@
 -- What is known of a service of files, whatever it is made of: the disk that it serves, whether it has kept its
 -- promises so far, and which services of the definitions it may stand for.
 use Rattle.std.specs.Prelude.{◌≡◌, ◌⊎◌, ◌+◌, ◌<◌, ℕ, IsTrue, List, [], ◌∷◌, Result, length, slice_index}
-use Rattle.blockdisk.specs.Disk.{DiskState, Still, LeavesOnly, one_more}
-use Rattle.meaning.specs.Crashes.{may_change, StandsForEither}
-use Rattle.meaning.specs.Jobs.{State}
-use Rattle.meaning.specs.Room.{Pack}
-use Rattle.meaning.specs.Runs.{Service, Serving, Broken, Answers, Lists}
-use Rattle.meaning.specs.Plans.{Act, Asks, Looks}
-use Rattle.meaning.specs.Step.{step}
-use Rattle.meaning.specs.Transcripts.{Went}
-use Rattle.meaning.specs.declared.entry.Entry.{Entry}
-use Rattle.meaning.specs.declared.call.Reply.{Reply}
-use Rattle.meaning.specs.declared.call.Reply.TheVariants.{Value, Device}
-use Rattle.meaning.specs.declared.call.Event.TheVariants.{Examine}
-use Rattle.monitor.specs.Moments.{StandsNow}
-use Rattle.meaning.specs.declared.call.Event.{Event}
+use Rattle.blockdisk.specs.Common.{DiskState, Still, LeavesOnly, one_more}
+use Rattle.spec_machine.specs.Common.{may_change, StandsForEither, State, Service, Serving, Broken, Answers, Lists}
+use Rattle.spec_machine.specs.Common.{step}
+use Rattle.spec_image.specs.Common.{Pack}
+use Rattle.spec_language.specs.Common.{Act, Asks, Looks, Went}
+use Rattle.spec_image.specs.declared.entry.Entry.{Entry}
+use Rattle.spec_machine.specs.declared.call.Reply.{Reply}
+use Rattle.spec_machine.specs.declared.call.Reply.TheVariants.{Value, Device}
+use Rattle.spec_machine.specs.declared.call.Event.TheVariants.{Examine}
+use Rattle.monitor.specs.Common.{StandsNow}
+use Rattle.spec_machine.specs.declared.call.Event.{Event}
 
 pub record Machine : Type 1 where
   pub pack : Pack

@@ -1,9 +1,9 @@
 -- A monitor as a service of files.
 use Rattle.std.specs.Prelude.{Bool, List, Option}
-use Rattle.blockdisk.specs.Disk.{DiskState}
-use Rattle.volume.specs.Live.{VolumeCore}
-use Rattle.meaning.specs.Layouts.{pack_of}
-use Rattle.monitor.specs.Serving.{Serves}
+use Rattle.blockdisk.specs.Common.{DiskState}
+use Rattle.volume.specs.Common.{VolumeCore}
+use Rattle.spec_image.specs.Common.{pack_of}
+use Rattle.monitor.specs.Common.{Serves}
 use Rattle.monitor.specs.declared.job.Job.{Job}
 use Rattle.commands.specs.Machines.{Machine}
 

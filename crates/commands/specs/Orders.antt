@@ -1,10 +1,9 @@
 -- The parts of a line of a call script, and what they say.
 use Rattle.std.specs.Prelude.{◌≡◌, ℕ, List, ◌∷◌, ◌++◌, Option, Some, None}
 use Rattle.words36.specs.declared.moment.Moment.{Moment}
-use Rattle.meaning.specs.Spellings.{Are, is_space, AreFields}
-use Rattle.meaning.specs.Scripts.{IsEventText}
-use Rattle.meaning.specs.declared.call.Call.{Call}
-use Rattle.meaning.specs.declared.call.Event.{Event}
+use Rattle.spec_language.specs.Common.{Are, is_space, AreFields, IsEventText}
+use Rattle.spec_machine.specs.declared.call.Call.{Call}
+use Rattle.spec_machine.specs.declared.call.Event.{Event}
 
 -- A text's first field, and the text of the others.
 pub record Begins (text first rest : List ℕ) : Type 0 where

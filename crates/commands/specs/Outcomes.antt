@@ -2,21 +2,16 @@
 use Rattle.std.specs.Prelude.{◌≡◌, ◌⊎◌, ◌<◌, ℕ, IsTrue, List, All, length, Option, None, Some, Ok, codes, flat_map}
 use Rattle.std.specs.declared.alloc.AllocError.{AllocError}
 use Rattle.std.specs.Io.KnownBytes.{Appends, Consumes, IsAtEnd}
-use Rattle.words36.specs.Blocks.{word_bytes}
-use Rattle.words36.specs.Words.{IsWord}
+use Rattle.words36.specs.Common.{word_bytes, IsWord}
 use Rattle.words36.specs.declared.moment.Moment.{Moment}
-use Rattle.meaning.specs.Copies.{AreShort, HasFiles, IsPut, IsLineRefused, IsPrinted, HasHalfwordExtension}
-use Rattle.meaning.specs.Copies.{place_of}
-use Rattle.meaning.specs.Causes.{IsRefusedAt}
-use Rattle.meaning.specs.Errands.{AreWords, gets, keeps, operator, unfit}
-use Rattle.meaning.specs.Jobs.{State}
-use Rattle.meaning.specs.Plans.{Act}
-use Rattle.meaning.specs.Published.{Version, file_at}
-use Rattle.meaning.specs.Runs.{Service, Serving}
-use Rattle.meaning.specs.Texts.{Spoken, complains, refuses}
-use Rattle.meaning.specs.declared.call.Reply.{Reply}
-use Rattle.meaning.specs.declared.command.Spec.{Spec}
-use Rattle.meaning.specs.declared.encoding.Encoding.{Encoding}
+use Rattle.spec_language.specs.Common.{AreShort, HasFiles, IsPut, IsLineRefused, IsPrinted, HasHalfwordExtension}
+use Rattle.spec_language.specs.Common.{place_of, IsRefusedAt, AreWords, gets, keeps, operator, unfit, Act, Spoken}
+use Rattle.spec_language.specs.Common.{complains, refuses}
+use Rattle.spec_machine.specs.Common.{State, Service, Serving}
+use Rattle.spec_image.specs.Common.{Version, file_at}
+use Rattle.spec_machine.specs.declared.call.Reply.{Reply}
+use Rattle.spec_language.specs.declared.command.Spec.{Spec}
+use Rattle.spec_language.specs.declared.encoding.Encoding.{Encoding}
 use Rattle.commands.specs.Errands.{Delivery, Errand, keeps_new}
 use Rattle.commands.specs.Exporting.{HasExported, IsExport, takes_out}
 use Rattle.commands.specs.Importing.{Imported, said_behind}

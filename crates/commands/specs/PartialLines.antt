@@ -1,6 +1,6 @@
 -- A line of an input while its bytes come in, and the line that it is in the end.
 use Rattle.std.specs.Prelude.{◌≡◌, ℕ, ◌<◌, ◌≤◌, Bool, true, false, List, [], ◌∷◌, length, map, Option, Some, None}
-use Rattle.meaning.specs.Lines.{Line, Bytes, TooLong, upper}
+use Rattle.spec_language.specs.Common.{Line, Bytes, TooLong, upper}
 use Rattle.commands.specs.declared.input.PartialLine.{PartialLine}
 use Rattle.commands.specs.declared.input.InputLine.{InputLine}
 use Rattle.commands.specs.declared.input.InputLine.TheVariants.{Text as ItsText, TooLong as ItsLength}

@@ -2,13 +2,11 @@
 use Rattle.std.specs.Prelude.{◌≡◌, ◌≢◌, ◌+◌, ◌-◌, ◌*◌, ◌%◌, ◌^◌, ◌<◌, ◌≤◌, ◌==◌, ℕ, Bool, true, false, min, List, []}
 use Rattle.std.specs.Prelude.{◌∷◌, ◌++◌, length, map, take, slice_index, Option, Some, None, Result, Ok, Err}
 use Rattle.std.specs.Prelude.{if◌then◌else◌}
-use Rattle.words36.specs.Blocks.{number_at}
-use Rattle.meaning.specs.Errands.{is_character, AreWords}
-use Rattle.meaning.specs.Lines.{Line, feed, fitting, without_return}
-use Rattle.meaning.specs.Outputs.{longest}
-use Rattle.meaning.specs.Spellings.{Are}
-use Rattle.meaning.specs.declared.encoding.Encoding.{Encoding}
-use Rattle.meaning.specs.declared.encoding.Encoding.TheVariants.{Characters, Words, Octets}
+use Rattle.words36.specs.Common.{number_at}
+use Rattle.spec_language.specs.Common.{is_character, AreWords, Line, feed, fitting, without_return, Are}
+use Rattle.spec_machine.specs.Common.{longest}
+use Rattle.spec_language.specs.declared.encoding.Encoding.{Encoding}
+use Rattle.spec_language.specs.declared.encoding.Encoding.TheVariants.{Characters, Words, Octets}
 use Rattle.commands.specs.declared.reason.Misfit.{Misfit}
 use Rattle.commands.specs.declared.reason.Misfit.TheVariants.{Byte, Length, Word, Excess}
 use Rattle.commands.specs.declared.reason.Reason.{Reason}

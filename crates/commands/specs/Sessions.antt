@@ -1,20 +1,15 @@
 -- A whole session, a whole call script, and the parts that they are made of.
-use Rattle.std.specs.Prelude.{◌≡◌, ◌≢◌, ◌<◌, ◌||◌, ◌+◌, ℕ, List, [], ◌∷◌, ◌++◌, length, Option, None, Result, Ok}
-use Rattle.std.specs.Prelude.{Err, IfOk, IfErr, OnOk}
+use Rattle.std.specs.Prelude.{◌≡◌, ◌≢◌, ◌<◌, ◌||◌, ◌+◌, ℕ, List, [], ◌∷◌, ◌++◌, length, Option, None, Result, Ok, Err}
+use Rattle.std.specs.Prelude.{IfOk, IfErr, OnOk}
 use Rattle.std.specs.Io.KnownBytes.{Consumes, Appends, IsAtEnd}
 use Rattle.words36.specs.declared.moment.Moment.{Moment}
-use Rattle.meaning.specs.Commands.{Means}
-use Rattle.meaning.specs.Lines.{Line, lines}
-use Rattle.meaning.specs.Texts.{Spoken, silent}
-use Rattle.meaning.specs.Plans.{Act}
-use Rattle.meaning.specs.Transcripts.{Speaks, Orders}
-use Rattle.meaning.specs.Runs.{Service}
-use Rattle.meaning.specs.declared.command.Command.{Command}
+use Rattle.spec_language.specs.Common.{Means, Line, lines, Spoken, silent, Act, Speaks, Orders, MeansEvent}
+use Rattle.spec_machine.specs.Common.{Service}
+use Rattle.spec_language.specs.declared.command.Command.{Command}
 use Rattle.commands.specs.PartialLines.{IsPartialLine}
 use Rattle.commands.specs.Fitting.{Fits}
 use Rattle.commands.specs.Languages.{ClosesSession}
 use Rattle.commands.specs.Machines.{Machine, GoesBy}
-use Rattle.meaning.specs.Scripts.{MeansEvent}
 use Rattle.commands.specs.Reasons.{capped, counts, feeds, numbered, reason_of}
 use Rattle.commands.specs.Streams.{IsServedTranscript, IsNumberedTranscript, IsServedSession, IsServedScript, spoken}
 use Rattle.commands.specs.Streams.{HasNoFeed, AreWholeLines, Finished, CutShort, CutOff, Unfinished}

@@ -1,15 +1,11 @@
 -- How far an input has been answered, in bytes that were read and bytes that were written.
 use Rattle.std.specs.Prelude.{◌≡◌, ◌<◌, ℕ, List, [], ◌∷◌, ◌++◌, length, Option, None, ◌⊎◌}
 use Rattle.words36.specs.declared.moment.Moment.{Moment}
-use Rattle.meaning.specs.Lines.{Line, feed, lines}
-use Rattle.meaning.specs.Spellings.{Are}
-use Rattle.meaning.specs.Texts.{Spoken, silent, both_said}
-use Rattle.meaning.specs.Plans.{Act, calls}
-use Rattle.meaning.specs.Room.{Pack}
-use Rattle.meaning.specs.Runs.{Service, Answers}
-use Rattle.meaning.specs.Transcripts.{Went}
-use Rattle.meaning.specs.declared.call.Call.TheVariants.{Reset}
-use Rattle.meaning.specs.declared.call.Reply.{Reply}
+use Rattle.spec_language.specs.Common.{Line, feed, lines, Are, Spoken, silent, both_said, Act, calls, Went}
+use Rattle.spec_image.specs.Common.{Pack}
+use Rattle.spec_machine.specs.Common.{Service, Answers}
+use Rattle.spec_machine.specs.declared.call.Call.TheVariants.{Reset}
+use Rattle.spec_machine.specs.declared.call.Reply.{Reply}
 use Rattle.commands.specs.Characters.{is_other_than}
 use Rattle.commands.specs.Languages.{LineSays, ClosesSession}
 use Rattle.commands.specs.Reasons.{mark, numbered, reason_of}

@@ -1,10 +1,8 @@
 ghost use Rattle.std.specs.Prelude.{◌≡◌, ◌||◌, ℕ, IfOk, Some, codes, false, true};
-ghost use Rattle.meaning.specs.Texts.{line, is_broken};
-ghost use Rattle.meaning.specs.declared.command.Command.TheVariants.{Login as LoginLine, Directory as DirectoryLine};
-ghost use Rattle.commands.specs.Errands.{fresh};
-ghost use Rattle.commands.specs.Fitting.{Fits};
-ghost use Rattle.commands.specs.Reasons.{counts};
-ghost use Rattle.commands.specs.Sessions.{Spoke};
+ghost use Rattle.spec_language.specs.Common.{line, is_broken};
+ghost use Rattle.spec_language.specs.declared.command.Command.TheVariants.{Login as LoginLine};
+ghost use Rattle.spec_language.specs.declared.command.Command.TheVariants.{Directory as DirectoryLine};
+ghost use Rattle.commands.specs.Common.{fresh, Fits, counts, Spoke};
 
 use crate::changing::{delete, protect, rename};
 use crate::copying::copy;
@@ -15,7 +13,8 @@ use crate::service::FileService;
 use crate::survey::show;
 use crate::text;
 use crate::typing::type_out;
-use meaning::{Command, Event, Reply, Spec, Style};
+use spec_language::{Command, Spec, Style};
+use spec_machine::{Event, Reply};
 use std::alloc::{AllocError, Global};
 use words36::{Moment, Ppn};
 

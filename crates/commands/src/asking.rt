@@ -1,12 +1,11 @@
 ghost use Rattle.std.specs.Prelude.{◌≡◌, ℕ, map};
+ghost use Rattle.spec_language.specs.Common.{Plan, Say, each, examines, ends, until_end, Spoken};
+ghost use Rattle.commands.specs.Common.{Led, followed};
 ghost use Rattle.words36.specs.declared.moment.Moment as moments;
-ghost use Rattle.meaning.specs.Plans.{Plan, Say, each, examines, ends, until_end};
-ghost use Rattle.meaning.specs.Texts.{Spoken};
-ghost use Rattle.commands.specs.Asking.{Led, followed};
 
 use crate::answer::SESSION_JOB;
 use crate::service::FileService;
-use meaning::{Call, Event, Reply};
+use spec_machine::{Call, Event, Reply};
 use std::alloc::Global;
 use words36::{Moment, Word};
 

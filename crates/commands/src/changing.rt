@@ -1,16 +1,17 @@
 ghost use Rattle.std.specs.Prelude.{◌<◌, ◌++◌, Some};
-ghost use Rattle.meaning.specs.Plans.{Plan, deletes, each, finds as found};
-ghost use Rattle.meaning.specs.declared.command.Command.TheVariants.{Rename as RenameLine, Delete as DeleteLine};
-ghost use Rattle.meaning.specs.declared.command.Command.TheVariants.{Protect as ProtectLine};
-ghost use Rattle.commands.specs.Asking.{Led, followed};
-ghost use Rattle.commands.specs.Sessions.{Spoke};
+ghost use Rattle.spec_language.specs.Common.{Plan, deletes, each, finds as found};
+ghost use Rattle.spec_language.specs.declared.command.Command.TheVariants.{Rename as RenameLine};
+ghost use Rattle.spec_language.specs.declared.command.Command.TheVariants.{Delete as DeleteLine};
+ghost use Rattle.spec_language.specs.declared.command.Command.TheVariants.{Protect as ProtectLine};
+ghost use Rattle.commands.specs.Common.{Led, followed, Spoke};
 
 use crate::answer::Tally;
 use crate::asking::ask_all;
 use crate::concluding::conclude;
 use crate::requests::{finds, moves, protects, removes};
 use crate::service::FileService;
-use meaning::{Event, Reply, Spec};
+use spec_language::Spec;
+use spec_machine::{Event, Reply};
 use std::alloc::{AllocError, Global};
 use words36::{Moment, Ppn};
 

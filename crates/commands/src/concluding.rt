@@ -1,11 +1,11 @@
-ghost use Rattle.meaning.specs.Plans.{ends, ok};
-ghost use Rattle.commands.specs.Asking.{Concludes, followed};
+ghost use Rattle.spec_language.specs.Common.{ends, ok};
+ghost use Rattle.commands.specs.Common.{Concludes, followed};
 
 use crate::answer::{Tally, is_broken, refuse};
 use crate::asking::reset;
 use crate::service::FileService;
 use crate::text;
-use meaning::Reply;
+use spec_machine::Reply;
 use std::alloc::{AllocError, Global};
 use words36::Moment;
 

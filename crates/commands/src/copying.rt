@@ -1,11 +1,10 @@
 ghost use Rattle.std.specs.Prelude.{◌++◌, ◌∷◌, [], ◌+◌, ℕ, Some};
-ghost use Rattle.meaning.specs.Plans.{Plan, each, examines, finds as found, writes as written, lists as listed};
-ghost use Rattle.meaning.specs.Plans.{file_words, copies_runs, copies_blocks, copies_last, copies_body, until_end};
-ghost use Rattle.meaning.specs.Plans.{blocks_said as said_blocks, calls};
-ghost use Rattle.meaning.specs.declared.call.Call.TheVariants.{Close};
-ghost use Rattle.meaning.specs.declared.command.Command.TheVariants.{Copy as CopyLine};
-ghost use Rattle.commands.specs.Asking.{Led, followed};
-ghost use Rattle.commands.specs.Sessions.{Spoke};
+ghost use Rattle.spec_language.specs.Common.{Plan, each, examines, finds as found, writes as written};
+ghost use Rattle.spec_language.specs.Common.{lists as listed, file_words, copies_runs, copies_blocks, copies_last};
+ghost use Rattle.spec_language.specs.Common.{copies_body, until_end, blocks_said as said_blocks, calls};
+ghost use Rattle.spec_machine.specs.declared.call.Call.TheVariants.{Close};
+ghost use Rattle.spec_language.specs.declared.command.Command.TheVariants.{Copy as CopyLine};
+ghost use Rattle.commands.specs.Common.{Led, followed, Spoke};
 
 use crate::answer::Tally;
 use crate::asking::{ask_all, examine};
@@ -15,7 +14,8 @@ use crate::requests::{
     RUN_BLOCKS, RUN_WORDS, SIZE_WORD, closes, finds, goes_to, lists, puts, takes, writes,
 };
 use crate::service::FileService;
-use meaning::{Reply, Spec};
+use spec_language::Spec;
+use spec_machine::Reply;
 use std::alloc::{AllocError, Global};
 use words36::{BLOCK_WORDS, Moment, Ppn, Word};
 

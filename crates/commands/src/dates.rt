@@ -1,6 +1,6 @@
 ghost use Rattle.std.specs.Prelude.{◌≤◌, IfSome, IfNone, ℕ, List};
-ghost use Rattle.commands.specs.DayTexts.{AreDayFirst, AreDayParts, AreYearFirst, IsDayText, IsDecimal, IsHyphened};
-ghost use Rattle.commands.specs.DayTexts.{IsAtHyphen, IsMonthName};
+ghost use Rattle.commands.specs.Common.{AreDayFirst, AreDayParts, AreYearFirst, IsDayText, IsDecimal, IsHyphened};
+ghost use Rattle.commands.specs.Common.{IsAtHyphen, IsMonthName};
 
 use crate::fields::{decimal_number, length_before};
 use crate::text::month_text;

@@ -1,11 +1,8 @@
 ghost use Rattle.std.specs.Prelude.{◌≡◌, ℕ, List};
-ghost use Rattle.meaning.specs.Errands.{gets, own_file, surveys};
-ghost use Rattle.meaning.specs.Plans.{Say};
-ghost use Rattle.meaning.specs.Texts.{refuses};
-ghost use Rattle.commands.specs.Asking.{Concludes};
-ghost use Rattle.meaning.specs.declared.encoding.Encoding.{Encoding as Encodings};
-ghost use Rattle.commands.specs.Errands.{Delivery, Errand, deletes_file, keeps_as, no_room};
-ghost use Rattle.commands.specs.Reasons.{HasWords, IsInputReason, words_said};
+ghost use Rattle.spec_language.specs.Common.{gets, own_file, surveys, Say, refuses};
+ghost use Rattle.commands.specs.Common.{Concludes, Delivery, Errand, deletes_file, keeps_as, no_room, HasWords};
+ghost use Rattle.commands.specs.Common.{IsInputReason, words_said};
+ghost use Rattle.spec_language.specs.declared.encoding.Encoding.{Encoding as Encodings};
 
 use crate::answer::{Tally, is_broken, refuse};
 use crate::changing::remove;
@@ -17,7 +14,8 @@ use crate::service::FileService;
 use crate::survey::survey;
 use crate::typing::read_out;
 use crate::{Misfit, Reason, SessionError, text};
-use meaning::{Encoding, Reply, Spec, Style};
+use spec_language::{Encoding, Spec, Style};
+use spec_machine::Reply;
 use std::alloc::{AllocError, Global};
 use std::io::{Read, Write};
 use words36::{Moment, Ppn, Word};

@@ -1,13 +1,9 @@
 ghost use Rattle.std.specs.Prelude.{◌≡◌, ◌↔◌, ◌∷◌, [], ℕ, IfOk, IfSome, IfNone, IsTrue, All, Some, None, flat_map};
-ghost use Rattle.words36.specs.Ascii.{packed};
-ghost use Rattle.words36.specs.Blocks.{word_bytes};
-ghost use Rattle.words36.specs.Octets.{IsOctet};
-ghost use Rattle.words36.specs.Words.{IsWord};
-ghost use Rattle.meaning.specs.Errands.{AreWords};
-ghost use Rattle.meaning.specs.Texts.{typed};
-ghost use Rattle.meaning.specs.declared.encoding.Encoding.TheVariants.{Characters, Words, Octets};
-ghost use Rattle.commands.specs.Exporting.{HasBytes, HasEntries, HasExported, HasWordsRead, IsExport, takes_out};
-ghost use Rattle.commands.specs.Exporting.{encodings_for};
+ghost use Rattle.words36.specs.Common.{packed, word_bytes, IsOctet, IsWord};
+ghost use Rattle.spec_language.specs.Common.{AreWords, typed};
+ghost use Rattle.spec_language.specs.declared.encoding.Encoding.TheVariants.{Characters, Words, Octets};
+ghost use Rattle.commands.specs.Common.{HasBytes, HasEntries, HasExported, HasWordsRead, IsExport, takes_out};
+ghost use Rattle.commands.specs.Common.{encodings_for};
 
 use crate::answer::{CORE_WORDS, SESSION_JOB};
 use crate::asking::reset;
@@ -15,7 +11,9 @@ use crate::putting::enter;
 use crate::service::FileService;
 use crate::survey::operator;
 use crate::typing::{push_characters, push_words, read_words};
-use meaning::{Encoding, Entry, Event, Reply, Spec};
+use spec_image::Entry;
+use spec_language::{Encoding, Spec};
+use spec_machine::{Event, Reply};
 use std::alloc::{AllocError, Global};
 use words36::{FileName, Moment, Ppn, Word, pack_ascii, unpack_octets};
 

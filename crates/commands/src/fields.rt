@@ -1,10 +1,8 @@
 ghost use Rattle.std.specs.Prelude.{◌≡◌, ◌≢◌, ◌<◌, ◌≤◌, ◌++◌, ◌∷◌, [], length, slice_index, take, IfSome, IfNone, ℕ};
 ghost use Rattle.std.specs.Prelude.{List};
-ghost use Rattle.meaning.specs.Spellings.{is_space, is_visible, Are, AreFields, IsNumber, IsSmall, IsPair};
-ghost use Rattle.meaning.specs.Spellings.{IsBlockCount};
-ghost use Rattle.commands.specs.Characters.{is_other_than};
-ghost use Rattle.commands.specs.DayTexts.{IsDecimal};
-ghost use Rattle.commands.specs.Orders.{Begins, IsBehind};
+ghost use Rattle.spec_language.specs.Common.{is_space, is_visible, Are, AreFields, IsNumber, IsSmall, IsPair};
+ghost use Rattle.spec_language.specs.Common.{IsBlockCount};
+ghost use Rattle.commands.specs.Common.{is_other_than, IsDecimal, Begins, IsBehind};
 
 use words36::Ppn;
 

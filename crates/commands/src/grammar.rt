@@ -1,15 +1,14 @@
 ghost use Rattle.std.specs.Prelude.{◌≡◌, ◌++◌, ◌∷◌, [], length, IfSome, IfNone, ℕ, List};
-ghost use Rattle.meaning.specs.Spellings.{AreFields, IsBracketed};
-ghost use Rattle.meaning.specs.Commands.{IsAngled, IsProtection, IsProtected, IsNewDirectory, IsLimit, IsCommand};
-ghost use Rattle.meaning.specs.Commands.{Says, Means};
-ghost use Rattle.meaning.specs.declared.command.Command.TheVariants.{Quota as QuotaLine};
-ghost use Rattle.meaning.specs.declared.command.Spec.{Spec as SpecValue};
-ghost use Rattle.commands.specs.PartialLines.{line_of};
+ghost use Rattle.spec_language.specs.Common.{AreFields, IsBracketed, IsAngled, IsProtection, IsProtected};
+ghost use Rattle.spec_language.specs.Common.{IsNewDirectory, IsLimit, IsCommand, Says, Means};
+ghost use Rattle.spec_language.specs.declared.command.Command.TheVariants.{Quota as QuotaLine};
+ghost use Rattle.spec_language.specs.declared.command.Spec.{Spec as SpecValue};
+ghost use Rattle.commands.specs.Common.{line_of};
 
 use crate::fields::{behind_word, block_count, first_field, length_before, pair, small_number};
 use crate::input::InputLine;
 use crate::specs::{spec, specs};
-use meaning::{Command, Spec};
+use spec_language::{Command, Spec};
 use words36::Ppn;
 
 /// The two fields of a text that has two, with spaces between them and none at its ends.

@@ -1,9 +1,6 @@
 ghost use Rattle.std.specs.Prelude.{◌≡◌, ◌++◌, IfOk};
-ghost use Rattle.meaning.specs.Errands.{own_file};
-ghost use Rattle.commands.specs.Asking.{Concludes};
-ghost use Rattle.commands.specs.Errands.{Errand, keeps_as, no_room};
-ghost use Rattle.commands.specs.Importing.{Imported, labels};
-ghost use Rattle.commands.specs.Reasons.{words_said};
+ghost use Rattle.spec_language.specs.Common.{own_file};
+ghost use Rattle.commands.specs.Common.{Concludes, Errand, keeps_as, no_room, Imported, labels, words_said};
 ghost use Rattle.commands.specs.declared.existing.Existing.TheVariants.{Refuse};
 
 use crate::answer::{Tally, refuse};
@@ -14,7 +11,7 @@ use crate::putting::Put;
 use crate::run::print;
 use crate::service::FileService;
 use crate::{Misfit, Reason, SessionError};
-use meaning::Encoding;
+use spec_language::Encoding;
 use std::alloc::{AllocError, Global};
 use std::io::Write;
 use words36::{FileName, Moment, Ppn, Word};

@@ -1,6 +1,6 @@
 ghost use Rattle.std.specs.Prelude.{◌≡◌, ◌++◌, ◌∷◌, [], List, ℕ, if◌then◌else◌};
-ghost use Rattle.meaning.specs.Lines.{fitting, without_return, upper, TooLong};
-ghost use Rattle.commands.specs.PartialLines.{IsPartialLine, line_list, text_line};
+ghost use Rattle.spec_language.specs.Common.{fitting, without_return, upper, TooLong};
+ghost use Rattle.commands.specs.Common.{IsPartialLine, line_list, text_line};
 
 use arrayvec::ArrayVec;
 

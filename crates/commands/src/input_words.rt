@@ -1,17 +1,16 @@
-ghost use Rattle.std.specs.Prelude.{◌≡◌, ◌<◌, ◌↔◌, ◌⊎◌, ◌*◌, ◌+◌, ◌≤◌, ◌^◌, ◌++◌, ℕ, List, IfOk, IfErr, IfSome, IsSome};
-ghost use Rattle.std.specs.Prelude.{length, take, IfNone, IsTrue, OnErr};
+ghost use Rattle.std.specs.Prelude.{◌≡◌, ◌<◌, ◌↔◌, ◌⊎◌, ◌*◌, ◌+◌, ◌≤◌, ◌^◌, ◌++◌, ℕ, List, IfOk, IfErr, IfSome};
+ghost use Rattle.std.specs.Prelude.{IsSome, length, take, IfNone, IsTrue, OnErr};
 ghost use Rattle.std.specs.Io.{ReadsAtMost};
 ghost use Rattle.std.specs.Io.KnownBytes.{Consumes, IsAtEnd, Keeps};
-ghost use Rattle.words36.specs.Blocks.{number_at};
-ghost use Rattle.meaning.specs.Errands.{is_character, unfit};
-ghost use Rattle.meaning.specs.Spellings.{Are};
-ghost use Rattle.meaning.specs.declared.encoding.Encoding.TheVariants.{Characters, Words, Octets};
-ghost use Rattle.commands.specs.Reasons.{HasWords, IsMisfit, BeginsNoFile, IsTooLong, most_bytes};
+ghost use Rattle.words36.specs.Common.{number_at};
+ghost use Rattle.spec_language.specs.Common.{is_character, unfit, Are};
+ghost use Rattle.spec_language.specs.declared.encoding.Encoding.TheVariants.{Characters, Words, Octets};
+ghost use Rattle.commands.specs.Common.{HasWords, IsMisfit, BeginsNoFile, IsTooLong, most_bytes};
 ghost use Rattle.commands.specs.declared.error.SessionError.TheVariants.{Read as ReadFault, NoMemory};
 
 use crate::{Misfit, SessionError};
-use meaning::Encoding;
-use meaning::layout::MOST_WORDS;
+use spec_image::layout::MOST_WORDS;
+use spec_language::Encoding;
 use std::alloc::{AllocError, Global};
 use std::io::{ErrorKind, Read};
 use words36::{Word, pack_ascii, pack_octets};

@@ -97,7 +97,6 @@ pub use laws::{
     errands_reach_files, exports_come_back, lines_have_one_meaning, long_inputs_fit_no_file,
     orders_have_one_reading, served_texts_are_functions,
 };
-pub use meaning::{Encoding, Style};
 pub use monitor::{Area, Monitor, StartError};
 pub use monitored::{
     check, delete, entries, export, get, import, list, make_directory, put, script, session,
@@ -107,6 +106,7 @@ pub use putting::Put;
 pub use reason::{Misfit, Reason, RefusedLines};
 pub use restart::start_after_acts;
 pub use service::FileService;
+pub use spec_language::{Encoding, Style};
 pub use stream::write_text;
 pub use tables::trimmed;
 pub use text::{extension_text, refusal};

@@ -1,6 +1,6 @@
 ghost use Rattle.std.specs.Prelude.{◌≡◌, ◌<◌, ◌^◌, Some};
-ghost use Rattle.meaning.specs.declared.command.Command.TheVariants.{Quota as QuotaLine};
-ghost use Rattle.commands.specs.Sessions.{Spoke};
+ghost use Rattle.spec_language.specs.declared.command.Command.TheVariants.{Quota as QuotaLine};
+ghost use Rattle.commands.specs.Common.{Spoke};
 
 use crate::answer::Tally;
 use crate::asking::ask_all;

@@ -1,9 +1,7 @@
 ghost use Rattle.std.specs.Prelude.{◌≡◌, ◌<◌, Some};
-ghost use Rattle.meaning.specs.Errands.{enters};
-ghost use Rattle.meaning.specs.Plans.{Plan, asks_make_dir, each};
-ghost use Rattle.meaning.specs.declared.command.Command.TheVariants.{MakeDir as MakeLine};
-ghost use Rattle.commands.specs.Asking.{Led, followed};
-ghost use Rattle.commands.specs.Sessions.{Spoke};
+ghost use Rattle.spec_language.specs.Common.{enters, Plan, asks_make_dir, each};
+ghost use Rattle.spec_language.specs.declared.command.Command.TheVariants.{MakeDir as MakeLine};
+ghost use Rattle.commands.specs.Common.{Led, followed, Spoke};
 
 use crate::answer::Tally;
 use crate::asking::ask_all;
@@ -11,7 +9,7 @@ use crate::concluding::conclude;
 use crate::putting::enter;
 use crate::requests::makes;
 use crate::service::FileService;
-use meaning::Reply;
+use spec_machine::Reply;
 use std::alloc::{AllocError, Global};
 use words36::{Moment, Ppn};
 

@@ -1,14 +1,13 @@
 ghost use Rattle.commands.specs.Machines.{Machine};
-ghost use Rattle.monitor.specs.States.{MonitorState};
 ghost use Rattle.commands.specs.Monitors.{machine_of};
 ghost use Rattle.commands.specs.Sessions.{Session, Script};
 ghost use Rattle.commands.specs.Errands.{Checked, Delivery, Errand, Survey, deletes_file, keeps_as};
 ghost use Rattle.commands.specs.Exporting.{HasEntries, HasExported, takes_out};
 ghost use Rattle.commands.specs.Importing.{Imported};
-ghost use Rattle.meaning.specs.Errands.{enters, gets, own_file};
-ghost use Rattle.commands.specs.declared.existing.Existing.TheVariants.{Refuse};
 ghost use Rattle.commands.specs.Asking.{Led, followed};
-ghost use Rattle.meaning.specs.Plans.{Plan, asks_make_dir, each};
+ghost use Rattle.monitor.specs.Common.{MonitorState};
+ghost use Rattle.spec_language.specs.Common.{enters, gets, own_file, Plan, asks_make_dir, each};
+ghost use Rattle.commands.specs.declared.existing.Existing.TheVariants.{Refuse};
 ghost use Rattle.std.specs.Prelude.{Some};
 
 use crate::answer::{SESSION_JOB, Tally};
@@ -21,14 +20,16 @@ use crate::run::{converse, play, print};
 use crate::service::FileService;
 use crate::{SessionError, text};
 use blockdisk::{Disk, NoMemory};
-use meaning::{Call, Encoding, Entry, Event, Reply, Spec, Style};
 use monitor::{Area, Monitor};
+use spec_image::Entry;
+use spec_language::{Encoding, Spec, Style};
+use spec_machine::{Call, Event, Reply};
 use std::alloc::{AllocError, Global};
 use std::io::{Read, Write};
 use words36::{FileName, Moment, Ppn, Word};
 
 impl<D: Disk> FileService for Monitor<D> {
-    ghost use Rattle.monitor.proofs.EventCrashes.{state_stands};
+    ghost use Rattle.monitor.proofs.Events.EventCrashes.{state_stands};
 
     ghost machine = { λ m. machine_of (D.state m.disk) m.map m.failed m.jobs };
 

@@ -1,6 +1,6 @@
 ghost use Rattle.std.specs.Prelude.{map, IfSome, IfNone, ℕ};
-ghost use Rattle.meaning.specs.Lines.{upper};
-ghost use Rattle.commands.specs.Files.{IsFileName, IsOwnerName};
+ghost use Rattle.spec_language.specs.Common.{upper};
+ghost use Rattle.commands.specs.Common.{IsFileName, IsOwnerName};
 
 use crate::fields::pair;
 use crate::grammar::bracketed;

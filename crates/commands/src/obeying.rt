@@ -1,14 +1,13 @@
 ghost use Rattle.std.specs.Prelude.{◌≡◌, ◌||◌, ℕ, Option};
 ghost use Rattle.words36.specs.declared.moment.Moment.{Moment};
-ghost use Rattle.meaning.specs.Transcripts.{is_success, refused_unless};
-ghost use Rattle.meaning.specs.Texts.{is_broken};
-ghost use Rattle.commands.specs.Sessions.{Replied};
+ghost use Rattle.spec_language.specs.Common.{is_success, refused_unless, is_broken};
+ghost use Rattle.commands.specs.Common.{Replied};
 ghost use Rattle.commands.specs.declared.run.Heard.TheVariants.{Ordered};
 
 use crate::answer::Tally;
 use crate::service::FileService;
 use crate::text::{line, reply_line};
-use meaning::{Event, Reply};
+use spec_machine::{Event, Reply};
 use std::alloc::{AllocError, Global};
 
 /// Counts a reply.

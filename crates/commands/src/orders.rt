@@ -1,12 +1,11 @@
 ghost use Rattle.std.specs.Prelude.{◌≡◌, ◌∷◌, [], ℕ, List, codes};
 ghost use Rattle.words36.specs.declared.moment.Moment.{Moment};
-ghost use Rattle.meaning.specs.Scripts.{IsPlace, SaysEvent, MeansEvent, same_text, calls_of_one, calls_of_two};
-ghost use Rattle.commands.specs.PartialLines.{line_of};
-ghost use Rattle.commands.specs.Orders.{FieldsSay, with_one, with_two};
+ghost use Rattle.spec_language.specs.Common.{IsPlace, SaysEvent, MeansEvent, same_text, calls_of_one, calls_of_two};
+ghost use Rattle.commands.specs.Common.{line_of, FieldsSay, with_one, with_two};
 
 use crate::fields::{first_field, octal_number, pair, small_number};
 use crate::input::InputLine;
-use meaning::{Call, Event};
+use spec_machine::{Call, Event};
 use words36::{Moment, Word};
 
 /// How many digits a number has at most.

@@ -1,11 +1,10 @@
 ghost use Rattle.std.specs.Prelude.{◌≡◌, ◌≤◌, ◌+◌, ◌^◌, ◌++◌, ◌∷◌, [], length, Some};
+ghost use Rattle.spec_language.specs.Common.{Plan, each, deposits, calls, announces, creates, enters, fills};
+ghost use Rattle.spec_language.specs.Common.{fills_all as filled_all, own_file, part_address as address_of};
+ghost use Rattle.spec_language.specs.Common.{part_words as words_of};
+ghost use Rattle.spec_machine.specs.declared.call.Call.TheVariants.{Close};
+ghost use Rattle.commands.specs.Common.{Concludes, Led, followed, absent, if_absent, keeps_as, makes_way};
 ghost use Rattle.words36.specs.declared.moment.Moment as moments;
-ghost use Rattle.meaning.specs.Plans.{Plan, each, deposits, calls};
-ghost use Rattle.meaning.specs.Errands.{announces, creates, enters, fills, fills_all as filled_all, own_file};
-ghost use Rattle.meaning.specs.Errands.{part_address as address_of, part_words as words_of};
-ghost use Rattle.meaning.specs.declared.call.Call.TheVariants.{Close};
-ghost use Rattle.commands.specs.Asking.{Concludes, Led, followed};
-ghost use Rattle.commands.specs.Errands.{absent, if_absent, keeps_as, makes_way};
 
 use crate::answer::{CORE_WORDS, SESSION_JOB, Tally};
 use crate::asking::ask_all;
@@ -14,7 +13,8 @@ use crate::existing::Existing;
 use crate::requests::{BLOCK_AREA, RUN_WORDS, closes, finds, lists, puts, writes};
 use crate::ring_requests::{BUFFER_DATA, announces_text, creates_text};
 use crate::service::FileService;
-use meaning::{Encoding, Event, Reply, Spec};
+use spec_language::{Encoding, Spec};
+use spec_machine::{Event, Reply};
 use std::alloc::{AllocError, Global};
 use words36::{BLOCK_WORDS, FileName, Moment, Ppn, Word};
 

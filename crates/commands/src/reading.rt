@@ -1,16 +1,16 @@
 ghost use Rattle.std.specs.Prelude.{◌≡◌, ◌<◌, ◌≤◌, ◌-◌, ◌^◌, ℕ, List, if◌then◌else◌, IfOk, Some, None, length, take};
 ghost use Rattle.std.specs.Prelude.{replicate};
-ghost use Rattle.words36.specs.Words.{left};
+ghost use Rattle.words36.specs.Common.{left};
+ghost use Rattle.spec_language.specs.Common.{Plan, each, fetches, deposits, takes_over, sizes, until_end, says_words};
+ghost use Rattle.spec_language.specs.Common.{block_address};
+ghost use Rattle.commands.specs.Common.{Led, followed};
 ghost use Rattle.words36.specs.declared.moment.Moment as moments;
-ghost use Rattle.meaning.specs.Plans as plans;
-ghost use Rattle.meaning.specs.Plans.{Plan, each, fetches, deposits, takes_over, sizes, until_end, says_words};
-ghost use Rattle.meaning.specs.Plans.{block_address};
-ghost use Rattle.commands.specs.Asking.{Led, followed};
+ghost use Rattle.spec_language.specs.Plans as plans;
 
 use crate::asking::{ask_all, examine};
 use crate::requests::{BLOCK_AREA, fills, goes_to, takes};
 use crate::service::FileService;
-use meaning::Reply;
+use spec_machine::Reply;
 use std::alloc::Global;
 use words36::{BLOCK_WORDS, Block, Moment, Word};
 

@@ -1,5 +1,5 @@
 ghost use Rattle.std.specs.Prelude.{◌≡◌, true};
-ghost use Rattle.commands.specs.Reasons.{counts};
+ghost use Rattle.commands.specs.Common.{counts};
 
 /// Why bytes can't be a file.
 #[derive(Clone, Copy, Debug, PartialEq, Eq)]

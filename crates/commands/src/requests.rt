@@ -1,12 +1,13 @@
 ghost use Rattle.std.specs.Prelude.{◌≡◌, ◌<◌, ◌≤◌, ◌+◌, ◌-◌, ◌*◌, ◌%◌, ◌^◌, ◌++◌, ◌∷◌, [], map, unwrap_or};
-ghost use Rattle.words36.specs.Words.{join};
-ghost use Rattle.meaning.specs.Plans as plans;
-ghost use Rattle.meaning.specs.Plans.{block_address, file_words};
-ghost use Rattle.meaning.specs.declared.call.Call.TheVariants.{Close, Rename};
-ghost use Rattle.meaning.specs.declared.call.Event.TheVariants.{Deposit};
+ghost use Rattle.words36.specs.Common.{join};
+ghost use Rattle.spec_language.specs.Common.{block_address, file_words};
+ghost use Rattle.spec_machine.specs.declared.call.Call.TheVariants.{Close, Rename};
+ghost use Rattle.spec_machine.specs.declared.call.Event.TheVariants.{Deposit};
+ghost use Rattle.spec_language.specs.Plans as plans;
 
 use crate::answer::SESSION_JOB;
-use meaning::{Call, Event, Spec};
+use spec_language::Spec;
+use spec_machine::{Call, Event};
 use words36::{BLOCK_WORDS, FileName, Half, Moment, Ppn, Word};
 
 // Where a session has what it hands over, in its core.

@@ -1,14 +1,9 @@
 ghost use Rattle.std.specs.Prelude.{◌≡◌, ◌⊎◌, List, IfOk, IfErr};
-ghost use Rattle.meaning.specs.Plans.{Act};
-ghost use Rattle.meaning.specs.Jobs.{State};
-ghost use Rattle.meaning.specs.Layouts.{pack_of};
-ghost use Rattle.meaning.specs.Published.{without_serials};
-ghost use Rattle.meaning.specs.Runs.{Serving};
-ghost use Rattle.monitor.specs.Runs.{ServesFiles, AreStopped};
-ghost use Rattle.monitor.specs.Serving.{Serves};
-ghost use Rattle.monitor.specs.States.{MonitorState};
-ghost use Rattle.commands.specs.Machines.{GoesBy, IsAlongActs};
-ghost use Rattle.commands.specs.Monitors.{machine_of};
+ghost use Rattle.spec_language.specs.Common.{Act};
+ghost use Rattle.spec_machine.specs.Common.{State, Serving};
+ghost use Rattle.spec_image.specs.Common.{pack_of, without_serials};
+ghost use Rattle.monitor.specs.Common.{ServesFiles, AreStopped, Serves, MonitorState};
+ghost use Rattle.commands.specs.Common.{GoesBy, IsAlongActs, machine_of};
 ghost use Rattle.volume.specs.declared.error.VolumeError.TheVariants.{NoMemory, Device};
 
 use blockdisk::Disk;

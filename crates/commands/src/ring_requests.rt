@@ -1,11 +1,12 @@
 ghost use Rattle.std.specs.Prelude.{◌≡◌, ◌≤◌, ◌+◌, ◌-◌};
-ghost use Rattle.words36.specs.Words.{join};
-ghost use Rattle.meaning.specs.Errands as errands;
-ghost use Rattle.meaning.specs.declared.encoding.Encoding.TheVariants.{Characters};
+ghost use Rattle.words36.specs.Common.{join};
+ghost use Rattle.spec_language.specs.declared.encoding.Encoding.TheVariants.{Characters};
+ghost use Rattle.spec_language.specs.Errands as errands;
 
 use crate::answer::SESSION_JOB;
 use crate::requests::{DISK, NEW_WORDS, OPEN_WORDS, WRITER, extension_word, owner_word, puts};
-use meaning::{Call, Event, Spec};
+use spec_language::Spec;
+use spec_machine::{Call, Event};
 use words36::{Half, Moment, Word};
 
 /// The three words of the header of the ring that a text is put by.

@@ -1,7 +1,6 @@
 ghost use Rattle.std.specs.Prelude.{◌≡◌, ◌∷◌, [], ℕ, OnOk, IfOk, IfErr, MatchResult};
-ghost use Rattle.commands.specs.PartialLines.{line_list};
-ghost use Rattle.commands.specs.Sessions.{HeardIn, FitsIn, WritesText, Told, Closed, StepsOn, BreaksOff, EndsWell};
-ghost use Rattle.commands.specs.Sessions.{Talked, Session, Script};
+ghost use Rattle.commands.specs.Common.{line_list, HeardIn, FitsIn, WritesText, Told, Closed, StepsOn, BreaksOff};
+ghost use Rattle.commands.specs.Common.{EndsWell, Talked, Session, Script};
 
 use crate::SessionError;
 use crate::answer::{SESSION_JOB, Tally, answer};
@@ -13,7 +12,8 @@ use crate::orders::ordered_by;
 use crate::service::FileService;
 use crate::stream::write_text;
 use crate::waiting::{flush, say};
-use meaning::{Call, Command, Event};
+use spec_language::Command;
+use spec_machine::{Call, Event};
 use std::alloc::{AllocError, Global};
 use std::io::{Read, Write};
 use words36::{Moment, Ppn};

@@ -1,18 +1,16 @@
 ghost use Rattle.std.specs.Prelude.{◌≡◌, IfSome, IfOk, IsTrue, IsFalse, MatchResult, Ok, Err, length};
 ghost use Rattle.std.specs.Int.{saturate_unsigned, w64};
 ghost use Rattle.std.specs.List.{AllByRecursion};
-ghost use Rattle.meaning.specs.Jobs.{State, job_at};
-ghost use Rattle.meaning.specs.Plans.{deposits};
-ghost use Rattle.meaning.specs.Room.{room};
-ghost use Rattle.meaning.specs.Runs.{Serving};
-ghost use Rattle.monitor.specs.Changed.{IsInside, areas_for};
-ghost use Rattle.monitor.specs.Moments.{StandsNow};
+ghost use Rattle.spec_machine.specs.Common.{State, job_at, room, Serving};
+ghost use Rattle.spec_language.specs.Common.{deposits};
+ghost use Rattle.monitor.specs.Common.{IsInside, areas_for, StandsNow};
 ghost use Rattle.commands.specs.Asking.{HasDone};
 ghost use Rattle.commands.specs.Machines.{Machine, AreShown, IsAnswered, IsListed};
 
 use blockdisk::NoMemory;
-use meaning::{Call, Entry, Event, Reply};
 use monitor::Area;
+use spec_image::Entry;
+use spec_machine::{Call, Event, Reply};
 use std::alloc::Global;
 use words36::{Ppn, Word};
 

@@ -1,12 +1,11 @@
 ghost use Rattle.std.specs.Prelude.{◌≡◌, ◌≤◌, ◌↔◌, true, IfSome, IfNone, ℕ, Option};
-ghost use Rattle.meaning.specs.Spellings.{is_letter, Are, IsName, IsExtension, IsOwner, IsSpec};
-ghost use Rattle.meaning.specs.Commands.{AreSpecs};
-ghost use Rattle.meaning.specs.declared.command.Spec.{Spec as SpecValue};
-ghost use Rattle.commands.specs.Files.{AreLetters, IsFileName};
+ghost use Rattle.spec_language.specs.Common.{is_letter, Are, IsName, IsExtension, IsOwner, IsSpec, AreSpecs};
+ghost use Rattle.spec_language.specs.declared.command.Spec.{Spec as SpecValue};
+ghost use Rattle.commands.specs.Common.{AreLetters, IsFileName};
 
 use crate::fields::length_before;
 use crate::grammar::bracketed;
-use meaning::Spec;
+use spec_language::Spec;
 use words36::{FileName, Half, Ppn, Word, sixbit_of};
 
 /// Whether a byte is a letter or a digit.

@@ -1,16 +1,13 @@
 ghost use Rattle.std.specs.Prelude.{◌≡◌, [], IfOk, IfErr};
-ghost use Rattle.meaning.specs.Plans.{Plan, Say};
-ghost use Rattle.meaning.specs.Errands.{operator, shows_all, surveys};
-ghost use Rattle.commands.specs.Asking.{Led, HasShown};
-ghost use Rattle.commands.specs.Errands.{Carries, fresh};
-ghost use Rattle.commands.specs.Streams.{spoken};
+ghost use Rattle.spec_language.specs.Common.{Plan, Say, operator, shows_all, surveys};
+ghost use Rattle.commands.specs.Common.{Led, HasShown, Carries, fresh, spoken};
 
 use crate::answer::{SESSION_JOB, Tally, is_broken, refuse};
 use crate::concluding::conclude;
 use crate::putting::enter;
 use crate::service::FileService;
 use crate::text;
-use meaning::Style;
+use spec_language::Style;
 use std::alloc::{AllocError, Global};
 use words36::{Moment, Ppn};
 

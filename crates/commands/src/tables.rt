@@ -1,15 +1,15 @@
 //! The list of a directory as a table: a line for each file, whose fields are apart by a tab.
 ghost use Rattle.std.specs.Prelude.{◌≡◌, ◌++◌, ◌∷◌, ◌≤◌, [], All, IfOk, OnOk, string_bytes};
-ghost use Rattle.meaning.specs.Texts.{trimmed, two_octal, two_digits, place_fields, right_fields, day_field};
-ghost use Rattle.meaning.specs.Texts.{minute_field, owner_text, size_fields, row_text, table};
+ghost use Rattle.spec_language.specs.Common.{trimmed, two_octal, two_digits, place_fields, right_fields, day_field};
+ghost use Rattle.spec_language.specs.Common.{minute_field, owner_text, size_fields, row_text, table};
 
 use crate::text::{extension_text, three_digits};
-use meaning::Entry;
+use spec_image::Entry;
 use std::alloc::{AllocError, Global};
 use words36::{FileName, Ppn, text_of};
 
 /// What a list is as a table: the bytes of a line for each entry.
-#[tactic(auto, unfolding(meaning::specs::Texts::table))]
+#[tactic(auto, unfolding(spec_language::specs::Texts::table))]
 pub fn table(alloc: Global, owner: Ppn, entries: &[Entry]) -> Result<Vec<u8>, AllocError>
     ensures { IfOk result (λ bytes. bytes.items ≡ table owner entries.now) }
 {

@@ -1,12 +1,13 @@
 ghost use Rattle.std.specs.Prelude.{◌≡◌, ◌++◌, IfOk, OnOk, codes, string_bytes};
-ghost use Rattle.words36.specs.Sixbit.{characters};
-ghost use Rattle.meaning.specs.Scripts.{words_given};
-ghost use Rattle.meaning.specs.Texts.{line, refusal, code_text, greeting, right_in, three_digits, extension_text};
-ghost use Rattle.meaning.specs.Texts.{month_text, day_text, entry_text, blocks_in, total_text, listing, list_text};
-ghost use Rattle.meaning.specs.Errands.{volume_line};
+ghost use Rattle.words36.specs.Common.{characters};
+ghost use Rattle.spec_language.specs.Common.{words_given, line, refusal, code_text, greeting, right_in, three_digits};
+ghost use Rattle.spec_language.specs.Common.{extension_text, month_text, day_text, entry_text, blocks_in, total_text};
+ghost use Rattle.spec_language.specs.Common.{listing, list_text, volume_line};
 
 use crate::tables::table;
-use meaning::{Entry, Reply, Style};
+use spec_image::Entry;
+use spec_language::Style;
+use spec_machine::Reply;
 use std::alloc::{AllocError, Global};
 use words36::{FileName, Half, Ppn, text_of};
 
@@ -115,7 +116,7 @@ pub fn list_text(
 }
 
 /// What DIRECTORY prints: the bytes of a line for each entry, and of a line with the totals.
-#[tactic(auto, unfolding(meaning::specs::Texts::listing))]
+#[tactic(auto, unfolding(spec_language::specs::Texts::listing))]
 fn listing(alloc: Global, owner: Ppn, entries: &[Entry]) -> Result<Vec<u8>, AllocError>
     ensures { IfOk result (λ bytes. bytes.items ≡ listing owner entries.now) }
 {

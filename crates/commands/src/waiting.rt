@@ -1,5 +1,5 @@
 ghost use Rattle.std.specs.Prelude.{◌≡◌, ◌++◌, [], ℕ, List, IsTrue, IsFalse, OnOk, IfOk};
-ghost use Rattle.commands.specs.Sessions.{IsFlushed, IsGivenUp, AddsText};
+ghost use Rattle.commands.specs.Common.{IsFlushed, IsGivenUp, AddsText};
 
 use crate::SessionError;
 use crate::stream::write_text;

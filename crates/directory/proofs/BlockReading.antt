@@ -1,12 +1,12 @@
 -- The words of a directory block as loops go over them: the first i entries, and one more.
 use Rattle.std.proofs.Common.{◌≡◌, ℕ, zero, suc, ◌+◌, ◌*◌, ◌-◌, ◌<◌, ◌≤◌, List, [], ◌∷◌, ◌++◌, length, get_or, take}
-use Rattle.std.proofs.Common.{drop, replicate, flat_map, refl, sym, ap, subst, ◌∙◌, arith, append_assoc, length-append}
+use Rattle.std.proofs.Common.{drop, replicate, flat_map, refl, sym, ap, subst, ◌∙◌, arith, append_assoc}
+use Rattle.std.proofs.Common.{length-append}
 use Rattle.std.specs.List.{AllByRecursion}
 use Rattle.std.proofs.lemmas.List.{length-replicate, flat_map_more, take-append-drop, take_rest, length-drop}
 use Rattle.std.proofs.Math.Seq.{take-add, take-append_seam, drop-append-add}
-use Rattle.meaning.proofs.Lists.{TellsApart}
-use Rattle.meaning.proofs.SlotLaws.{all_append}
-use Rattle.directory.specs.Loading.{SpellsBlock, SpellsEntries}
+use Rattle.spec_image.proofs.Common.{TellsApart, all_append}
+use Rattle.directory.specs.Common.{SpellsBlock, SpellsEntries}
 use Rattle.directory.proofs.Images.{length_words}
 
 -- The entry at a place of a list, with the words that it has in a block.

@@ -4,16 +4,12 @@ use Rattle.std.proofs.Common.{Some, refl, sym, ap, subst, ◌∙◌, arith, inl,
 use Rattle.std.proofs.lemmas.List.{drop-drop}
 use Rattle.std.proofs.lemmas.Bool.{cases_eq}
 use Rattle.std.specs.List.{AllByRecursion}
-use Rattle.blockdisk.specs.Disk.{Contents}
-use Rattle.meaning.specs.declared.put.Put.{Put}
-use Rattle.meaning.specs.Maps.{times}
-use Rattle.meaning.specs.Log.{targets, with_puts}
-use Rattle.meaning.specs.Directories.{first_of, directory_block, IsSpelled}
-use Rattle.meaning.proofs.Lists.{times_here, times_later, times-cons}
-use Rattle.changeset.specs.Puts.{replaced}
-use Rattle.changeset.specs.PutLaws.{with_puts-replaced, with_puts_here, with_puts_later, all_replaced}
-use Rattle.directory.specs.Chains.{ChainState, nodes_of}
-use Rattle.directory.specs.Edits.{block_words, block_put}
+use Rattle.blockdisk.specs.Common.{Contents}
+use Rattle.spec_image.specs.declared.put.Put.{Put}
+use Rattle.spec_image.specs.Common.{times, targets, with_puts, first_of, directory_block, IsSpelled}
+use Rattle.spec_image.proofs.Common.{times_here, times_later, times-cons}
+use Rattle.changeset.specs.Common.{replaced, with_puts-replaced, with_puts_here, with_puts_later, all_replaced}
+use Rattle.directory.specs.Common.{ChainState, nodes_of, block_words, block_put}
 
 -- a block of a chain is one of its blocks
 pub times_get : (ns : List ℕ) (k : ℕ) → k < length ns → 0 < times (get_or ns k 0) ns

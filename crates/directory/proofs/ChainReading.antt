@@ -1,7 +1,7 @@
 -- A chain as it is read, block by block: what was read so far, and what a stop there says of the disk.
 use Rattle.std.proofs.Common.{◌≡◌, ⊎_elim, ℕ, zero, suc, ◌+◌, ◌*◌, ◌<◌, ◌≤◌, Bool, true, false, List, [], ◌∷◌, ◌++◌}
-use Rattle.std.proofs.Common.{length, take, drop, slice_set, Some, None, refl, sym, ap, subst, ◌∙◌, arith, append_assoc}
-use Rattle.std.proofs.Common.{length-append, Ordering}
+use Rattle.std.proofs.Common.{length, take, drop, slice_set, Some, None, refl, sym, ap, subst, ◌∙◌, arith}
+use Rattle.std.proofs.Common.{append_assoc, length-append, Ordering}
 use Rattle.std.specs.List.{AllByRecursion}
 use Rattle.std.proofs.lemmas.Bool.{cases_eq}
 use Rattle.std.proofs.lemmas.Bool.Decides.{nat_tests}
@@ -9,26 +9,16 @@ use Rattle.std.proofs.lemmas.List.{get_or-set_same, get_or-set_other, length-map
 use Rattle.std.proofs.lemmas.List.{length-drop, take_all}
 use Rattle.std.proofs.Math.ListN.{length-set}
 use Rattle.std.proofs.Math.Seq.{take-append_seam, drop-append_seam}
-use Rattle.blockdisk.specs.Disk.{Contents, DiskState}
-use Rattle.blockdisk.specs.Laws.{same_contents, still_start}
-use Rattle.changeset.specs.Reads.{OnlyReads}
-use Rattle.meaning.specs.Blocks.{head_or_zero}
-use Rattle.meaning.specs.Costs.{directory_cost}
-use Rattle.meaning.specs.Maps.{EachOnce, from_entries, times}
-use Rattle.meaning.specs.Directories.{Node, numbers, first_of, items, directory_block, IsSpelled, IsDirectory}
-use Rattle.meaning.specs.Walks.{LeadsAlong}
-use Rattle.meaning.specs.Faults.{InSpace, IsBadBlock, walked}
-use Rattle.meaning.proofs.MapLaws.{some_same, some_none}
-use Rattle.meaning.proofs.MapSums.{times-append}
-use Rattle.meaning.proofs.Lists.{TellsApart}
-use Rattle.meaning.proofs.SlotLaws.{all_append}
-use Rattle.meaning.proofs.Walking.{walk_le}
-use Rattle.meaning.proofs.Excluded.{no_bad_block}
-use Rattle.meaning.proofs.Chains.{head-numbers}
-use Rattle.alloctab.specs.Lists.{digit, digit_at, flag_at}
-use Rattle.directory.specs.Chains.{nodes_of, IsChain, IsOn}
-use Rattle.directory.specs.ChainLaws.{numbers_of, items_of}
-use Rattle.directory.specs.Loading.{AreGood, IsBadWords, IsBadAt, ReadsOn, IsBadChain, IsTwiceInChain, IsWholeChain}
+use Rattle.blockdisk.specs.Common.{Contents, DiskState, same_contents, still_start}
+use Rattle.changeset.specs.Common.{OnlyReads}
+use Rattle.spec_image.specs.Common.{head_or_zero, directory_cost, EachOnce, from_entries, times, Node, numbers}
+use Rattle.spec_image.specs.Common.{first_of, items, directory_block, IsSpelled, IsDirectory, LeadsAlong, InSpace}
+use Rattle.spec_image.specs.Common.{IsBadBlock, walked}
+use Rattle.spec_image.proofs.Common.{some_same, some_none, times-append, TellsApart, all_append, walk_le}
+use Rattle.spec_image.proofs.Common.{no_bad_block, head-numbers}
+use Rattle.alloctab.specs.Common.{digit, digit_at, flag_at}
+use Rattle.directory.specs.Common.{nodes_of, IsChain, IsOn, numbers_of, items_of, AreGood, IsBadWords, IsBadAt}
+use Rattle.directory.specs.Common.{ReadsOn, IsBadChain, IsTwiceInChain, IsWholeChain}
 use Rattle.alloctab.proofs.SpaceLaws.{in_space_some}
 
 -- The disk is read and not written.

@@ -1,8 +1,9 @@
 -- The entries of a chain after an edit: which they are, that they are a chain's, and their map.
 -- In each section `o` says that the order of the keys is total, and `exact` that only equal keys tie in it.
-use Rattle.std.proofs.Common.{◌≡◌, ℕ, zero, suc, ◌+◌, ◌-◌, ◌*◌, ◌<◌, ◌≤◌, Bool, true, false, cond, List, [], ◌∷◌, ◌++◌}
-use Rattle.std.proofs.Common.{length, take, drop, slice_get, slice_set, swap_remove, get_or, Option, Some, None, refl}
-use Rattle.std.proofs.Common.{sym, ap, subst, ◌∙◌, Ordering, arith, length-append, append-nil, append_assoc}
+use Rattle.std.proofs.Common.{◌≡◌, ℕ, zero, suc, ◌+◌, ◌-◌, ◌*◌, ◌<◌, ◌≤◌, Bool, true, false, cond, List, [], ◌∷◌}
+use Rattle.std.proofs.Common.{◌++◌, length, take, drop, slice_get, slice_set, swap_remove, get_or, Option, Some, None}
+use Rattle.std.proofs.Common.{refl, sym, ap, subst, ◌∙◌, Ordering, arith, length-append, append-nil, append_assoc}
+use Rattle.std.proofs.Common.{◌⊎◌, inl, inr}
 use Rattle.std.proofs.lemmas.List.{set_split, length-set, drop_more, drop_all, take-append-drop}
 use Rattle.std.specs.List.{AllByRecursion}
 use Rattle.std.specs.Ordering.{eq_by_cmp}
@@ -10,19 +11,14 @@ use Rattle.std.specs.Option.{option_or}
 use Rattle.std.specs.Cmp.{IsTotalOrder}
 use Rattle.std.specs.FinMap.{IsAntisymmetric}
 use Rattle.std.specs.FinMap.Entries.{find}
-use Rattle.meaning.specs.Costs.{directory_cost}
-use Rattle.meaning.specs.Maps.{EachOnce, times, from_entries, insert, remove}
-use Rattle.meaning.proofs.ChainEdits.{all_without, all_around}
-use Rattle.meaning.proofs.MapEdits.{EachOnce-without, EachOnce-around, EachOnce-push, from_entries_around}
-use Rattle.meaning.proofs.MapEdits.{from_entries_without, from_entries_replaced, from_entries_moved}
-use Rattle.meaning.proofs.MapLaws.{some_none, some_same, at_itself}
-use Rattle.meaning.proofs.MapLists.{find-append_both, from_entries_push}
-use Rattle.meaning.proofs.MapSums.{times-append}
-use Rattle.changeset.specs.PutLaws.{times_head, times_tail}
+use Rattle.spec_image.specs.Common.{directory_cost, EachOnce, times, from_entries, insert, remove}
+use Rattle.spec_image.proofs.Common.{all_without, all_around, EachOnce-without, EachOnce-around, EachOnce-push}
+use Rattle.spec_image.proofs.Common.{from_entries_around, from_entries_without, from_entries_replaced}
+use Rattle.spec_image.proofs.Common.{from_entries_moved, some_none, some_same, at_itself, find-append_both}
+use Rattle.spec_image.proofs.Common.{from_entries_push, times-append}
+use Rattle.changeset.specs.Common.{times_head, times_tail}
 use Rattle.std.proofs.lemmas.Bool.{cases_eq}
-use Rattle.std.proofs.Common.{◌⊎◌, inl, inr}
-use Rattle.directory.specs.Chains.{IsChain}
-use Rattle.directory.specs.Edits.{StandsAt, inserted, renamed, removed, last_first}
+use Rattle.directory.specs.Common.{IsChain, StandsAt, inserted, renamed, removed, last_first}
 
 -- a list at one of its elements
 pub at_place : {X : Type 0} (xs : List X) (i : ℕ) (x : X) → slice_get xs i ≡ Some x

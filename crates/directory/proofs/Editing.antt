@@ -4,15 +4,10 @@ use Rattle.std.proofs.Common.{◌≡◌, ◌⊎◌, ℕ, zero, suc, ◌+◌, ◌
 use Rattle.std.proofs.Common.{get_or, slice_set, refl, sym, ap, ◌∙◌, arith, inl, inr, length-append}
 use Rattle.std.proofs.lemmas.List.{get_or_append_left}
 use Rattle.std.specs.List.{AllByRecursion}
-use Rattle.meaning.specs.declared.put.Put.{Put}
-use Rattle.meaning.specs.Costs.{directory_cost}
-use Rattle.meaning.specs.Directories.{directory_block}
-use Rattle.meaning.specs.Faults.{InSpace}
-use Rattle.meaning.specs.Log.{IsTarget}
-use Rattle.meaning.specs.Maps.{times}
-use Rattle.changeset.specs.Puts.{replaced}
-use Rattle.directory.specs.Chains.{ChainState}
-use Rattle.directory.specs.Edits.{block_words, block_put, PutsChain}
+use Rattle.spec_image.specs.declared.put.Put.{Put}
+use Rattle.spec_image.specs.Common.{directory_cost, directory_block, InSpace, IsTarget, times}
+use Rattle.changeset.specs.Common.{replaced}
+use Rattle.directory.specs.Common.{ChainState, block_words, block_put, PutsChain}
 use Rattle.directory.proofs.ChainPuts.{one_spells, two_spell, put_others, put_in_range}
 use Rattle.directory.proofs.Windows.{window_set, window_more, window_fewer}
 

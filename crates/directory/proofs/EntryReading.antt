@@ -9,14 +9,10 @@ use Rattle.std.specs.FinMap.Entries.{find}
 use Rattle.std.proofs.lemmas.Bool.{cases_eq}
 use Rattle.std.proofs.lemmas.Bool.Decides.{nat_tests}
 use Rattle.std.proofs.lemmas.List.{map-append, length-map}
-use Rattle.meaning.specs.Maps.{EachOnce}
-use Rattle.meaning.specs.Faults.{InSpace}
-use Rattle.meaning.proofs.Lists.{TellsApart}
-use Rattle.meaning.proofs.MapLaws.{some_none}
-use Rattle.meaning.proofs.MapEdits.{EachOnce-push, EachOnce-without}
-use Rattle.meaning.proofs.SlotLaws.{all_append}
-use Rattle.meaning.proofs.Walking.{all_back, once_front}
-use Rattle.directory.specs.Loading.{SpellsBlock, AreGood, IsBadWords, Adds}
+use Rattle.spec_image.specs.Common.{EachOnce, InSpace}
+use Rattle.spec_image.proofs.Common.{TellsApart, some_none, EachOnce-push, EachOnce-without, all_append, once_front}
+use Rattle.spec_image.proofs.Common.{all_right}
+use Rattle.directory.specs.Common.{SpellsBlock, AreGood, IsBadWords, Adds}
 use Rattle.directory.proofs.BlockReading.{IsEntryAt, spelled_at, behind_two}
 
 -- Looking for a key.
@@ -90,7 +86,7 @@ module _ {K V : Type 0} {R : K → K → Ordering} (o : IsTotalOrder R) (words :
 
   pub one_outside : ((e : K × V) → IsEntry e → words e ≡ three → InSpace size (target e) → ⊥)
       → AllByRecursion (λ e. InSpace size (target e)) es → ⊥
-  one_outside out all = out here.entry here.good has_words (all_back (λ e. InSpace size (target e)) (take i es)
+  one_outside out all = out here.entry here.good has_words (all_right (λ e. InSpace size (target e)) (take i es)
       (here.entry ∷ drop (i + 1) es) (subst (AllByRecursion (λ e. InSpace size (target e))) here.split all)).0
 
   pub one_again : (old now : List (K × V)) → now ≡ old ++ take i es
@@ -142,7 +138,7 @@ module _ {K V : Type 0} (R : K → K → Ordering) (words : K × V → List ℕ)
 pub same_number : (n m : ℕ) → (n == m) ≡ true → n ≡ m
 same_number n m t = grind (arith, nat_tests)
 
-some_number : (n : ℕ) → (n == 0) ≡ false → 0 < n
+pub some_number : (n : ℕ) → (n == 0) ≡ false → 0 < n
 some_number n t = grind (arith, nat_tests)
 
 pub none_then : {E X : Type 0} (view : E → X) (slice es : List E) (b : Bool) → slice ≡ es → b ≡ (length slice == 0)

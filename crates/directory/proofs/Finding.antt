@@ -1,18 +1,16 @@
 -- The entry with a key, and where it stands.
-use Rattle.std.proofs.Common.{◌≡◌, ℕ, zero, suc, ◌+◌, ◌*◌, ◌%◌, ◌<◌, Bool, true, false, cond, List, [], ◌∷◌, ◌++◌, map}
-use Rattle.std.proofs.Common.{length, take, get_or, slice_get, Option, Some, None, IfNone, is_some, refl, sym, ap}
-use Rattle.std.proofs.Common.{subst, ◌∙◌, Ordering}
-use Rattle.std.proofs.Common.{arith}
+use Rattle.std.proofs.Common.{◌≡◌, ℕ, zero, suc, ◌+◌, ◌*◌, ◌%◌, ◌<◌, Bool, true, false, cond, List, [], ◌∷◌, ◌++◌}
+use Rattle.std.proofs.Common.{map, length, take, get_or, slice_get, Option, Some, None, IfNone, is_some, refl, sym}
+use Rattle.std.proofs.Common.{ap, subst, ◌∙◌, Ordering, arith}
 use Rattle.std.proofs.lemmas.List.{take_more, length-map, get_or-map}
 use Rattle.std.specs.Ordering.{eq_by_cmp, is_eq}
 use Rattle.std.specs.Option.{option_or}
 use Rattle.std.specs.Cmp.{IsTotalOrder, Equal-is, tied_back}
 use Rattle.std.specs.FinMap.{IsAntisymmetric}
 use Rattle.std.specs.FinMap.Entries.{find}
-use Rattle.meaning.specs.Costs.{directory_cost}
-use Rattle.meaning.proofs.MapLaws.{some_none, some_same}
-use Rattle.meaning.proofs.MapLists.{find-append_both, find_first}
-use Rattle.directory.specs.Edits.{StandsAt}
+use Rattle.spec_image.specs.Common.{directory_cost}
+use Rattle.spec_image.proofs.Common.{some_none, some_same, find-append_both, find_first}
+use Rattle.directory.specs.Common.{StandsAt}
 
 -- the last block of a chain is full where its entries fill whole blocks
 pub full_blocks : (n b : ℕ) → b ≡ directory_cost n → 0 < n → (n % 42 ≡ 0 → n ≡ 42 * b) × (n ≡ 42 * b → n % 42 ≡ 0)
@@ -23,7 +21,7 @@ read_at [] i d h = absurd (omega arith)
 read_at (x ∷ xs) zero d h = refl
 read_at (x ∷ xs) (suc i) d h = read_at xs i d (omega arith)
 
-true_false : true ≡ false → ⊥
+pub true_false : true ≡ false → ⊥
 true_false e = cc
 
 -- what holds where nothing was found

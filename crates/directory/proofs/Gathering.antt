@@ -1,9 +1,9 @@
 -- Entries that are gathered beside the places of their keys: where a new key belongs among these, and that they stay in
 -- step. `o` says that the order of the keys is total, `exact` that only equal keys tie in it, and `keyed` that the
 -- keys compare by it.
-use Rattle.std.proofs.Common.{◌≡◌, ℕ, suc, List, [], ◌∷◌, ◌++◌, length, take, drop, map}
-use Rattle.std.proofs.Common.{slice_get, Option, Some, None, true, false, cond, refl, sym, ap, subst, ◌∙◌, arith}
-use Rattle.std.proofs.Common.{Ordering, Less, Equal, Greater}
+use Rattle.std.proofs.Common.{◌≡◌, ℕ, suc, List, [], ◌∷◌, ◌++◌, length, take, drop, map, slice_get, Option, Some}
+use Rattle.std.proofs.Common.{None, true, false, cond, refl, sym, ap, subst, ◌∙◌, arith, Ordering, Less, Equal}
+use Rattle.std.proofs.Common.{Greater}
 use Rattle.std.specs.Option.{is_some}
 use Rattle.std.proofs.lemmas.List.{length-map, map_push}
 use Rattle.std.specs.Ordering.{is_eq, match_ordering, ordering_reverse}
@@ -15,8 +15,8 @@ use Rattle.std.specs.BTreeMap.{insert_entry, is_at}
 use Rattle.std.specs.FinMap.{IsAntisymmetric}
 use Rattle.std.specs.FinMap.Entries.{find}
 use Rattle.std.proofs.lemmas.Option.{slice_get_within}
-use Rattle.meaning.proofs.MapLaws.{some_none, some_same}
-use Rattle.directory.specs.Indexes.{HasKeyAt, Compares, IsGap, AreGathered}
+use Rattle.spec_image.proofs.Common.{some_none, some_same}
+use Rattle.directory.specs.Common.{HasKeyAt, Compares, IsGap, AreGathered}
 use Rattle.directory.proofs.Orders.{get-push, get-push_last}
 use Rattle.directory.proofs.Indexing.{index_pushed, index_nil, none_found, nowhere_found}
 
@@ -116,7 +116,7 @@ all_inserted P cmp (f ∷ fs) k p none all new = step (cmp k f.0) none
     step Equal n rest = absurd (some_none n)
     step Greater n rest = (all.0, rest n)
 
-all_of : {X : Type 0} (P Q : X → Type 0) (xs : List X) → ((x : X) → P x → Q x) → AllByRecursion P xs → AllByRecursion Q xs
+pub all_of : {X : Type 0} (P Q : X → Type 0) (xs : List X) → ((x : X) → P x → Q x) → AllByRecursion P xs → AllByRecursion Q xs
 all_of P Q [] f all = tt
 all_of P Q (x ∷ xs) f all = (f x all.0, all_of P Q xs f all.1)
 

@@ -2,8 +2,8 @@
 use Rattle.std.proofs.Common.{◌≡◌, ◌⊎◌, inl, inr, ℕ, suc, ◌*◌, ◌^◌, ◌<◌, ◌≤◌, arith, ap}
 use Rattle.std.proofs.lemmas.Nat.{pow_below}
 use native.Mathlib.Nat.{pow-suc}
-use Rattle.meaning.proofs.SpliceLaws.{below_or_not}
-use Rattle.directory.specs.Spares.{IsFull, HasPlaces}
+use Rattle.spec_image.proofs.Common.{below_or_not}
+use Rattle.directory.specs.Common.{IsFull, HasPlaces}
 
 -- fewer elements have places enough
 pub fewer_places : (m n c : ℕ) → m ≤ n → HasPlaces n c → HasPlaces m c

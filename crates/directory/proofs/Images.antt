@@ -3,7 +3,7 @@ use Rattle.std.proofs.Common.{◌≡◌, ℕ, ◌+◌, ◌*◌, ◌-◌, ◌<◌
 use Rattle.std.proofs.Common.{replicate, flat_map, refl, sym, ap, ◌∙◌, arith, append_assoc, length-append, zero, suc}
 use Rattle.std.proofs.lemmas.List.{length-map, length-take-le, flat_map_more, drop-replicate}
 use Rattle.std.proofs.Math.Seq.{take-append_seam, drop-append-add}
-use Rattle.meaning.proofs.Lists.{TellsApart}
+use Rattle.spec_image.proofs.Common.{TellsApart}
 
 pub length_words : {X : Type 0} (words : X → List ℕ) → TellsApart words → (xs : List X)
     → length (flat_map words xs) ≡ 3 * length xs

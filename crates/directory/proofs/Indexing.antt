@@ -2,41 +2,32 @@
 -- In each section `o` says that the order of the keys is total, and `exact` that only equal keys tie in it.
 use Rattle.std.proofs.Common.{◌≡◌, ◌⊎◌, inl, inr, ℕ, zero, suc, ◌+◌, ◌-◌, ◌<◌, ◌≤◌, List, [], ◌∷◌, ◌++◌, length, take}
 use Rattle.std.proofs.Common.{drop, map, get_or, slice_set, slice_get, swap_remove, Option, Some, None, refl, sym, ap}
-use Rattle.std.proofs.Common.{subst}
-use Rattle.std.proofs.Common.{◌∙◌, Bool, true, false, cond, Ordering, Less, Equal, Greater, arith, length-append}
+use Rattle.std.proofs.Common.{subst, ◌∙◌, Bool, true, false, cond, Ordering, Less, Equal, Greater, arith}
+use Rattle.std.proofs.Common.{length-append, Result, Ok, Err, IfOk, IfErr}
 use Rattle.std.proofs.lemmas.List.{length-map, map_push, get_or-map, take-map, map-set, length-set, length-take-le}
 use Rattle.std.proofs.lemmas.List.{get_or-take, get_or-drop, length-drop}
 use Rattle.std.proofs.lemmas.List.Elements.{recursion_from_All}
 use Rattle.std.proofs.lemmas.Option.{slice_get_within, slice_get-get_or, get_or_from_slice_get}
 use Rattle.std.specs.List.{AllByRecursion, HoldsAt}
 use Rattle.std.specs.List.Sorted.{IsNonDecreasingBy, IsPartitionPoint, IsSearchInRange, IsBinarySearchResult}
-use Rattle.std.proofs.Common.{Result, Ok, Err, IfOk, IfErr}
 use Rattle.std.specs.Ordering.{eq_by_cmp, is_eq, ordering_index, ordering_reverse}
 use Rattle.std.specs.Cmp.{IsTotalOrder, Equal-is, tied_itself}
 use Rattle.std.specs.FinMap.{IsAntisymmetric}
 use Rattle.std.specs.FinMap.Entries.{find}
-use Rattle.meaning.specs.Maps.{times}
-use Rattle.meaning.proofs.Lists.{times_here, times_later}
-use Rattle.meaning.proofs.MapLaws.{some_none, some_same}
-use Rattle.meaning.proofs.SlotLaws.{all_append}
-use Rattle.directory.specs.Edits.{StandsAt}
-use Rattle.directory.specs.Indexes.{order_to, HasKeyAt, Precedes, AreRising, Compares, IsGap, IsInserted, IsIndex}
-use Rattle.directory.specs.Indexes.{IsLeft}
+use Rattle.spec_image.specs.Common.{times}
+use Rattle.spec_image.proofs.Common.{times_here, times_later, some_none, some_same, all_append}
+use Rattle.directory.specs.Common.{StandsAt, order_to, HasKeyAt, Precedes, AreRising, Compares, IsGap, IsInserted}
+use Rattle.directory.specs.Common.{IsIndex, IsLeft}
 use Rattle.directory.proofs.Finding.{find_at}
 use Rattle.directory.proofs.Orders.{one, one_same, one_other, same_or_not, strict, all_in, all_at, all_take, all_drop}
-use Rattle.directory.proofs.Orders.{times_left}
-use Rattle.directory.proofs.Orders.{length_left, length_entered, times_entered, times_parts, times_at, get_within}
-use Rattle.directory.proofs.Orders.{get-take, taken, get-set_same}
-use Rattle.directory.proofs.Orders.{get-set_other, get-push, get-push_last}
+use Rattle.directory.proofs.Orders.{times_left, length_left, length_entered, times_entered, times_parts, times_at}
+use Rattle.directory.proofs.Orders.{get_within, get-take, taken, get-set_same, get-set_other, get-push, get-push_last}
 
-less_or_equal : Less ≡ Equal → ⊥
+pub less_or_equal : Less ≡ Equal → ⊥
 less_or_equal e = cc
 
 greater_or_equal : Greater ≡ Equal → ⊥
 greater_or_equal e = cc
-
-none_or_equal : Less ≡ Equal → ⊥
-none_or_equal e = cc
 
 -- Places that rise, in an order of them.
 
@@ -201,7 +192,7 @@ module _ {K V : Type 0} {R : K → K → Ordering} (o : IsTotalOrder R) (exact :
   }
 
   key_of : (k : K) (e : Option (K × V)) → order_to R k e ≡ Equal → (v : V) × (e ≡ Some (k, v))
-  key_of k None tie = absurd (none_or_equal tie)
+  key_of k None tie = absurd (less_or_equal tie)
   key_of k (Some e) tie = (e.1, λ j. Some (exact e.0 k tie j, e.1))
 
   pub place_found : (items : List (K × V)) (k : K) (order : List ℕ) (i : ℕ) → i < length order

@@ -1,17 +1,17 @@
 mod Growing
-mod Orders
-mod Indexing
-mod Gathering
+pub mod Orders
+pub mod Indexing
+pub mod Gathering
 mod Parsing
 mod Images
 mod BlockReading
-mod EntryReading
+pub mod EntryReading
 mod ChainReading
-mod Finding
+pub mod Finding
 mod Windows
 pub mod ChainPuts
 mod Editing
-mod EditedEntries
+pub mod EditedEntries
 mod Steps
 mod Reserves
 mod Listing

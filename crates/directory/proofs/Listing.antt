@@ -1,10 +1,8 @@
 -- Entries in the order of their keys are those of the map.
 -- In each section `o` says that the order of the keys is total, and `exact` that only equal keys tie in it.
 use Rattle.std.proofs.Common.{◌≡◌, ◌⊎◌, inl, inr, ℕ, zero, suc, ◌+◌, ◌<◌, ◌≤◌, Bool, true, false, ◌&&◌, T, List, []}
-use Rattle.std.proofs.Common.{◌∷◌, map}
-use Rattle.std.proofs.Common.{◌++◌, length, take, get_or, slice_get, Option, Some, None, option_map, refl, sym, ap}
-use Rattle.std.proofs.Common.{subst}
-use Rattle.std.proofs.Common.{◌∙◌, Ordering, arith}
+use Rattle.std.proofs.Common.{◌∷◌, map, ◌++◌, length, take, get_or, slice_get, Option, Some, None, option_map, refl}
+use Rattle.std.proofs.Common.{sym, ap, subst, ◌∙◌, Ordering, arith}
 use Rattle.std.proofs.lemmas.List.{take_all, take_more}
 use Rattle.std.proofs.lemmas.Option.{slice_get-map, slice_get-get_or}
 use Rattle.std.specs.List.{AllByRecursion, AllZip, Contains}
@@ -12,11 +10,10 @@ use Rattle.std.specs.Ordering.{is_lt}
 use Rattle.std.specs.Cmp.{IsTotalOrder}
 use Rattle.std.specs.FinMap.{IsAntisymmetric}
 use Rattle.std.specs.FinMap.Entries.{find, is_sorted, below_all}
-use Rattle.meaning.specs.Maps.{times, entries, from_entries}
-use Rattle.meaning.proofs.MapEdits.{from_entries_alike}
-use Rattle.meaning.proofs.MapLaws.{some_same}
-use Rattle.meaning.proofs.MapLists.{EachOnce-sorted, entries-from_sorted, find-contains, contains-found}
-use Rattle.directory.specs.Indexes.{Precedes, AreRising, IsIndex}
+use Rattle.spec_image.specs.Common.{times, entries, from_entries}
+use Rattle.spec_image.proofs.Common.{from_entries_alike, some_same, EachOnce-sorted, entries-from_sorted}
+use Rattle.spec_image.proofs.Common.{find-contains, contains-found}
+use Rattle.directory.specs.Common.{Precedes, AreRising, IsIndex}
 use Rattle.directory.proofs.Orders.{same_or_not, one_other, times_at}
 use Rattle.directory.proofs.Indexing.{nowhere_found, rising_inside, inside_seen}
 

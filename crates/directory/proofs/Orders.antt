@@ -1,12 +1,11 @@
 -- Lists of places: how often each comes, and what holds of each.
-use Rattle.std.proofs.Common.{◌≡◌, ◌⊎◌, inl, inr, ℕ, zero, suc, ◌+◌, ◌<◌, ◌≤◌, Bool, true, false, cond, ◌==◌}
-use Rattle.std.proofs.Common.{List, [], ◌∷◌, ◌++◌, length, take, drop, slice_set, slice_get, Some}
-use Rattle.std.proofs.Common.{refl, sym, ap, subst, arith, eqb-true, eq-eqb, ne_eqb}
+use Rattle.std.proofs.Common.{◌≡◌, ◌⊎◌, inl, inr, ℕ, zero, suc, ◌+◌, ◌<◌, ◌≤◌, Bool, true, false, cond, ◌==◌, List}
+use Rattle.std.proofs.Common.{[], ◌∷◌, ◌++◌, length, take, drop, slice_set, slice_get, Some, refl, sym, ap, subst}
+use Rattle.std.proofs.Common.{arith, eqb-true, eq-eqb, ne_eqb}
 use Rattle.std.proofs.lemmas.Bool.{eqb-false}
 use Rattle.std.specs.List.{AllByRecursion}
-use Rattle.meaning.specs.Maps.{times}
-use Rattle.meaning.proofs.Lists.{times_here, times_later}
-use Rattle.meaning.proofs.MapLaws.{some_none, some_same}
+use Rattle.spec_image.specs.Common.{times}
+use Rattle.spec_image.proofs.Common.{times_here, times_later, some_none, some_same}
 
 -- 1 for a number itself, and 0 for another
 abbrev pub one : ℕ → ℕ → ℕ

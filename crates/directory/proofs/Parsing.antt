@@ -1,9 +1,8 @@
 -- Words of an entry that names a block past any disk.
 use Rattle.std.proofs.Common.{◌≡◌, ℕ, ◌+◌, ◌*◌, ◌/◌, ◌%◌, ◌^◌, ◌<◌, ◌≤◌, List, [], ◌∷◌, length, get_or, refl, ◌∙◌}
 use Rattle.std.proofs.Common.{arith}
-use Rattle.words36.specs.Words.{left, right, IsPpn}
-use Rattle.meaning.specs.Directories.{MasterEntry, master_words, FileEntry, file_words, IsFileEntry}
-use Rattle.meaning.specs.Faults.{IsMasterEntryOf}
+use Rattle.words36.specs.Common.{left, right, IsPpn}
+use Rattle.spec_image.specs.Common.{MasterEntry, master_words, FileEntry, file_words, IsFileEntry, IsMasterEntryOf}
 
 three_words : (words : List ℕ) (d e f : ℕ) → length words ≡ 3
     → get_or words 0 d ∷ get_or words 1 e ∷ get_or words 2 f ∷ [] ≡ words

@@ -3,10 +3,8 @@ use Rattle.std.proofs.Common.{◌≡◌, ℕ, ◌*◌, map, length, Option, Some
 use Rattle.std.proofs.Common.{Ordering}
 use Rattle.std.proofs.lemmas.List.{length-map}
 use Rattle.std.specs.FinMap.Entries.{find}
-use Rattle.meaning.specs.Maps.{times}
-use Rattle.directory.specs.Chains.{ChainState, viewed}
-use Rattle.directory.specs.Edits.{Places, IsReserve}
-use Rattle.directory.specs.Spares.{IsSpareFor}
+use Rattle.spec_image.specs.Common.{times}
+use Rattle.directory.specs.Common.{ChainState, viewed, Places, IsReserve, IsSpareFor}
 
 module _ {E K V : Type 0} {R : K → K → Ordering} (view : E → K × V) (old : ChainState E) (k : K) where
   -- what is found is enough

@@ -9,14 +9,12 @@ use Rattle.std.proofs.lemmas.Option.{slice_get-get_or}
 use Rattle.std.specs.Cmp.{IsTotalOrder}
 use Rattle.std.specs.FinMap.{IsAntisymmetric}
 use Rattle.std.specs.FinMap.Entries.{find}
-use Rattle.meaning.specs.declared.put.Put.{Put}
-use Rattle.meaning.specs.Costs.{directory_cost}
-use Rattle.meaning.specs.Maps.{times, from_entries, insert, remove}
-use Rattle.meaning.proofs.MapSums.{times-append}
-use Rattle.meaning.proofs.SpliceLaws.{below_or_not}
-use Rattle.changeset.specs.Puts.{replaced}
-use Rattle.directory.specs.Chains.{ChainState, IsChain, viewed}
-use Rattle.directory.specs.Edits.{StandsAt, block_put, inserted, renamed, removed, last_first, PutsChain}
+use Rattle.spec_image.specs.declared.put.Put.{Put}
+use Rattle.spec_image.specs.Common.{directory_cost, times, from_entries, insert, remove}
+use Rattle.spec_image.proofs.Common.{times-append, below_or_not}
+use Rattle.changeset.specs.Common.{replaced}
+use Rattle.directory.specs.Common.{ChainState, IsChain, viewed, StandsAt, block_put, inserted, renamed, removed}
+use Rattle.directory.specs.Common.{last_first, PutsChain}
 use Rattle.directory.proofs.Editing.{put_replaced, put_appended, put_grown, without, put_removed, put_shortened}
 use Rattle.directory.proofs.EditedEntries.{chain_replaced, chain_appended, chain_grown, chain_removed, swap_removed}
 use Rattle.directory.proofs.EditedEntries.{removed_is, map_removed, not_elsewhere, absent_elsewhere, inserted_is}

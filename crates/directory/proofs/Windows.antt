@@ -1,8 +1,8 @@
 -- What an edit of a list leaves of a stretch of it.
-use Rattle.std.proofs.Common.{◌≡◌, ◌⊎◌, ℕ, ◌+◌, ◌-◌, ◌<◌, ◌≤◌, List, ◌++◌, length, take, drop, slice_set, map, min, sym}
-use Rattle.std.proofs.Common.{ap, ◌∙◌, arith, inl, inr}
-use Rattle.std.proofs.lemmas.List.{drop-take, take-take, take-append-le, take-set-le, drop-set-lt, take_rest, take_min}
-use Rattle.std.proofs.lemmas.List.{take-map, drop-map}
+use Rattle.std.proofs.Common.{◌≡◌, ◌⊎◌, ℕ, ◌+◌, ◌-◌, ◌<◌, ◌≤◌, List, ◌++◌, length, take, drop, slice_set, map, min}
+use Rattle.std.proofs.Common.{sym, ap, ◌∙◌, arith, inl, inr}
+use Rattle.std.proofs.lemmas.List.{drop-take, take-take, take-append-le, take-set-le, drop-set-lt, take_rest}
+use Rattle.std.proofs.lemmas.List.{take_min, take-map, drop-map}
 
 module _ {X : Type 0} where
   -- a stretch ends with the first n + m elements

@@ -6,15 +6,11 @@ use Rattle.std.specs.Ordering.{nat_cmp}
 use Rattle.std.proofs.Common.{refl, sym, ap, subst, ◌∙◌, arith, append-nil, length-append}
 use Rattle.std.proofs.lemmas.List.{length-map, length-drop, length-take, length-take-le, take-append-drop, take_all}
 use Rattle.std.proofs.Math.Seq.{take-append_seam, drop-append_seam}
-use Rattle.blockdisk.specs.Disk.{Contents}
-use Rattle.meaning.specs.Blocks.{AgreeOn}
-use Rattle.meaning.specs.Costs.{directory_cost}
-use Rattle.meaning.specs.Directories.{Node, numbers, items, directory_block, IsSpelled, IsFilled, IsDirectory}
-use Rattle.meaning.specs.Directories.{MasterEntry, IsMasterEntry}
-use Rattle.meaning.specs.Faults.{IsMasterEntryOf}
-use Rattle.meaning.specs.Maps.{EachOnce, from_entries, times}
-use Rattle.meaning.specs.Readings.{IsChainRead}
-use Rattle.meaning.proofs.Lists.{times_here, times_later}
+use Rattle.blockdisk.specs.Common.{Contents}
+use Rattle.spec_image.specs.Common.{AgreeOn, directory_cost, Node, numbers, items, directory_block, IsSpelled}
+use Rattle.spec_image.specs.Common.{IsFilled, IsDirectory, MasterEntry, IsMasterEntry, IsMasterEntryOf, EachOnce}
+use Rattle.spec_image.specs.Common.{from_entries, times, IsChainRead}
+use Rattle.spec_image.proofs.Common.{times_here, times_later}
 use Rattle.directory.specs.Chains.{ChainState, nodes_of, IsChain, IsOn}
 
 -- From a list of entries to blocks with entries.

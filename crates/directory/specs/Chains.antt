@@ -5,10 +5,8 @@ use Rattle.std.specs.List.{AllByRecursion}
 use Rattle.std.specs.declared.cmp.Ordering.{Ordering}
 use Rattle.std.specs.Coded.{Coded, code_by, coded×, coded_list, coded_ℕ}
 use Rattle.std.proofs.Common.{refl}
-use Rattle.blockdisk.specs.Disk.{Contents}
-use Rattle.meaning.specs.Maps.{EachOnce, times}
-use Rattle.meaning.specs.Costs.{directory_cost}
-use Rattle.meaning.specs.Directories.{Node, IsSpelled}
+use Rattle.blockdisk.specs.Common.{Contents}
+use Rattle.spec_image.specs.Common.{EachOnce, times, directory_cost, Node, IsSpelled}
 
 pub record ChainState (E : Type 0) : Type 0 where
   -- the numbers of the blocks

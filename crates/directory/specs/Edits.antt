@@ -5,12 +5,9 @@ use Rattle.std.specs.List.{AllByRecursion}
 use Rattle.std.specs.declared.cmp.Ordering.{Ordering}
 use Rattle.std.specs.Ordering.{eq_by_cmp}
 use Rattle.std.specs.FinMap.Entries.{find}
-use Rattle.blockdisk.specs.Disk.{Contents}
-use Rattle.meaning.specs.declared.put.Put.{Put}
-use Rattle.meaning.specs.Maps.{times}
-use Rattle.meaning.specs.Log.{targets, with_puts, IsTarget}
-use Rattle.meaning.specs.Faults.{InSpace}
-use Rattle.meaning.specs.Directories.{directory_block}
+use Rattle.blockdisk.specs.Common.{Contents}
+use Rattle.spec_image.specs.declared.put.Put.{Put}
+use Rattle.spec_image.specs.Common.{times, targets, with_puts, IsTarget, InSpace, directory_block}
 use Rattle.directory.specs.Chains.{ChainState, IsOn}
 use Rattle.directory.specs.Spares.{IsSpareFor}
 

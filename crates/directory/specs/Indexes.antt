@@ -5,7 +5,7 @@ use Rattle.std.specs.List.{AllByRecursion}
 use Rattle.std.specs.Map.{values_of}
 use Rattle.std.specs.declared.cmp.Ordering.{Ordering}
 use Rattle.std.specs.declared.cmp.Ordering.TheVariants.{Less, Greater}
-use Rattle.meaning.specs.Maps.{times}
+use Rattle.spec_image.specs.Common.{times}
 
 -- how the key of an entry stands to another; no entry stands below each key
 abbrev pub order_to : {K V : Type 0} → (K → K → Ordering) → K → Option (K × V) → Ordering

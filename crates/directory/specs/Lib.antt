@@ -4,3 +4,4 @@ pub mod Loading
 pub mod Spares
 pub mod Indexes
 pub mod Edits
+pub mod Common

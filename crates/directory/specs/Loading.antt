@@ -2,13 +2,10 @@
 use Rattle.std.specs.Prelude.{◌≡◌, ◌⊎◌, ℕ, ◌+◌, ◌<◌, ◌≤◌, Bool, List, [], ◌++◌, length, flat_map, Some, None}
 use Rattle.std.specs.List.{AllByRecursion}
 use Rattle.std.specs.declared.cmp.Ordering.{Ordering}
-use Rattle.blockdisk.specs.Disk.{Contents}
-use Rattle.meaning.specs.Maps.{EachOnce, times}
-use Rattle.meaning.specs.Directories.{Node, numbers, first_of, items, directory_block}
-use Rattle.meaning.specs.Readings.{IsChainRead}
-use Rattle.meaning.specs.Walks.{LeadsAlong}
-use Rattle.meaning.specs.Faults.{InSpace, IsBadBlock, walked}
-use Rattle.alloctab.specs.Lists.{digit_at}
+use Rattle.blockdisk.specs.Common.{Contents}
+use Rattle.spec_image.specs.Common.{EachOnce, times, Node, numbers, first_of, items, directory_block, IsChainRead}
+use Rattle.spec_image.specs.Common.{LeadsAlong, InSpace, IsBadBlock, walked}
+use Rattle.alloctab.specs.Common.{digit_at}
 
 -- These words are those of a directory block.
 pub record SpellsBlock {K V : Type 0} (words : K × V → List ℕ) (IsEntry : K × V

@@ -16,8 +16,8 @@ pub struct Chain<E: Entry> {
 
 impl<E: Entry> Model for Chain<E> {
     ghost use Rattle.std.specs.Vec.{vec_len, vec_capacity};
-    ghost use Rattle.directory.specs.Chains.{ChainState, IsChain, viewed, chain_code};
-    ghost use Rattle.directory.specs.Spares.{HasPlaces};
+    ghost use Rattle.directory.specs.Common.{ChainState, IsChain, viewed, chain_code};
+    ghost use Rattle.directory.specs.Common.{HasPlaces};
 
     ghost Value = { ChainState E };
 
@@ -31,7 +31,7 @@ impl<E: Entry> Model for Chain<E> {
 }
 
 impl<E: Entry> Chain<E> {
-    ghost use Rattle.directory.specs.Chains.{IsChain, viewed};
+    ghost use Rattle.directory.specs.Common.{IsChain, viewed};
 
     /// A chain of one block with no entries.
     ///

@@ -1,20 +1,18 @@
 ghost use Rattle.std.specs.Prelude.{◌≡◌, ◌+◌, ◌*◌, ◌/◌, ◌-◌, ◌<◌, ◌≤◌, ◌⊎◌, ◌++◌, ◌∷◌, [], ℕ, suc, length, map, take};
-ghost use Rattle.std.specs.Prelude.{drop, get_or, slice_set, option_to_list, MatchOption, Some, None, IsTrue, IsFalse};
-ghost use Rattle.std.specs.Prelude.{IsOk, IsSome, IfErr, OnOk, OnErr};
+ghost use Rattle.std.specs.Prelude.{drop, get_or, slice_set, option_to_list, MatchOption, Some, None, IsTrue};
+ghost use Rattle.std.specs.Prelude.{IsFalse, IsOk, IsSome, IfErr, OnOk, OnErr};
 ghost use Rattle.std.specs.FinMap.Entries.{find};
-ghost use Rattle.changeset.specs.Puts.{most_puts, replaced};
-ghost use Rattle.meaning.specs.Costs.{directory_cost};
-ghost use Rattle.meaning.specs.Maps.{times, from_entries, insert, remove};
+ghost use Rattle.changeset.specs.Common.{most_puts, replaced};
+ghost use Rattle.spec_image.specs.Common.{directory_cost, times, from_entries, insert, remove};
 ghost use Rattle.std.specs.Vec.{vec_len, vec_capacity};
-ghost use Rattle.directory.specs.Chains.{IsChain, viewed};
-ghost use Rattle.directory.specs.Spares.{HasPlaces};
-ghost use Rattle.directory.specs.Edits.{TakesBlock, PutsChain, inserted, renamed, removed, last_first, block_put};
+ghost use Rattle.directory.specs.Common.{IsChain, viewed, HasPlaces, TakesBlock, PutsChain, inserted, renamed};
+ghost use Rattle.directory.specs.Common.{removed, last_first, block_put};
 ghost use Rattle.directory.specs.declared.error.DirectoryError.TheVariants.{NoMemory};
 
 use crate::image::block_image;
 use crate::{Chain, DirectoryError, Entry};
 use changeset::ChangeSet;
-use meaning::layout::BLOCK_ENTRIES;
+use spec_image::layout::BLOCK_ENTRIES;
 
 impl<E: Entry> Chain<E> {
     /// Gives a key its entry: in the place of the one that has the key, or else behind the last entry. Where the

@@ -1,11 +1,8 @@
-ghost use Rattle.std.specs.Prelude.{◌≡◌, ◌<◌, ◌++◌, ◌∷◌, [], IfOk, IfSome, IfNone, None, Some};
-ghost use Rattle.std.specs.Prelude.{suc};
-ghost use Rattle.std.specs.Prelude.{length, map, get_or, swap_remove, slice_get, slice_set, take, drop};
+ghost use Rattle.std.specs.Prelude.{◌≡◌, ◌<◌, ◌++◌, ◌∷◌, [], IfOk, IfSome, IfNone, None, Some, suc, length, map};
+ghost use Rattle.std.specs.Prelude.{get_or, swap_remove, slice_get, slice_set, take, drop};
 ghost use Rattle.std.specs.FinMap.Entries.{find};
-ghost use Rattle.directory.specs.Edits.{StandsAt};
-ghost use Rattle.directory.specs.Indexes.{IsIndex};
+ghost use Rattle.directory.specs.Common.{StandsAt, IsIndex, HasPlaces, IsSpareFor};
 ghost use Rattle.std.specs.Vec.{vec_len, vec_capacity};
-ghost use Rattle.directory.specs.Spares.{HasPlaces, IsSpareFor};
 
 use crate::Entry;
 use crate::order::{enter, find_place, rename_place, take_place};
@@ -26,8 +23,8 @@ impl<E: Entry> Model for Entries<E> {
     ghost use Rattle.std.specs.Prelude.{List, map};
     ghost use Rattle.std.specs.Coded.{coded_list};
     ghost use Rattle.std.specs.Vec.{vec_len, vec_capacity};
-    ghost use Rattle.directory.specs.Indexes.{IsIndex};
-    ghost use Rattle.directory.specs.Spares.{HasPlaces};
+    ghost use Rattle.directory.specs.Common.{IsIndex};
+    ghost use Rattle.directory.specs.Common.{HasPlaces};
 
     ghost Value = { List E };
 

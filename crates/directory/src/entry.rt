@@ -2,7 +2,7 @@ ghost use Rattle.std.specs.Prelude.{◌≡◌, ◌≤◌, ◌^◌, ℕ, List, If
 ghost use Rattle.std.specs.declared.cmp.Ordering.{Ordering};
 ghost use Rattle.std.specs.Cmp.{IsTotalOrder};
 ghost use Rattle.std.specs.FinMap.{IsAntisymmetric};
-ghost use Rattle.meaning.proofs.Lists.{TellsApart};
+ghost use Rattle.spec_image.proofs.Common.{TellsApart};
 ghost use Rattle.directory.specs.declared.entry.EntryFault.TheVariants.{Malformed, Outside};
 
 use std::cmp::Ordering;

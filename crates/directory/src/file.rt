@@ -31,10 +31,10 @@ impl FileEntry {
 
 impl Entry for FileEntry {
     ghost use Rattle.std.specs.Prelude.{ℕ, refl};
-    ghost use Rattle.meaning.specs.Files.{name_cmp};
-    ghost use Rattle.meaning.specs.Directories.{file_words, IsFileEntry};
-    ghost use Rattle.meaning.proofs.Names.{name_total, name_exact};
-    ghost use Rattle.meaning.proofs.DiskMaps.{file_apart};
+    ghost use Rattle.spec_image.specs.Common.{name_cmp};
+    ghost use Rattle.spec_image.specs.Common.{file_words, IsFileEntry};
+    ghost use Rattle.spec_image.proofs.Common.{name_total, name_exact};
+    ghost use Rattle.spec_image.proofs.Common.{file_apart};
 
     type Key = FileName;
 

@@ -1,10 +1,9 @@
 ghost use Rattle.std.specs.Prelude.{◌≡◌, ◌*◌, ◌↔◌, IfSome, IfNone, IsTrue, None, length, map};
 ghost use Rattle.std.specs.FinMap.Entries.{find};
-ghost use Rattle.directory.specs.Chains.{IsChain, viewed};
-ghost use Rattle.directory.specs.Edits.{StandsAt};
+ghost use Rattle.directory.specs.Common.{IsChain, viewed, StandsAt};
 
 use crate::{Chain, Entry};
-use meaning::layout::BLOCK_ENTRIES;
+use spec_image::layout::BLOCK_ENTRIES;
 
 impl<E: Entry> Chain<E> {
     /// The place of the entry with this key, counted from 0 in the order of the disk, or `None` where there is

@@ -42,8 +42,8 @@ impl<E: Entry> Model for Gathered<E> {
     ghost use Rattle.std.specs.Prelude.{List, map};
     ghost use Rattle.std.specs.Coded.{coded_list};
     ghost use Rattle.std.specs.Vec.{vec_len, vec_capacity};
-    ghost use Rattle.directory.specs.Indexes.{AreGathered};
-    ghost use Rattle.directory.specs.Spares.{HasPlaces};
+    ghost use Rattle.directory.specs.Common.{AreGathered};
+    ghost use Rattle.directory.specs.Common.{HasPlaces};
 
     ghost Value = { List E };
 

@@ -1,8 +1,8 @@
 ghost use Rattle.std.specs.Prelude.{◌≡◌, ◌+◌, ◌*◌, ◌≤◌, ◌++◌, map, take, drop, length};
-ghost use Rattle.meaning.specs.Directories.{directory_block};
+ghost use Rattle.spec_image.specs.Common.{directory_block};
 
 use crate::Entry;
-use meaning::layout::{DIRECTORY_HEAD, ENTRY_WORDS};
+use spec_image::layout::{DIRECTORY_HEAD, ENTRY_WORDS};
 use words36::{BLOCK_WORDS, Block, Word};
 
 /// Puts the words of an entry at a place of a block, counted in words.

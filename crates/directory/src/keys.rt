@@ -1,6 +1,6 @@
-ghost use Rattle.std.specs.Prelude.{◌≡◌, ◌<◌, ◌++◌, ◌∷◌, [], length, get_or, slice_set, swap_remove};
-ghost use Rattle.std.specs.Prelude.{IfOk, OnOk, OnErr};
-ghost use Rattle.directory.specs.Spares.{IsSpareFor};
+ghost use Rattle.std.specs.Prelude.{◌≡◌, ◌<◌, ◌++◌, ◌∷◌, [], length, get_or, slice_set, swap_remove, IfOk, OnOk};
+ghost use Rattle.std.specs.Prelude.{OnErr};
+ghost use Rattle.directory.specs.Common.{IsSpareFor};
 
 use crate::spare::{Spare, find_spare, push, push_into};
 use blockdisk::NoMemory;
@@ -16,7 +16,7 @@ pub struct Keys {
 
 impl Model for Keys {
     ghost use Rattle.std.specs.Vec.{vec_len, vec_capacity};
-    ghost use Rattle.directory.specs.Spares.{HasPlaces, KeyList};
+    ghost use Rattle.directory.specs.Common.{HasPlaces, KeyList};
 
     ghost Value = { KeyList };
 

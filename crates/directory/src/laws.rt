@@ -1,10 +1,7 @@
 ghost use Rattle.std.specs.Prelude.{map};
-ghost use Rattle.blockdisk.specs.Disk.{Contents};
-ghost use Rattle.meaning.specs.Blocks.{AgreeOn};
-ghost use Rattle.meaning.specs.Directories.{IsDirectory};
-ghost use Rattle.meaning.specs.Maps.{from_entries};
-ghost use Rattle.meaning.specs.Readings.{IsChainRead};
-ghost use Rattle.directory.specs.Chains.{IsOn, nodes_of, viewed};
+ghost use Rattle.blockdisk.specs.Common.{Contents};
+ghost use Rattle.spec_image.specs.Common.{AgreeOn, IsDirectory, from_entries, IsChainRead};
+ghost use Rattle.directory.specs.Common.{IsOn, nodes_of, viewed};
 
 use crate::{Chain, Entry};
 

@@ -1,5 +1,5 @@
 ghost use Rattle.std.specs.Prelude.{◌≡◌, IfOk, map};
-ghost use Rattle.meaning.specs.Maps.{entries, from_entries};
+ghost use Rattle.spec_image.specs.Common.{entries, from_entries};
 
 use crate::{Chain, Entry};
 use blockdisk::NoMemory;

@@ -2,16 +2,14 @@ ghost use Rattle.std.specs.Prelude.{◌≡◌, ◌<◌, ◌≤◌, ◌↔◌, �
 ghost use Rattle.std.specs.Prelude.{IfOk, OnOk, IsErrOf, length, map, slice_set};
 ghost use Rattle.std.specs.List.{AllByRecursion};
 ghost use Rattle.std.specs.FinMap.Entries.{find};
-ghost use Rattle.blockdisk.specs.Disk.{SameDisk, one_more};
-ghost use Rattle.meaning.specs.Maps.{times, EachOnce};
-ghost use Rattle.meaning.specs.Regions.{IsVolumeSize};
-ghost use Rattle.meaning.specs.Faults.{InSpace};
-ghost use Rattle.changeset.specs.Reads.{OnlyReads};
-ghost use Rattle.alloctab.specs.Lists.{flag_at};
+ghost use Rattle.blockdisk.specs.Common.{SameDisk, one_more};
+ghost use Rattle.spec_image.specs.Common.{times, EachOnce, IsVolumeSize, InSpace};
+ghost use Rattle.changeset.specs.Common.{OnlyReads};
+ghost use Rattle.alloctab.specs.Common.{flag_at};
 ghost use Rattle.std.specs.Vec.{vec_len, vec_capacity};
-ghost use Rattle.directory.specs.Spares.{HasPlaces};
-ghost use Rattle.directory.specs.Loading.{SpellsBlock, AreGood, IsBadWords, IsBadAt, Adds, ReadsOn};
-ghost use Rattle.directory.specs.declared.error.DirectoryError.TheVariants.{BadDirectory, BlockTwice, Device, NoMemory};
+ghost use Rattle.directory.specs.Common.{HasPlaces, SpellsBlock, AreGood, IsBadWords, IsBadAt, Adds, ReadsOn};
+ghost use Rattle.directory.specs.declared.error.DirectoryError.TheVariants.{BadDirectory, BlockTwice, Device};
+ghost use Rattle.directory.specs.declared.error.DirectoryError.TheVariants.{NoMemory};
 ghost use Rattle.directory.specs.declared.load.AddError.TheVariants.{Outside, Again};
 
 use crate::gathered::{GatherError, Gathered};
@@ -20,7 +18,7 @@ use crate::spare::push;
 use crate::{Chain, DirectoryError, Entry};
 use alloctab::Reached;
 use blockdisk::{Disk, Fault};
-use meaning::layout::{BLOCK_ENTRIES, follow, is_in_space};
+use spec_image::layout::{BLOCK_ENTRIES, follow, is_in_space};
 use std::alloc::Global;
 use words36::{Block, Word};
 
@@ -196,14 +194,14 @@ fn read_on<E: Entry, D: Disk>(
 
 impl<E: Entry> Chain<E> {
     ghost use Rattle.std.specs.Prelude.{◌+◌};
-    ghost use Rattle.blockdisk.specs.Disk.{SameDisk};
-    ghost use Rattle.meaning.specs.Blocks.{head_or_zero};
-    ghost use Rattle.meaning.specs.Maps.{times};
-    ghost use Rattle.meaning.specs.Directories.{Node};
-    ghost use Rattle.meaning.specs.Walks.{LeadsAlong};
-    ghost use Rattle.alloctab.specs.Lists.{digit_at};
-    ghost use Rattle.directory.specs.Chains.{IsChain, IsOn, viewed, nodes_of};
-    ghost use Rattle.directory.specs.Loading.{IsBadChain, IsTwiceInChain, IsWholeChain};
+    ghost use Rattle.blockdisk.specs.Common.{SameDisk};
+    ghost use Rattle.spec_image.specs.Common.{head_or_zero};
+    ghost use Rattle.spec_image.specs.Common.{times};
+    ghost use Rattle.spec_image.specs.Common.{Node};
+    ghost use Rattle.spec_image.specs.Common.{LeadsAlong};
+    ghost use Rattle.alloctab.specs.Common.{digit_at};
+    ghost use Rattle.directory.specs.Common.{IsChain, IsOn, viewed, nodes_of};
+    ghost use Rattle.directory.specs.Common.{IsBadChain, IsTwiceInChain, IsWholeChain};
 
     /// Reads the chain that begins in block `first`, and marks its blocks. A block that is marked already,
     /// by this call or before it, ends the walk before it is read: so a loop does.

@@ -52,9 +52,9 @@ impl Entry for MasterEntry {
     ghost use Rattle.std.specs.Ordering.{nat_cmp};
     ghost use Rattle.std.specs.Cmp.{nat_cmp_total};
     ghost use Rattle.std.specs.FinMap.{nat_cmp-IsAntisymmetric};
-    ghost use Rattle.meaning.specs.Directories.{master_words, master_word};
-    ghost use Rattle.meaning.specs.Faults.{IsMasterEntryOf};
-    ghost use Rattle.meaning.proofs.DiskMaps.{master_apart};
+    ghost use Rattle.spec_image.specs.Common.{master_words, master_word};
+    ghost use Rattle.spec_image.specs.Common.{IsMasterEntryOf};
+    ghost use Rattle.spec_image.proofs.Common.{master_apart};
 
     type Key = Ppn;
 

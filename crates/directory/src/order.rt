@@ -1,12 +1,10 @@
 ghost use Rattle.std.specs.Prelude.{◌≡◌, ◌<◌, ◌≤◌, ◌++◌, ◌∷◌, [], ℕ, suc, IfOk, IfErr, length, map, slice_get, take};
-ghost use Rattle.std.specs.Prelude.{drop};
-ghost use Rattle.std.specs.Prelude.{swap_remove, slice_set, Some, None, IfSome, IfNone};
+ghost use Rattle.std.specs.Prelude.{drop, swap_remove, slice_set, Some, None, IfSome, IfNone};
 ghost use Rattle.std.specs.Vec.{vec_len, vec_capacity};
 ghost use Rattle.std.specs.FinMap.Entries.{find};
-ghost use Rattle.meaning.specs.Maps.{times};
-ghost use Rattle.directory.specs.Edits.{StandsAt};
-ghost use Rattle.directory.specs.Indexes.{order_to, HasKeyAt, AreRising, IsGap, IsInserted, IsIndex, IsLeft};
-ghost use Rattle.directory.specs.Spares.{HasPlaces};
+ghost use Rattle.spec_image.specs.Common.{times};
+ghost use Rattle.directory.specs.Common.{StandsAt, order_to, HasKeyAt, AreRising, IsGap, IsInserted, IsIndex, IsLeft};
+ghost use Rattle.directory.specs.Common.{HasPlaces};
 
 use crate::Entry;
 use std::cmp::Ordering;

@@ -1,8 +1,8 @@
 ghost use Rattle.std.specs.Prelude.{◌≡◌, ◌+◌, ◌*◌, ◌<◌, ◌≤◌, ◌↔◌, ℕ, List, IsTrue, length, take, drop};
-ghost use Rattle.directory.specs.Loading.{SpellsBlock, SpellsEntries};
+ghost use Rattle.directory.specs.Common.{SpellsBlock, SpellsEntries};
 
 use crate::{Entry, EntryFault};
-use meaning::layout::{BLOCK_ENTRIES, DIRECTORY_HEAD, ENTRY_WORDS, are_zeros};
+use spec_image::layout::{BLOCK_ENTRIES, DIRECTORY_HEAD, ENTRY_WORDS, are_zeros};
 use words36::{Block, Word};
 
 /// The words of the entry at a place of a block, counted from 0.

@@ -1,12 +1,10 @@
 ghost use Rattle.std.specs.Prelude.{◌≡◌, ◌+◌, ◌*◌, ◌-◌, ◌<◌, ◌≤◌, ◌++◌, ◌∷◌, [], ℕ, length, map, slice_set};
 ghost use Rattle.std.specs.Prelude.{option_to_list, MatchOption, Some, None, IfSome, IsSome, IfOk, IsOk, IfErr};
 ghost use Rattle.std.specs.FinMap.Entries.{find};
-ghost use Rattle.changeset.specs.Puts.{most_puts};
-ghost use Rattle.meaning.specs.Maps.{times, from_entries, insert};
-ghost use Rattle.directory.specs.Chains.{viewed};
+ghost use Rattle.changeset.specs.Common.{most_puts};
+ghost use Rattle.spec_image.specs.Common.{times, from_entries, insert};
+ghost use Rattle.directory.specs.Common.{viewed, TakesBlock, IsReserve, PutsChain, inserted, HasPlaces, IsSpareFor};
 ghost use Rattle.std.specs.Vec.{vec_len, vec_capacity};
-ghost use Rattle.directory.specs.Edits.{TakesBlock, IsReserve, PutsChain, inserted};
-ghost use Rattle.directory.specs.Spares.{HasPlaces, IsSpareFor};
 ghost use Rattle.directory.specs.declared.error.DirectoryError.TheVariants.{NoMemory};
 
 use crate::edit::put_end;
@@ -26,7 +24,7 @@ pub struct Reserve<E: Entry> {
 }
 
 impl<E: Entry> Model for Reserve<E> {
-    ghost use Rattle.directory.specs.Edits.{Places};
+    ghost use Rattle.directory.specs.Common.{Places};
 
     ghost Value = { Places };
 

@@ -4,17 +4,15 @@ use Rattle.std.proofs.Common.{◌∙◌, append-nil, arith}
 use Rattle.std.proofs.lemmas.List.{length-map}
 use Rattle.std.specs.Int.{saturate_unsigned, w64}
 use Rattle.std.specs.List.{range_with_len}
-use Rattle.words36.specs.Words.{IsWord}
+use Rattle.words36.specs.Common.{IsWord}
 use Rattle.words36.specs.declared.moment.Moment.{Moment}
-use Rattle.meaning.specs.Jobs.{State}
-use Rattle.meaning.specs.Plans.{Act, Asks}
-use Rattle.meaning.specs.Room.{room}
-use Rattle.meaning.specs.Runs.{Serving}
-use Rattle.meaning.specs.declared.area.Area.{Area}
-use Rattle.meaning.specs.declared.call.Call.{Call}
-use Rattle.meaning.specs.declared.call.Event.TheVariants.{Login as Logins, Call as CallEvents}
-use Rattle.meaning.specs.declared.call.Reply.{Reply}
-use Rattle.commands.specs.Machines.{Machine, AlwaysStands, IsAnswered}
+use Rattle.spec_machine.specs.Common.{State, room, Serving}
+use Rattle.spec_language.specs.Common.{Act, Asks}
+use Rattle.spec_machine.specs.declared.area.Area.{Area}
+use Rattle.spec_machine.specs.declared.call.Call.{Call}
+use Rattle.spec_machine.specs.declared.call.Event.TheVariants.{Login as Logins, Call as CallEvents}
+use Rattle.spec_machine.specs.declared.call.Reply.{Reply}
+use Rattle.commands.specs.Common.{Machine, AlwaysStands, IsAnswered}
 use Rattle.commands.proofs.GoingLaws.{goes_nowhere, goes_on, goes_answered}
 use Rattle.wire.proofs.Words.{numbers_of}
 use Rattle.wire.specs.Frames.{Framed}

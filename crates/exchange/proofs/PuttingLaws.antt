@@ -1,15 +1,14 @@
 -- Words that are put one after the other.
 use Rattle.std.proofs.Common.{◌≡◌, ◌↔◌, ℕ, zero, suc, ◌+◌, ◌/◌, ◌^◌, ◌<◌, ◌≤◌, List, [], ◌∷◌, ◌++◌, length, take}
-use Rattle.std.proofs.Common.{drop, get_or, All, refl, sym, ap, subst, ◌∙◌, append_assoc, length-take, inl, inr, arith}
-use Rattle.std.proofs.Common.{Option, Some, None, IfSome, IsSome, unwrap_or}
+use Rattle.std.proofs.Common.{drop, get_or, All, refl, sym, ap, subst, ◌∙◌, append_assoc, length-take, inl, inr}
+use Rattle.std.proofs.Common.{arith, Option, Some, None, IfSome, IsSome, unwrap_or}
 use Rattle.std.proofs.lemmas.List.{take-append-drop, take_all}
-use Rattle.words36.specs.Words.{IsWord}
-use Rattle.words36.specs.Blocks.{number_at, block_bytes}
-use Rattle.meaning.specs.Plans.{Act, Asks}
-use Rattle.meaning.specs.declared.call.Event.TheVariants.{Deposit as Deposits}
-use Rattle.meaning.specs.declared.call.Reply.{Reply}
-use Rattle.meaning.specs.declared.call.Reply.TheVariants.{Done}
-use Rattle.commands.specs.Machines.{Machine, AlwaysStands, IsAnswered, GoesBy}
+use Rattle.words36.specs.Common.{IsWord, number_at, block_bytes}
+use Rattle.spec_language.specs.Common.{Act, Asks}
+use Rattle.spec_machine.specs.declared.call.Event.TheVariants.{Deposit as Deposits}
+use Rattle.spec_machine.specs.declared.call.Reply.{Reply}
+use Rattle.spec_machine.specs.declared.call.Reply.TheVariants.{Done}
+use Rattle.commands.specs.Common.{Machine, AlwaysStands, IsAnswered, GoesBy}
 use Rattle.commands.proofs.GoingLaws.{goes_on, goes_answered}
 use Rattle.wire.proofs.Words.{numbers_of}
 use Rattle.exchange.specs.Turns.{puts}

@@ -1,12 +1,11 @@
 -- An exchange, from its first byte to its end.
 use Rattle.std.proofs.Common.{◌≡◌, ◌<◌, ◌||◌, ℕ, List, [], ◌∷◌, ◌++◌, length, take, drop, refl, sym, ap, ◌∙◌, subst}
-use Rattle.std.specs.Prelude.{not, ◌==◌}
 use Rattle.std.proofs.Common.{append-nil, append_assoc, inl, inr, arith, Option, Result, Ok, Err}
+use Rattle.std.specs.Prelude.{not, ◌==◌}
 use Rattle.std.specs.Io.KnownBytes.{Appends, Consumes, Keeps, IsAtEnd}
 use Rattle.std.proofs.KnownBytes.{Appends-nil, Appends-trans, Consumes-trans, Consumes-nil, Consumes-kept}
 use Rattle.std.proofs.lemmas.List.{take-append-drop, length-append}
-use Rattle.commands.specs.Errands.{fresh}
-use Rattle.commands.specs.Machines.{Machine, AlwaysStands}
+use Rattle.commands.specs.Common.{fresh, Machine, AlwaysStands}
 use Rattle.commands.specs.declared.answer.Tally.{Tally}
 use Rattle.commands.specs.declared.error.SessionError.{SessionError}
 use Rattle.commands.specs.declared.error.SessionError.TheVariants.{Read, Write, NoMemory}

@@ -6,8 +6,8 @@ use Rattle.std.specs.Io.KnownBytes.{Appends}
 use Rattle.std.proofs.KnownBytes.{Appends-nil, Appends-trans}
 use Rattle.std.proofs.lemmas.Grind.{flat_map-append}
 use Rattle.std.proofs.Math.Seq.{take-add, take-append_seam}
-use Rattle.std.proofs.lemmas.List.{take-append-drop, length-append, length-drop, take_all}
-use Rattle.commands.specs.Machines.{Machine, AlwaysStands}
+use Rattle.std.proofs.lemmas.List.{take-append-drop, length-append, length-drop}
+use Rattle.commands.specs.Common.{Machine, AlwaysStands}
 use Rattle.commands.specs.declared.answer.Tally.{Tally}
 use Rattle.commands.specs.declared.error.SessionError.{SessionError}
 use Rattle.commands.specs.declared.error.SessionError.TheVariants.{Read, Write, NoMemory}
@@ -19,6 +19,7 @@ use Rattle.wire.specs.Records.{FitsRecord, record_bytes}
 use Rattle.exchange.specs.Exchanges.{HasTurned, StepsOn, BreaksOff, IsBreak, IsFlushed, IsGivenUp, IsNotWhole}
 use Rattle.exchange.specs.Turns.{Turn, answer_of, answers_of, orders_of}
 use Rattle.exchange.proofs.TakingLaws.{takes_on, takes_none, counts_on, counts_none}
+use Rattle.commands.proofs.WaitingLaws.{longer}
 
 -- Lists.
 
@@ -33,9 +34,6 @@ chain : (before one two w mid v after : List ℕ) → before ++ one ≡ w ++ mid
     → before ++ (one ++ two) ≡ (w ++ v) ++ after
 chain before one two w mid v after p q = sym (append_assoc before one two) ∙ ap (λ l. l ++ two) p
     ∙ append_assoc w mid two ∙ ap (λ l. w ++ l) q ∙ sym (append_assoc w v after)
-
-longer : (xs ys : List ℕ) → 0 < length xs → 0 < length (xs ++ ys)
-longer xs ys some = omega (arith, some, length-append xs ys)
 
 -- the front grows by what the rest begins with
 pub front_grows : (place n : ℕ) (xs front more : List ℕ) → drop place xs ≡ front ++ more → length front ≡ n
@@ -206,10 +204,6 @@ pub not_whole : (bytes : List ℕ) (front : Front) → BeginsWith bytes front
 not_whole bytes (Whole header body) begins none = absurd (none header body refl)
 not_whole bytes Part begins none = inl begins
 not_whole bytes TooLong begins none = inr begins
-
--- a slice from a place to the end is what is behind that place
-pub to_the_end : (place : ℕ) (xs : List ℕ) → take (length xs - place) (drop place xs) ≡ drop place xs
-to_the_end place xs = take_all (length xs - place) (drop place xs) (omega (arith, length-drop place xs))
 
 module _ {S : Type 0} (machine : S → Machine) where
   -- the answers to the whole records that bytes begin with were not all written

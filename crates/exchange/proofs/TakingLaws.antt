@@ -4,29 +4,18 @@ use Rattle.std.proofs.Math.Bool.{or_assoc, or-false}
 use Rattle.std.proofs.lemmas.List.Folds.{list_any-append}
 use Rattle.std.proofs.lemmas.Grind.{flat_map-append}
 use Rattle.std.specs.List.{list_any}
-use Rattle.meaning.specs.Jobs.{State}
-use Rattle.meaning.specs.Plans.{Act, Asks, Looks}
-use Rattle.meaning.specs.Room.{Pack}
-use Rattle.meaning.specs.Runs.{Service, Serving, Broken}
-use Rattle.meaning.specs.Transcripts.{Went}
-use Rattle.meaning.proofs.SlotLaws.{all_append}
-use Rattle.commands.specs.Machines.{Machine, AlwaysStands, KeepsPack, GoesBy}
+use Rattle.spec_machine.specs.Common.{Service, Serving, Broken}
+use Rattle.spec_language.specs.Common.{Act, Asks, Looks, Went}
+use Rattle.spec_image.specs.Common.{Pack}
+use Rattle.spec_image.proofs.Common.{all_append}
+use Rattle.commands.specs.Common.{Machine, AlwaysStands, KeepsPack, GoesBy}
 use Rattle.commands.specs.declared.answer.Tally.{Tally}
-use Rattle.commands.proofs.GoingLaws.{goes_nowhere, goes_on}
+use Rattle.commands.proofs.GoingLaws.{goes_nowhere, goes_on, served_apart}
 use Rattle.exchange.specs.Exchanges.{Takes, Counts}
 use Rattle.exchange.specs.Turns.{Turn, IsTurn, TellBy, acts_of, is_wrong, is_fault}
+use Rattle.spec_language.proofs.Common.{went_broken}
 
 -- After a fault each act tells of it, and so do turns, whatever the pack is.
-
-went_broken : (pack : Pack) (acts : List Act) (last : Service) → Went pack Broken acts last → last ≡ Broken
-went_broken pack [] last p = p
-went_broken pack (Asks event reply ∷ acts) last (Broken, answers, rest) = went_broken pack acts last rest
-went_broken pack (Asks event reply ∷ acts) last (Serving s, answers, rest) = absurd answers
-went_broken pack (Looks owner answer ∷ acts) last (mid, lists, rest) = went_broken pack acts last
-    (subst (λ (s : Service). Went pack s acts last) lists.1 rest)
-
-served_apart : (s : State) → Serving s ≡ Broken → ⊥
-served_apart s e = cc
 
 broken_went : (p q : Pack) (acts : List Act) (last : Service) → Went p Broken acts last → Went q Broken acts last
 broken_went p q [] last w = w

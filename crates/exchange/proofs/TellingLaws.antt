@@ -2,11 +2,11 @@
 use Rattle.std.proofs.Common.{◌≡◌, ℕ, ◌+◌, ◌<◌, ◌≤◌, List, [], ◌∷◌, ◌++◌, length, map, refl, sym, ap, subst, ◌∙◌}
 use Rattle.std.proofs.Common.{append_assoc, append-nil, length-append, inl, inr, ⊎_elim, arith}
 use Rattle.std.proofs.lemmas.List.{map-append, length-map}
-use Rattle.meaning.specs.Plans.{Act, Asks}
-use Rattle.meaning.specs.declared.call.Event.TheVariants.{Examine as Examines}
-use Rattle.meaning.specs.declared.call.Reply.{Reply}
-use Rattle.meaning.specs.declared.call.Reply.TheVariants.{Done, Value}
-use Rattle.commands.specs.Machines.{Machine, AlwaysStands, IsAnswered, GoesBy}
+use Rattle.spec_language.specs.Common.{Act, Asks}
+use Rattle.spec_machine.specs.declared.call.Event.TheVariants.{Examine as Examines}
+use Rattle.spec_machine.specs.declared.call.Reply.{Reply}
+use Rattle.spec_machine.specs.declared.call.Reply.TheVariants.{Done, Value}
+use Rattle.commands.specs.Common.{Machine, AlwaysStands, IsAnswered, GoesBy}
 use Rattle.commands.proofs.GoingLaws.{goes_nowhere, goes_on, goes_answered}
 use Rattle.exchange.specs.Turns.{looks, group, IsNoWord, AreRead}
 use Rattle.exchange.specs.Exchanges.{HasRead}

@@ -1,37 +1,30 @@
 -- A turn, from what was done for it and what is counted of it.
-use Rattle.std.proofs.Common.{◌≡◌, ◌||◌, ℕ, List, [], ◌∷◌, ◌++◌, length, Bool, true, false, refl, sym, ap}
-use Rattle.std.proofs.Common.{subst, ◌∙◌, append_assoc, append-nil, Some, None}
-use Rattle.meaning.specs.Jobs.{State}
-use Rattle.meaning.specs.Plans.{Act}
-use Rattle.meaning.specs.Runs.{Service, Serving, Broken}
-use Rattle.meaning.specs.declared.area.Area.{Area}
-use Rattle.commands.specs.Machines.{Machine, AlwaysStands, GoesBy}
+use Rattle.std.proofs.Common.{◌≡◌, ◌||◌, ℕ, List, [], ◌∷◌, ◌++◌, length, true, refl, sym, ap, subst, ◌∙◌}
+use Rattle.std.proofs.Common.{append_assoc, append-nil, Some, None}
+use Rattle.spec_machine.specs.Common.{State, Service, Serving, Broken}
+use Rattle.spec_language.specs.Common.{Act}
+use Rattle.spec_machine.specs.declared.area.Area.{Area}
+use Rattle.commands.specs.Common.{Machine, AlwaysStands, GoesBy}
 use Rattle.commands.specs.declared.answer.Tally.{Tally}
 use Rattle.commands.proofs.GoingLaws.{acts_went, goes_nowhere}
 use Rattle.wire.specs.Frames.{Framed, IsFrame}
-use Rattle.words36.specs.Blocks.{block_bytes}
+use Rattle.words36.specs.Common.{block_bytes}
 use Rattle.wire.specs.Records.{IsOrder, record_bytes, answer_record}
 use Rattle.wire.specs.declared.answer.Answer.{Answer}
 use Rattle.wire.specs.declared.answer.Answer.TheVariants.{Wrong}
 use Rattle.wire.specs.declared.order.Order.{Order}
 use Rattle.exchange.specs.Turns.{Turn, IsTurn, Tells, TellsOf, answer_of, is_wrong, is_fault}
 use Rattle.exchange.specs.Exchanges.{Takes, Counts, HasObeyed, HasTurned}
-
-or-none : (b : Bool) → b ≡ b || false
-or-none true = refl
-or-none false = refl
-
-or-all : (b : Bool) → true ≡ b || true
-or-all true = refl
-or-all false = refl
+use Rattle.commands.proofs.AnswerLaws.{or-true}
+use Rattle.commands.proofs.TranscriptLaws.{or-false}
 
 -- what is counted of one turn
 pub counts_one : (tally counted : Tally) (t : Turn) → counted.refused ≡ tally.refused || is_wrong t.answer
     → counted.broke ≡ tally.broke || is_fault t.answer → counted.reason ≡ tally.reason
     → Counts tally counted (t ∷ [])
 counts_one tally counted t refused broke reason = record {
-  refused = refused ∙ ap (λ b. tally.refused || b) (or-none (is_wrong t.answer));
-  broke = broke ∙ ap (λ b. tally.broke || b) (or-none (is_fault t.answer));
+  refused = refused ∙ ap (λ b. tally.refused || b) (or-false (is_wrong t.answer));
+  broke = broke ∙ ap (λ b. tally.broke || b) (or-false (is_fault t.answer));
   reason = reason;
 }
 
@@ -97,7 +90,7 @@ module _ {S : Type 0} (machine : S → Machine) where
         takes = takes_one a a t (goes_nowhere machine stands a) (tells_served a t (λ honest s serves. tt))
             (record { frame = framed; answer = (none, refl, refl, refl) });
         answered = after_is;
-        counts = counts_one tally counted t (refused ∙ or-all tally.refused) (broke ∙ or-none tally.broke) reason;
+        counts = counts_one tally counted t (refused ∙ or-true tally.refused) (broke ∙ or-false tally.broke) reason;
       }
 
 -- what is appended for an answer

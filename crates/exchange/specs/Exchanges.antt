@@ -3,16 +3,15 @@ use Rattle.std.specs.Prelude.{◌≡◌, ◌⊎◌, ◌||◌, ◌+◌, ◌<◌, 
 use Rattle.std.specs.Prelude.{None, Result, Ok, Err, IfSome, ◌==◌, unwrap_or}
 use Rattle.std.specs.Io.KnownBytes.{Consumes, Appends, IsAtEnd}
 use Rattle.std.specs.List.{AllByRecursion, list_any}
-use Rattle.meaning.specs.Jobs.{State, job_at}
-use Rattle.meaning.specs.Plans.{Act, Asks}
-use Rattle.meaning.specs.Runs.{Service, Serving}
-use Rattle.meaning.specs.declared.area.Area.{Area}
-use Rattle.meaning.specs.declared.call.Event.TheVariants.{Deposit as Deposits}
-use Rattle.meaning.specs.declared.call.Reply.{Reply}
-use Rattle.meaning.specs.declared.call.Reply.TheVariants.{Done}
-use Rattle.usercore.specs.Areas.{words_at}
-use Rattle.monitor.specs.Changed.{areas_for}
-use Rattle.commands.specs.Machines.{Machine, GoesBy, KeepsPack}
+use Rattle.spec_machine.specs.Common.{State, job_at, Service, Serving}
+use Rattle.spec_language.specs.Common.{Act, Asks}
+use Rattle.spec_machine.specs.declared.area.Area.{Area}
+use Rattle.spec_machine.specs.declared.call.Event.TheVariants.{Deposit as Deposits}
+use Rattle.spec_machine.specs.declared.call.Reply.{Reply}
+use Rattle.spec_machine.specs.declared.call.Reply.TheVariants.{Done}
+use Rattle.usercore.specs.Common.{words_at}
+use Rattle.monitor.specs.Common.{areas_for}
+use Rattle.commands.specs.Common.{Machine, GoesBy, KeepsPack}
 use Rattle.commands.specs.declared.answer.Tally.{Tally}
 use Rattle.commands.specs.declared.error.SessionError.{SessionError}
 use Rattle.commands.specs.declared.error.SessionError.TheVariants.{Read, Write, NoMemory}

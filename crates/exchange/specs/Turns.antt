@@ -3,19 +3,16 @@ use Rattle.std.specs.Prelude.{◌≡◌, ◌⊎◌, ℕ, ◌+◌, ◌*◌, ◌^�
 use Rattle.std.specs.Prelude.{flat_map, Option, Some, None}
 use Rattle.std.specs.List.{range_with_len}
 use Rattle.std.specs.Int.{saturate_unsigned, w64}
-use Rattle.words36.specs.Blocks.{block_bytes}
-use Rattle.meaning.specs.Jobs.{State, job_at}
-use Rattle.meaning.specs.Plans.{Act, Asks}
-use Rattle.meaning.specs.Room.{Pack, room}
-use Rattle.meaning.specs.Runs.{Service, Serving, Broken}
-use Rattle.meaning.specs.Texts.{is_broken}
-use Rattle.meaning.specs.Transcripts.{Went}
-use Rattle.meaning.specs.declared.area.Area.{Area}
-use Rattle.meaning.specs.declared.call.Event.TheVariants.{Login as Logins, Deposit as Deposits, Examine as Examines}
-use Rattle.meaning.specs.declared.call.Event.TheVariants.{Call as CallEvents}
-use Rattle.meaning.specs.declared.call.Reply.{Reply}
-use Rattle.meaning.specs.declared.call.Reply.TheVariants.{Done, Value}
-use Rattle.monitor.specs.Changed.{areas_for}
+use Rattle.words36.specs.Common.{block_bytes}
+use Rattle.spec_machine.specs.Common.{State, job_at, room, Service, Serving, Broken}
+use Rattle.spec_language.specs.Common.{Act, Asks, is_broken, Went}
+use Rattle.spec_image.specs.Common.{Pack}
+use Rattle.spec_machine.specs.declared.area.Area.{Area}
+use Rattle.spec_machine.specs.declared.call.Event.TheVariants.{Login as Logins, Deposit as Deposits}
+use Rattle.spec_machine.specs.declared.call.Event.TheVariants.{Examine as Examines, Call as CallEvents}
+use Rattle.spec_machine.specs.declared.call.Reply.{Reply}
+use Rattle.spec_machine.specs.declared.call.Reply.TheVariants.{Done, Value}
+use Rattle.monitor.specs.Common.{areas_for}
 use Rattle.wire.specs.Frames.{Framed, IsFrame, frame_bytes}
 use Rattle.wire.specs.Records.{IsOrder, record_bytes, answer_record}
 use Rattle.wire.specs.declared.answer.Answer.{Answer}

@@ -1,7 +1,6 @@
 ghost use Rattle.std.specs.Prelude.{◌≡◌, ◌+◌, ◌-◌, ◌^◌, ◌≤◌, List, ℕ, [], All, length, vec_capacity};
 ghost use Rattle.std.specs.List.{AllByRecursion};
-ghost use Rattle.words36.specs.Blocks.{block_bytes};
-ghost use Rattle.words36.specs.Words.{IsWord};
+ghost use Rattle.words36.specs.Common.{block_bytes, IsWord};
 ghost use Rattle.wire.specs.Records.{IsOrder};
 ghost use Rattle.wire.specs.declared.header.Header.{Header as Headers};
 ghost use Rattle.exchange.specs.Turns.{addresses};
@@ -9,7 +8,7 @@ ghost use Rattle.exchange.specs.Exchanges.{HasPut, HasWritten, HasObeyed, IsLow,
 
 use crate::telling::tell_areas;
 use commands::FileService;
-use meaning::{Event, Reply};
+use spec_machine::{Event, Reply};
 use std::alloc::Global;
 use usercore::Area;
 use wire::{Answer, Order, word_at};

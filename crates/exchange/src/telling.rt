@@ -1,12 +1,12 @@
-ghost use Rattle.std.specs.Prelude.{◌≡◌, ◌+◌, ◌^◌, ◌<◌, ◌≤◌, ◌++◌, ◌∷◌, [], length};
-ghost use Rattle.std.specs.Prelude.{IfSome, IfNone, vec_len, vec_capacity};
+ghost use Rattle.std.specs.Prelude.{◌≡◌, ◌+◌, ◌^◌, ◌<◌, ◌≤◌, ◌++◌, ◌∷◌, [], length, IfSome, IfNone, vec_len};
+ghost use Rattle.std.specs.Prelude.{vec_capacity};
 ghost use Rattle.std.specs.List.{AllByRecursion, range_with_len};
-ghost use Rattle.meaning.specs.declared.call.Reply.TheVariants.{Done};
+ghost use Rattle.spec_machine.specs.declared.call.Reply.TheVariants.{Done};
 ghost use Rattle.exchange.specs.Turns.{addresses, group};
 ghost use Rattle.exchange.specs.Exchanges.{HasRead, IsLow};
 
 use commands::FileService;
-use meaning::{Event, Reply};
+use spec_machine::{Event, Reply};
 use std::alloc::Global;
 use usercore::Area;
 use words36::Word;

@@ -1,5 +1,5 @@
 ghost use Rattle.std.specs.Prelude.{◌≡◌, ◌||◌, ◌++◌, [], OnOk, OnErr, true};
-ghost use Rattle.meaning.specs.Texts.{is_broken};
+ghost use Rattle.spec_language.specs.Common.{is_broken};
 ghost use Rattle.wire.specs.Frames.{IsFrame};
 ghost use Rattle.wire.specs.declared.answer.Answer.TheVariants.{Wrong};
 ghost use Rattle.exchange.specs.Turns.{is_wrong, is_fault, answer_of};

@@ -1,10 +1,10 @@
 -- What is so of a service whatever the task was.
 use Rattle.std.proofs.Common.{ℕ, List, Option, Result, subst}
-use Rattle.blockdisk.specs.Disk.{DiskState}
-use Rattle.monitor.specs.States.{MonitorState}
+use Rattle.blockdisk.specs.Common.{DiskState}
+use Rattle.monitor.specs.Common.{MonitorState}
 use Rattle.commands.specs.declared.answer.Tally.{Tally}
 use Rattle.commands.specs.declared.error.SessionError.{SessionError}
-use Rattle.filser.specs.Tasks.{Attends}
+use Rattle.filser.specs.Common.{Attends}
 use Rattle.filser.specs.declared.task.Task.{Task}
 use Rattle.filser.specs.declared.task.Task.TheVariants.{Run, Calls, Wire, Put, Get, Delete, List as ListAll, Check}
 

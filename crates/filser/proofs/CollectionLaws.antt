@@ -1,17 +1,13 @@
 -- Runs on an image that put files of the host or make some.
 use Rattle.std.proofs.Common.{◌≡◌, ◌⊎◌, ◌*◌, ◌∙◌, ⊎_elim, inl, inr, ℕ, List, Option, Result, sym, subst}
 use Rattle.std.specs.Prelude.{None as Nothing}
-use Rattle.blockdisk.specs.Disk.{DiskState}
-use Rattle.imagefile.specs.Began.{BeganAs, begun_image}
-use Rattle.imagefile.specs.Image.{block_length}
-use Rattle.imagefile.specs.Unseen.{Unseen}
+use Rattle.blockdisk.specs.Common.{DiskState}
+use Rattle.imagefile.specs.Common.{BeganAs, begun_image, block_length, Unseen}
 use Rattle.imagefile.specs.declared.form.Form.{Form}
-use Rattle.monitor.specs.States.{MonitorState}
+use Rattle.monitor.specs.Common.{MonitorState}
 use Rattle.commands.specs.declared.answer.Tally.{Tally}
 use Rattle.commands.specs.declared.error.SessionError.{SessionError}
-use Rattle.filser.specs.Hosts.{HostFacts, IsOpened}
-use Rattle.filser.specs.Images.{IsWhole}
-use Rattle.filser.specs.ServedDisks.{IsServed, IsUnserved}
+use Rattle.filser.specs.Common.{HostFacts, IsOpened, IsWhole, IsServed, IsUnserved}
 use Rattle.filser.specs.declared.status.Status.{Status}
 use Rattle.filser.proofs.Since.{served_since, unserved_since}
 

@@ -1,44 +1,28 @@
 -- What becomes of images and their disks.
-use Rattle.std.proofs.Common.{◌≡◌, ◌⊎◌, inl, inr, ⊎_elim, ℕ, List, Option, Some, Result, Ok, Err, OnOk, refl}
-use Rattle.std.proofs.Common.{sym, subst, ◌∙◌, ◌+◌, ◌-◌, ◌*◌, ◌^◌, min, IfOk, ap, length, replicate}
-use Rattle.std.proofs.Common.{arith}
+use Rattle.std.proofs.Common.{◌≡◌, ◌⊎◌, inl, inr, ⊎_elim, ℕ, List, Option, Some, Result, Ok, Err, OnOk, refl, sym}
+use Rattle.std.proofs.Common.{subst, ◌∙◌, ◌+◌, ◌-◌, ◌*◌, ◌^◌, min, IfOk, ap, length, replicate, arith}
 use Rattle.std.proofs.lemmas.List.{length-replicate}
 use Rattle.std.specs.Prelude.{IsErrOf, option_map, None as Nothing}
 use Rattle.std.specs.declared.io.Error.{Error}
-use Rattle.blockdisk.specs.Disk.{DiskState, LeavesOnly, NoneOpen, SameDisk, Still, one_more}
-use Rattle.blockdisk.specs.Laws.{leaves_on}
-use Rattle.blockdisk.specs.Memory.{Memory as MemoryDisk, memory_state, zeroed}
-use Rattle.changeset.specs.Crashes.{IsRecovered}
-use Rattle.changeset.specs.Rest.{AtRest}
-use Rattle.imagefile.specs.Began.{BeganAs, begun_image}
-use Rattle.imagefile.specs.Image.{block_length, other_form}
-use Rattle.imagefile.specs.Unseen.{Unseen}
+use Rattle.blockdisk.specs.Common.{DiskState, LeavesOnly, NoneOpen, SameDisk, Still, one_more, leaves_on}
+use Rattle.blockdisk.specs.Common.{Memory as MemoryDisk, memory_state, zeroed}
+use Rattle.changeset.specs.Common.{IsRecovered, AtRest}
+use Rattle.imagefile.specs.Common.{BeganAs, begun_image, block_length, other_form, Unseen}
 use Rattle.imagefile.specs.declared.form.Form.{Form}
-use Rattle.meaning.specs.Files.{File, Files}
-use Rattle.meaning.specs.Maps.{empty}
-use Rattle.meaning.specs.Regions.{IsVolumeSize}
-use Rattle.meaning.specs.Layouts.{layout_number, pack_in, pack_of, StandsOn}
-use Rattle.meaning.specs.declared.layout.Layout.{Layout}
-use Rattle.meaning.specs.Stands.{Stands}
-use Rattle.meaning.proofs.Layouts.{stands_in_any}
-use Rattle.monitor.proofs.Along.{no_fault}
-use Rattle.volume.specs.Copying.{HomesComeLast}
-use Rattle.volume.specs.FaultsFound.{NamesInSpace, Refuses}
-use Rattle.volume.specs.Rest.{RestsAt, StandsLikeBefore}
+use Rattle.spec_image.specs.Common.{File, Files, empty, IsVolumeSize, layout_number, pack_in, pack_of, StandsOn}
+use Rattle.spec_image.specs.Common.{Stands}
+use Rattle.spec_image.specs.declared.layout.Layout.{Layout}
+use Rattle.spec_image.proofs.Common.{stands_in_any}
+use Rattle.monitor.proofs.Events.Along.{no_fault}
+use Rattle.volume.specs.Common.{HomesComeLast, NamesInSpace, Refuses, RestsAt, StandsLikeBefore}
 use Rattle.volume.specs.declared.error.CopyError.{CopyError}
 use Rattle.volume.specs.declared.error.CopyError.TheVariants.{Source, Target}
 use Rattle.volume.specs.declared.error.VolumeError.{VolumeError}
 use Rattle.volume.specs.declared.error.VolumeError.TheVariants.{NotVolume, Device}
-use Rattle.filser.specs.Denials.{IsDeviceFault, IsExplained}
-use Rattle.filser.specs.Hosts.{HostFacts, IsOpened}
-use Rattle.filser.specs.Images.{IsCopied, IsCopyFault, IsCopyRun, IsEmptyVolume, IsFaultOf, IsFresh}
-use Rattle.filser.specs.Images.{IsLeftAlone, IsNewDisk, IsNoNewDisk, IsNotMade, IsOnBoth, IsOnCopy}
-use Rattle.filser.specs.Images.{IsOnSource, IsTaskRun, IsWhole}
-use Rattle.filser.specs.Lines.{IsLine}
-use Rattle.filser.specs.Refusals.{refusal_code, refusal_text}
-use Rattle.filser.specs.ServedDisks.{IsGivenBack, IsRefusedBy}
-use Rattle.filser.specs.Tasks.{Attends}
-use Rattle.filser.specs.Views.{Views}
+use Rattle.filser.specs.Common.{IsDeviceFault, IsExplained, HostFacts, IsOpened, IsCopied, IsCopyFault, IsCopyRun}
+use Rattle.filser.specs.Common.{IsEmptyVolume, IsFaultOf, IsFresh, IsLeftAlone, IsNewDisk, IsNoNewDisk, IsNotMade}
+use Rattle.filser.specs.Common.{IsOnBoth, IsOnCopy, IsOnSource, IsTaskRun, IsWhole, IsLine, refusal_code}
+use Rattle.filser.specs.Common.{refusal_text, IsGivenBack, IsRefusedBy, Attends, Views}
 use Rattle.filser.specs.declared.disks.Disks.{Disks}
 use Rattle.filser.specs.declared.disks.Disks.TheVariants.{Unserved}
 use Rattle.filser.specs.declared.fault.HostFault.{HostFault}

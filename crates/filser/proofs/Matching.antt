@@ -1,12 +1,11 @@
 -- From what `clap` matched to what is asked for.
 use Rattle.std.proofs.Common.{◌≡◌, ◌+◌, ◌*◌, ◌≤◌, ◌<◌, ◌^◌, ◌∙◌, sym, ap, subst, refl, List, ℕ, map, codes, Option}
-use Rattle.std.proofs.Common.{Some, None}
-use Rattle.std.proofs.Common.{Err, arith, true, false, true≢false, Bool, ◌||◌, inl, inr}
+use Rattle.std.proofs.Common.{Some, None, Err, arith, true, false, true≢false, Bool, ◌||◌, inl, inr}
 use Rattle.std.specs.Prelude.{[], ◌==◌, slice_index, option_map, IfSome, IfNone, MatchOption, IsErrOf}
 use Rattle.std.specs.Str.Parse.{IsNumeral, digits_value, without_leading_plus}
 use Rattle.clap.specs.Words.{Text, Row, App, all_of, one_of, first_value, matched_of, one_text, raw_values, rows_of}
-use Rattle.clap.specs.Words.{is_simple, kind_of, fault_of}
-use Rattle.clap.specs.Words.{is_simple_and_free, HasKind, IsAmong, HasMatchesOf, subcommand_of, subcommand_rows_of}
+use Rattle.clap.specs.Words.{is_simple, kind_of, fault_of, is_simple_and_free, HasKind, IsAmong, HasMatchesOf}
+use Rattle.clap.specs.Words.{subcommand_of, subcommand_rows_of}
 use Rattle.clap.specs.declared.parser.matches.ArgMatches.{ArgMatches}
 use Rattle.clap.specs.declared.parser.matches.Found.{Found}
 use Rattle.clap.specs.declared.error.Error.{Error}
@@ -15,21 +14,20 @@ use Rattle.clap.proofs.OnLiterals.{clap_on_literals}
 use Rattle.clap.proofs.WalkLemmas.{first_value-rows, one_text-rows, raw_values-rows}
 use Rattle.words36.specs.declared.moment.Moment.{Moment}
 use Rattle.imagefile.specs.declared.form.Form.{Form}
-use Rattle.meaning.specs.Lines.{upper}
-use Rattle.meaning.specs.declared.encoding.Encoding.{Encoding}
-use Rattle.meaning.specs.declared.encoding.Encoding.TheVariants.{Characters, Words, Octets}
-use Rattle.meaning.specs.declared.layout.Layout.{Layout}
-use Rattle.commands.specs.DayTexts.{IsDayText}
-use Rattle.commands.specs.Files.{IsFileName, IsOwnerName}
+use Rattle.spec_language.specs.Common.{upper}
+use Rattle.spec_language.specs.declared.encoding.Encoding.{Encoding}
+use Rattle.spec_language.specs.declared.encoding.Encoding.TheVariants.{Characters, Words, Octets}
+use Rattle.spec_image.specs.declared.layout.Layout.{Layout}
+use Rattle.commands.specs.Common.{IsDayText, IsFileName, IsOwnerName}
 use Rattle.arguments.specs.CommandLine.{command_line, making, serving, filing, looking, init_app, run_app, calls_app}
 use Rattle.arguments.specs.CommandLine.{put_app, get_app, delete_app, list_app, check_app, convert_app, converting}
 use Rattle.arguments.specs.CommandLine.{dated, filed, formed, laid_out, located, migrate_app, sized, wire_app}
-use Rattle.arguments.specs.CommandLine.{adapted, encoded, export_app, gathered, import_app, moving}
-use Rattle.arguments.specs.CommandLine.{salvage_app, scattered, unloaded}
-use Rattle.filser.specs.Requests.{Asks, IsAsked, IsTask, IsAt, IsNamedFile, IsListedPlace, HasForm, HasText, HasNumber}
-use Rattle.filser.specs.Requests.{AsksFor, HasLayout, HasOwner, IsEncoding, IsExportTask, IsImportTask}
-use Rattle.filser.specs.Requests.{IsOneEncoding, IsWrong, LacksOwned, NamesEncoding}
-use Rattle.filser.specs.Requests.{HasDate, IsDateNumber, IsMistaken, IsUsage, NamesNoDate, SaysDate, Spells, task_name}
+use Rattle.arguments.specs.CommandLine.{adapted, encoded, export_app, gathered, import_app, moving, salvage_app}
+use Rattle.arguments.specs.CommandLine.{scattered, unloaded}
+use Rattle.filser.specs.Common.{Asks, IsAsked, IsTask, IsAt, IsNamedFile, IsListedPlace, HasForm, HasText, HasNumber}
+use Rattle.filser.specs.Common.{AsksFor, HasLayout, HasOwner, IsEncoding, IsExportTask, IsImportTask, IsOneEncoding}
+use Rattle.filser.specs.Common.{IsWrong, LacksOwned, NamesEncoding, HasDate, IsDateNumber, IsMistaken, IsUsage}
+use Rattle.filser.specs.Common.{NamesNoDate, SaysDate, Spells, task_name}
 use Rattle.collection.specs.declared.task.ExportTask.{ExportTask}
 use Rattle.collection.specs.declared.task.ImportTask.{ImportTask}
 use Rattle.filser.specs.declared.task.NamedFile.{NamedFile}
@@ -40,8 +38,10 @@ use Rattle.filser.specs.declared.error.WrongArgument.{WrongArgument}
 use Rattle.filser.specs.declared.error.WrongArgument.TheVariants.{Encodings}
 use Rattle.filser.specs.declared.error.RequestError.TheVariants.{Usage}
 use Rattle.filser.specs.declared.asked.Request.{Request}
-use Rattle.filser.specs.declared.asked.Request.TheVariants.{Fresh, Init, Work, Convert, Migrate}
-use Rattle.filser.specs.declared.asked.Request.TheVariants.{Import, Export, Salvage}
+use Rattle.filser.specs.declared.asked.Request.TheVariants.{Fresh, Init, Work, Convert, Migrate, Import, Export}
+use Rattle.filser.specs.declared.asked.Request.TheVariants.{Salvage}
+use Rattle.blockcache.proofs.Seen.{some_same}
+use Rattle.blockcache.proofs.Held.{none_some}
 
 -- The command line is one of those whose matches `clap` computes.
 
@@ -59,16 +59,10 @@ line-free = refl
 
 -- Texts and numbers.
 
-some_is_none : {X : Type 0} (x : X) → Some x ≡ None → ⊥
-some_is_none x e = cc
-
-same_some : {X : Type 0} (x y : X) → Some x ≡ Some y → x ≡ y
-same_some x y e = cc
-
 pub text_matched : {X : Type 0} (f : Found) (id : Text) (now : X → Text) (result : Option X)
     → option_map now result ≡ first_value f id
     → MatchOption result ((t : Text) → HasText (rows_of f) id t → ⊥) (λ t. HasText (rows_of f) id (now t))
-text_matched f id now None e = λ t has. some_is_none t (sym has ∙ sym (first_value-rows f id) ∙ sym e)
+text_matched f id now None e = λ t has. none_some t (sym has ∙ sym (first_value-rows f id) ∙ sym e)
 text_matched f id now (Some t) e = sym (e ∙ first_value-rows f id)
 
 pub texts_matched : {X : Type 0} (f : Found) (id : Text) (now : X → List Text) (result : Option X)
@@ -86,7 +80,7 @@ parsed_some : (text : Option Text) (n : ℕ) → (text ≡ None → Some n ≡ N
     → ((t : Text) → text ≡ Some t → (IsNumeral 10 (without_leading_plus t)
     × (digits_value 10 (without_leading_plus t) < 2 ^ 32)) × (n ≡ digits_value 10 (without_leading_plus t)))
     → Parsed text (Some n)
-parsed_some None n gone read = absurd (some_is_none n (gone refl))
+parsed_some None n gone read = absurd (none_some n (gone refl))
 parsed_some (Some t) n gone read = (t, refl, ((read t refl).0.0, sym (read t refl).1))
 
 parsed_none : (text : Option Text) → ((t : Text) → text ≡ Some t → IsNumeral 10 (without_leading_plus t)
@@ -121,7 +115,7 @@ one_spelled : (text : Option Text) (m n : ℕ) → Parsed text (Some m) → ((t 
     → m ≡ n
 one_spelled text m n parsed has =
     sym parsed.2.1
-    ∙ ap (λ t. digits_value 10 (without_leading_plus t)) (same_some parsed.0 has.0 (sym parsed.1 ∙ has.1)) ∙ has.2.1
+    ∙ ap (λ t. digits_value 10 (without_leading_plus t)) (some_same parsed.0 has.0 (sym parsed.1 ∙ has.1)) ∙ has.2.1
 
 pub out_of_range : (rows : List Row) (id : Text) (least most m : ℕ) → Parsed (one_of id rows) (Some m)
     → (least ≤ m → m ≤ most → ⊥) → (n : ℕ) → HasNumber rows id least most n → ⊥
@@ -138,7 +132,7 @@ pub has_owner : (rows : List Row) (text : Text) (found : Option ℕ) → HasText
     → MatchOption found ((owner : ℕ) → HasOwner rows owner → ⊥) (HasOwner rows)
 has_owner rows text (Some owner) has some none = (text, has, some)
 has_owner rows text None has some none = λ owner owned.
-    none owner (subst (λ (t : Text). IsOwnerName t owner) (same_some owned.0 text (sym owned.1 ∙ has)) owned.2)
+    none owner (subst (λ (t : Text). IsOwnerName t owner) (some_same owned.0 text (sym owned.1 ∙ has)) owned.2)
 
 pub no_owned : (rows : List Row) → ((owner : ℕ) → HasOwner rows owner → ⊥) → LacksOwned rows
 no_owned rows none owner file owned = none owner owned.0
@@ -146,7 +140,7 @@ no_owned rows none owner file owned = none owner owned.0
 pub no_name : (rows : List Row) (text : Text) → HasText rows (codes "NAME") text
     → ((name ext : ℕ) → IsFileName (map upper text) name ext → ⊥) → LacksOwned rows
 no_name rows text has none owner file owned =
-    let same = same_some owned.1.0 text (sym owned.1.1 ∙ has) in
+    let same = some_same owned.1.0 text (sym owned.1.1 ∙ has) in
     none file.name file.ext (subst (λ (t : Text). IsFileName (map upper t) file.name file.ext) same owned.1.2)
 
 pub no_named : (rows : List Row) → LacksOwned rows → (f : NamedFile) → IsNamedFile rows f → ⊥
@@ -179,21 +173,21 @@ names_encoding rows first second third Octets Octets a b = refl
 pub one_asked : (rows : List Row) (found : Option Encoding) → IfSome found (AsksFor rows)
     → IfNone found ((e : Encoding) → AsksFor rows e → ⊥) → NamesEncoding rows → IsOneEncoding rows found
 one_asked rows (Some e) some none names other = (
-  λ same. subst (AsksFor rows) (same_some e other same) some,
+  λ same. subst (AsksFor rows) (some_same e other same) some,
   λ asks. ap Some (names e other some asks),
 )
 one_asked rows None some none names other =
-    (λ same. absurd (some_is_none other (sym same)), λ asks. absurd (none other asks))
+    (λ same. absurd (none_some other (sym same)), λ asks. absurd (none other asks))
 
 -- two flags that are given leave none to be the only one
 pub two_asked : (rows : List Row) (one other : Encoding) → IsWrong rows (Encodings one other)
     → (asked : Option Encoding) → IsOneEncoding rows asked → ⊥
 two_asked rows one other wrong asked is =
-    wrong.0 (same_some one other (sym ((is one).1 wrong.1) ∙ (is other).1 wrong.2))
+    wrong.0 (some_same one other (sym ((is one).1 wrong.1) ∙ (is other).1 wrong.2))
 
 -- the task of `import` wants files, and what else names them
 pub no_files : (rows : List Row) → all_of (codes "FILE") rows ≡ None → (t : ImportTask) → IsImportTask rows t → ⊥
-no_files rows none t is = some_is_none (map (λ p. p.now) t.paths.items) (sym is.paths ∙ none)
+no_files rows none t is = none_some (map (λ p. p.now) t.paths.items) (sym is.paths ∙ none)
 
 pub no_directory : (rows : List Row) → ((owner : ℕ) → HasOwner rows owner → ⊥) → (t : ImportTask)
     → IsImportTask rows t → ⊥
@@ -221,9 +215,9 @@ no_export_encoding rows none t is = none t.encoding is.encoding
 
 pub no_place : (rows : List Row) (text : Text) → HasText rows (codes "PPN") text
     → ((owner : ℕ) → IsOwnerName text owner → ⊥) → (place : Option ℕ) → IsListedPlace rows place → ⊥
-no_place rows text has none None gone = some_is_none text (sym has ∙ gone)
+no_place rows text has none None gone = none_some text (sym has ∙ gone)
 no_place rows text has none (Some owner) named =
-    let same = same_some named.0 text (sym named.1 ∙ has) in
+    let same = some_same named.0 text (sym named.1 ∙ has) in
     none owner (subst (λ (t : Text). IsOwnerName t owner) same named.2)
 
 pub no_date : (rows : List Row) → ((n : ℕ) → HasDate rows n → ⊥) → (at : Moment) → IsAt rows at → ⊥
@@ -612,5 +606,5 @@ pub has_date : (rows : List Row) (text : Text) (found : Option ℕ) → HasText 
     → MatchOption found ((n : ℕ) → HasDate rows n → ⊥) (HasDate rows)
 has_date rows text (Some n) has says = (text, has, says)
 has_date rows text None has none = λ n h.
-    let same : h.0 ≡ text = same_some h.0 text (sym h.1 ∙ has) in
+    let same : h.0 ≡ text = some_same h.0 text (sym h.1 ∙ has) in
     none n (subst (λ (t : Text). SaysDate t n) same h.2)

@@ -1,10 +1,9 @@
 -- Streams that lead to no file of some words.
-use Rattle.std.proofs.Common.{◌≡◌, ◌<◌, ◌≤◌, ◌+◌, inl, inr, ℕ, List, Bool, true, false, Option, IsTrue, IsFalse}
-use Rattle.std.proofs.Common.{All, map, take, length, get_or, subst, sym, refl}
+use Rattle.std.proofs.Common.{◌≡◌, ◌<◌, ◌≤◌, ◌+◌, inl, inr, ℕ, List, Bool, true, false, Option, IsTrue, IsFalse, All}
+use Rattle.std.proofs.Common.{map, take, length, get_or, subst, sym, refl}
 use Rattle.std.proofs.lemmas.List.{take_all, take_more}
 use Rattle.std.proofs.lemmas.List.Elements.{All-map, All-push}
-use Rattle.filser.specs.Hosts.{HostFacts}
-use Rattle.filser.specs.Sparing.{SparesNamed, SparesOutput}
+use Rattle.filser.specs.Common.{HostFacts, SparesNamed, SparesOutput}
 
 -- what holds of the names so far holds of these and the next one
 pub named_more : {X : Type 0} (P : X → Type 0) (xs : List X) (i : ℕ) (d : X) → i < length xs → All P (take i xs)

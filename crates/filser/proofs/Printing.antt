@@ -1,14 +1,13 @@
 -- Texts that are written one after the other, and the line that they are.
-use Rattle.std.proofs.Common.{◌≡◌, ◌<◌, ◌++◌, ◌∷◌, ℕ, List, [], Option, Result, Ok, Err, OnOk, IfErr, length}
-use Rattle.std.proofs.Common.{refl, sym, ap, ◌∙◌, subst, arith}
+use Rattle.std.proofs.Common.{◌≡◌, ◌<◌, ◌++◌, ◌∷◌, ℕ, List, [], Option, Result, Ok, Err, OnOk, IfErr, length, refl}
+use Rattle.std.proofs.Common.{sym, ap, ◌∙◌, subst, arith}
 use Rattle.std.proofs.KnownBytes.{Appends-trans}
 use Rattle.std.proofs.lemmas.List.{append_assoc, append-nil, length-append}
 use Rattle.std.specs.Io.KnownBytes.{Appends}
 use Rattle.commands.specs.declared.error.SessionError.{SessionError}
 use Rattle.commands.specs.declared.error.SessionError.TheVariants.{Write}
-use Rattle.meaning.specs.Lines.{feed}
-use Rattle.filser.specs.Lines.{IsBegun, IsLine, Puts}
-use Rattle.filser.specs.Statuses.{status_code}
+use Rattle.spec_language.specs.Common.{feed}
+use Rattle.filser.specs.Common.{IsBegun, IsLine, Puts, status_code}
 use Rattle.filser.specs.declared.status.Status.{Status}
 use Rattle.filser.specs.declared.status.Status.TheVariants.{Fault}
 

@@ -2,27 +2,20 @@
 use Rattle.std.proofs.Common.{◌≡◌, ◌⊎◌, inl, inr, ⊎_elim, ℕ, List, Option, refl, sym, subst, ◌∙◌, ◌+◌, ◌-◌, ◌*◌, ◌^◌}
 use Rattle.std.proofs.Common.{min, Err}
 use Rattle.std.specs.Prelude.{IsErrOf}
-use Rattle.blockdisk.specs.Disk.{Contents, DiskState, LeavesOnly, NoneOpen, SameDisk, Still, one_more}
-use Rattle.blockdisk.specs.Laws.{same_contents, still_on}
-use Rattle.changeset.specs.Crashes.{IsRecovered}
-use Rattle.changeset.specs.Rest.{AtRest}
-use Rattle.imagefile.specs.Began.{BeganAs, begun_image}
-use Rattle.imagefile.specs.Image.{block_length}
-use Rattle.imagefile.specs.Unseen.{Unseen}
+use Rattle.blockdisk.specs.Common.{Contents, DiskState, LeavesOnly, NoneOpen, SameDisk, Still, one_more}
+use Rattle.blockdisk.specs.Common.{same_contents, still_on}
+use Rattle.changeset.specs.Common.{IsRecovered, AtRest}
+use Rattle.imagefile.specs.Common.{BeganAs, begun_image, block_length, Unseen}
 use Rattle.imagefile.specs.declared.form.Form.{Form}
-use Rattle.meaning.specs.Files.{File, Files}
-use Rattle.meaning.specs.Layouts.{pack_in, SettledStandsOn, StandsOn}
-use Rattle.meaning.specs.Stands.{Stands}
-use Rattle.monitor.proofs.Along.{no_fault}
-use Rattle.volume.specs.FaultsFound.{NamesInSpace, Refuses}
-use Rattle.volume.specs.Migrating.{IsMigrated, IsTold, RaisedLikeBefore}
+use Rattle.spec_image.specs.Common.{File, Files, pack_in, SettledStandsOn, StandsOn, Stands}
+use Rattle.monitor.proofs.Events.Along.{no_fault}
+use Rattle.volume.specs.Common.{NamesInSpace, Refuses, IsMigrated, IsTold, RaisedLikeBefore}
 use Rattle.volume.specs.declared.error.VolumeError.{VolumeError}
 use Rattle.volume.specs.declared.error.VolumeError.TheVariants.{Device}
 use Rattle.volume.specs.declared.migrate.Migrated.{Migrated}
 use Rattle.volume.specs.declared.migrate.Migrated.TheVariants.{Done, Already}
-use Rattle.filser.specs.Hosts.{HostFacts, IsOpened}
-use Rattle.filser.specs.Images.{IsWhole}
-use Rattle.filser.specs.Migrations.{IsKeptBack, IsMigration, IsMigrationRefused, IsMigrationRun, IsRaised}
+use Rattle.filser.specs.Common.{HostFacts, IsOpened, IsWhole, IsKeptBack, IsMigration, IsMigrationRefused}
+use Rattle.filser.specs.Common.{IsMigrationRun, IsRaised}
 use Rattle.filser.specs.declared.status.Status.{Status}
 use Rattle.filser.proofs.Since.{leaves_since}
 

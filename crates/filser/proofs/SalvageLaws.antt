@@ -1,21 +1,16 @@
 -- Runs on an image that save what is whole on it.
 use Rattle.std.proofs.Common.{◌≡◌, ◌⊎◌, ◌*◌, ◌∙◌, ap, ⊎_elim, inl, inr, ℕ, Bool, List, Option, refl, sym, subst}
-use Rattle.blockdisk.specs.Disk.{Contents, DiskState, SameDisk}
-use Rattle.blockdisk.specs.Laws.{still_on}
-use Rattle.blockdisk.specs.Memory.{Memory}
-use Rattle.imagefile.specs.Began.{BeganAs, begun_image}
-use Rattle.imagefile.specs.Image.{block_length}
-use Rattle.imagefile.specs.Unseen.{Unseen}
+use Rattle.blockdisk.specs.Common.{Contents, DiskState, SameDisk, still_on, Memory}
+use Rattle.imagefile.specs.Common.{BeganAs, begun_image, block_length, Unseen}
 use Rattle.imagefile.specs.declared.form.Form.{Form}
-use Rattle.meaning.specs.Stands.{Stands}
-use Rattle.salvage.specs.Copies.{AreCopies, IsCopyOf, failed_by}
+use Rattle.spec_image.specs.Common.{Stands}
+use Rattle.salvage.specs.Common.{AreCopies, IsCopyOf, failed_by}
 use Rattle.salvage.specs.declared.error.SalvageError.{SalvageError}
 use Rattle.salvage.specs.declared.error.SalvageError.TheVariants.{NotVolume, Device, NoMemory}
-use Rattle.collection.specs.HostFacts.{FileFacts}
+use Rattle.collection.specs.Common.{FileFacts}
 use Rattle.collection.specs.declared.task.ExportTask.{ExportTask}
-use Rattle.filser.specs.Hosts.{HostFacts, IsOpened}
-use Rattle.filser.specs.Images.{IsWhole}
-use Rattle.filser.specs.Salvaging.{IsCopied, IsSalvagedFrom, IsUncopied}
+use Rattle.filser.specs.Common.{HostFacts, IsOpened, IsWhole, IsSalvagedFrom, IsUncopied}
+use Rattle.filser.specs.Salvaging.{IsCopied}
 use Rattle.filser.specs.declared.status.Status.{Status}
 use Rattle.filser.proofs.Since.{same}
 

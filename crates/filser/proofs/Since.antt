@@ -1,24 +1,18 @@
 -- What holds since a disk was made holds since nothing was asked of its file.
-use Rattle.std.proofs.Common.{◌≡◌, inl, inr, ⊎_elim, ℕ, List, [], Option, Result, sym, subst, ◌∙◌}
-use Rattle.std.proofs.Common.{◌+◌, ◌-◌, ◌^◌, min}
-use Rattle.blockdisk.specs.Disk.{Contents, DiskState, MayLeave, LeavesOnly}
-use Rattle.blockdisk.specs.Laws.{same_contents, still_on, leaves_on, leaves_still}
-use Rattle.changeset.specs.Crashes.{IsRecovered}
-use Rattle.imagefile.specs.Began.{BeganAs, begun_image}
-use Rattle.imagefile.specs.ImageLaws.{image_only_now}
-use Rattle.imagefile.specs.Recorded.{recorded}
-use Rattle.imagefile.specs.RecordedLaws.{recorded_only_now}
-use Rattle.imagefile.specs.Unseen.{Unseen}
+use Rattle.std.proofs.Common.{◌≡◌, inl, inr, ⊎_elim, ℕ, List, [], Option, Result, sym, subst, ◌∙◌, ◌+◌, ◌-◌, ◌^◌, min}
+use Rattle.blockdisk.specs.Common.{Contents, DiskState, MayLeave, LeavesOnly, same_contents, still_on, leaves_on}
+use Rattle.blockdisk.specs.Common.{leaves_still}
+use Rattle.changeset.specs.Common.{IsRecovered}
+use Rattle.imagefile.specs.Common.{BeganAs, begun_image, image_only_now, recorded, recorded_only_now, Unseen}
 use Rattle.imagefile.specs.declared.form.Form.{Form}
 use Rattle.commands.specs.declared.answer.Tally.{Tally}
 use Rattle.commands.specs.declared.error.SessionError.{SessionError}
-use Rattle.meaning.specs.Layouts.{pack_of, StandsOn}
-use Rattle.meaning.specs.Stands.{Stands}
-use Rattle.volume.specs.Rest.{StandsLikeBefore}
+use Rattle.spec_image.specs.Common.{pack_of, StandsOn, Stands}
+use Rattle.volume.specs.Common.{StandsLikeBefore}
 use Rattle.volume.specs.declared.error.VolumeError.{VolumeError}
-use Rattle.monitor.specs.States.{MonitorState}
-use Rattle.filser.specs.Images.{IsFaultOf, IsLeftAlone, IsTaken}
-use Rattle.filser.specs.ServedDisks.{IsRefusedBy, IsServed, IsStarted, IsTurnedDown, IsUnserved}
+use Rattle.monitor.specs.Common.{MonitorState}
+use Rattle.filser.specs.Common.{IsFaultOf, IsLeftAlone, IsTaken, IsRefusedBy, IsServed, IsStarted, IsTurnedDown}
+use Rattle.filser.specs.Common.{IsUnserved}
 use Rattle.filser.specs.declared.fault.ImageFault.{ImageFault}
 use Rattle.filser.specs.declared.status.Status.{Status}
 

@@ -3,8 +3,7 @@ use Rattle.std.proofs.Common.{◌≡◌, ◌⊎◌, ◌∙◌, [], List, Option,
 use Rattle.std.specs.Prelude.{IsErrOf}
 use Rattle.clap.specs.Words.{Kinds, IsAmong, Row, Text, kind_of}
 use Rattle.clap.specs.declared.error.Error.{Error}
-use Rattle.filser.specs.Endings.{AreMistaken, AskToSee, EndsUnasked}
-use Rattle.filser.specs.Requests.{Asks, IsUsage}
+use Rattle.filser.specs.Common.{AreMistaken, AskToSee, EndsUnasked, Asks, IsUsage}
 use Rattle.filser.specs.declared.asked.Request.{Request}
 use Rattle.filser.specs.declared.error.RequestError.{RequestError}
 use Rattle.filser.specs.declared.error.WrongArgument.{WrongArgument}

@@ -1,13 +1,11 @@
 -- Why an image isn't served or made, and what is printed then.
-use Rattle.std.specs.Prelude.{◌≡◌, ◌≢◌, ◌⊎◌, ℕ, List, Bool, true, false, Option, Some, None, Ok, Err}
-use Rattle.std.specs.Prelude.{option_map, pos, ◌≤ℤ◌}
+use Rattle.std.specs.Prelude.{◌≡◌, ◌≢◌, ◌⊎◌, ℕ, List, Bool, true, false, Option, Some, None, Ok, Err, option_map, pos}
+use Rattle.std.specs.Prelude.{◌≤ℤ◌}
 use Rattle.std.specs.IoError.{error_kind}
 use Rattle.std.specs.declared.fs.TryLockError.TheVariants.{WouldBlock, Error as LockFailed}
 use Rattle.std.specs.declared.io.Error.{Error}
 use Rattle.std.specs.declared.io.ErrorKind.TheVariants.{AlreadyExists}
-use Rattle.imagefile.specs.File.{FileState}
-use Rattle.imagefile.specs.Image.{IsImageSize}
-use Rattle.imagefile.specs.Unseen.{Unseen, size_of}
+use Rattle.imagefile.specs.Common.{FileState, IsImageSize, Unseen, size_of}
 use Rattle.imagefile.specs.declared.form.Form.{Form}
 use Rattle.volume.specs.declared.error.VolumeError.TheVariants.{Device, NotVolume}
 use Rattle.filser.specs.HostFaults.{forbids_output}

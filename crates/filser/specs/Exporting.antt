@@ -1,10 +1,9 @@
 -- What became of an image whose files were to become files of the host.
 use Rattle.std.specs.Prelude.{◌⊎◌, ℕ, List, Option, None as Nothing}
-use Rattle.blockdisk.specs.Disk.{DiskState}
-use Rattle.imagefile.specs.Unseen.{Unseen}
+use Rattle.blockdisk.specs.Common.{DiskState}
+use Rattle.imagefile.specs.Common.{Unseen}
 use Rattle.imagefile.specs.declared.form.Form.{Form}
-use Rattle.collection.specs.HostFacts.{FileFacts}
-use Rattle.collection.specs.Exporting.{IsExportRun}
+use Rattle.collection.specs.Common.{FileFacts, IsExportRun}
 use Rattle.collection.specs.declared.task.ExportTask.{ExportTask}
 use Rattle.filser.specs.Hosts.{HostFacts}
 use Rattle.filser.specs.Images.{IsOnImageBy}

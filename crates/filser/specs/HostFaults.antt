@@ -1,7 +1,8 @@
 -- Which standard stream stays untouched.
 use Rattle.std.specs.Prelude.{Bool, true, false}
 use Rattle.filser.specs.declared.fault.HostFault.{HostFault}
-use Rattle.filser.specs.declared.fault.HostFault.TheVariants.{System, InUse, Input, Output, Errors, Memory, WrongLength}
+use Rattle.filser.specs.declared.fault.HostFault.TheVariants.{System, InUse, Input, Output, Errors, Memory}
+use Rattle.filser.specs.declared.fault.HostFault.TheVariants.{WrongLength}
 
 -- nothing may be printed
 abbrev pub forbids_output : HostFault → Bool

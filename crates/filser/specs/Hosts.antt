@@ -3,8 +3,8 @@
 use Rattle.std.specs.Prelude.{ℕ, ℤ, List, Option, Result, Ok, pos, ◌<ℤ◌}
 use Rattle.std.specs.declared.io.Error.{Error}
 use Rattle.std.specs.declared.fs.TryLockError.{TryLockError}
-use Rattle.collection.specs.HostFacts.{FileFacts}
-use Rattle.imagefile.specs.Unseen.{Unseen}
+use Rattle.collection.specs.Common.{FileFacts}
+use Rattle.imagefile.specs.Common.{Unseen}
 use Rattle.filser.specs.declared.identity.FileId.{FileId}
 
 -- over the open files of a host

@@ -1,20 +1,14 @@
 -- What became of the images that a run worked on: of one that is there, and of a new one.
 use Rattle.std.specs.Prelude.{◌≡◌, ◌≢◌, ◌⊎◌, ◌*◌, ℕ, List, Option, Some, None as Nothing, option_map}
 use Rattle.std.specs.declared.io.Error.{Error}
-use Rattle.blockdisk.specs.Disk.{DiskState, LeavesOnly, NoneOpen, Still, one_more}
-use Rattle.changeset.specs.Crashes.{IsRecovered}
-use Rattle.changeset.specs.Rest.{AtRest}
-use Rattle.imagefile.specs.Began.{BeganAs, begun_image}
-use Rattle.imagefile.specs.Image.{block_length, other_form}
-use Rattle.imagefile.specs.Unseen.{Unseen, size_of}
+use Rattle.blockdisk.specs.Common.{DiskState, LeavesOnly, NoneOpen, Still, one_more}
+use Rattle.changeset.specs.Common.{IsRecovered, AtRest}
+use Rattle.imagefile.specs.Common.{BeganAs, begun_image, block_length, other_form, Unseen, size_of}
 use Rattle.imagefile.specs.declared.form.Form.{Form}
-use Rattle.meaning.specs.Files.{File as StoredFile, Files}
-use Rattle.meaning.specs.Maps.{empty}
-use Rattle.meaning.specs.Regions.{IsVolumeSize}
-use Rattle.meaning.specs.Layouts.{layout_number, pack_in, pack_of, StandsOn}
-use Rattle.meaning.specs.declared.layout.Layout.{Layout}
-use Rattle.volume.specs.Copying.{HomesComeLast}
-use Rattle.volume.specs.Rest.{RestsAt, StandsLikeBefore}
+use Rattle.spec_image.specs.Common.{File as StoredFile, Files, empty, IsVolumeSize, layout_number, pack_in, pack_of}
+use Rattle.spec_image.specs.Common.{StandsOn}
+use Rattle.spec_image.specs.declared.layout.Layout.{Layout}
+use Rattle.volume.specs.Common.{HomesComeLast, RestsAt, StandsLikeBefore}
 use Rattle.volume.specs.declared.error.CopyError.{CopyError}
 use Rattle.volume.specs.declared.error.CopyError.TheVariants.{Source, Target}
 use Rattle.volume.specs.declared.error.VolumeError.{VolumeError}

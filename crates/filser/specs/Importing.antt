@@ -1,10 +1,9 @@
 -- What became of an image that files of the host were to be put on.
 use Rattle.std.specs.Prelude.{◌⊎◌, ℕ, List, Option, None as Nothing, map}
-use Rattle.blockdisk.specs.Disk.{DiskState}
-use Rattle.imagefile.specs.Unseen.{Unseen}
+use Rattle.blockdisk.specs.Common.{DiskState}
+use Rattle.imagefile.specs.Common.{Unseen}
 use Rattle.imagefile.specs.declared.form.Form.{Form}
-use Rattle.collection.specs.HostFacts.{FileFacts}
-use Rattle.collection.specs.Importing.{IsImportRun as IsCollectionPut}
+use Rattle.collection.specs.Common.{FileFacts, IsImportRun as IsCollectionPut}
 use Rattle.collection.specs.declared.task.ImportTask.{ImportTask}
 use Rattle.filser.specs.Hosts.{HostFacts}
 use Rattle.filser.specs.Images.{IsOnImageBy}

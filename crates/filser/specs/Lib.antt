@@ -17,3 +17,4 @@ pub mod Importing
 pub mod Exporting
 pub mod Salvaging
 pub mod Runs
+pub mod Common

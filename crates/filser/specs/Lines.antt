@@ -2,7 +2,7 @@
 use Rattle.std.specs.Prelude.{◌≡◌, ◌<◌, ◌++◌, ◌∷◌, ℕ, List, [], Option, Result, Ok, Err, length}
 use Rattle.std.specs.Fmt.{decimal}
 use Rattle.std.specs.Io.KnownBytes.{Appends}
-use Rattle.meaning.specs.Lines.{feed}
+use Rattle.spec_language.specs.Common.{feed}
 use Rattle.filser.specs.Statuses.{status_code}
 use Rattle.filser.specs.declared.message.Message.{Message}
 use Rattle.filser.specs.declared.message.Message.TheVariants.{Plain, Numbered}

@@ -1,16 +1,11 @@
 -- What became of an image that was to get layout 2. `begun` is its disk before anything was asked of it.
 use Rattle.std.specs.Prelude.{◌≡◌, ◌⊎◌, ℕ, List, Option, codes}
-use Rattle.blockdisk.specs.Disk.{DiskState, LeavesOnly, NoneOpen, Still, one_more}
-use Rattle.changeset.specs.Crashes.{IsRecovered}
-use Rattle.changeset.specs.Rest.{AtRest}
-use Rattle.imagefile.specs.Began.{begun_image}
-use Rattle.imagefile.specs.Unseen.{Unseen}
+use Rattle.blockdisk.specs.Common.{DiskState, LeavesOnly, NoneOpen, Still, one_more}
+use Rattle.changeset.specs.Common.{IsRecovered, AtRest}
+use Rattle.imagefile.specs.Common.{begun_image, Unseen}
 use Rattle.imagefile.specs.declared.form.Form.{Form}
-use Rattle.meaning.specs.Files.{File, Files}
-use Rattle.meaning.specs.Layouts.{pack_in, SettledStandsOn, StandsOn}
-use Rattle.meaning.specs.Stands.{Stands}
-use Rattle.volume.specs.FaultsFound.{NamesInSpace, Refuses}
-use Rattle.volume.specs.Migrating.{IsMigrated, RaisedLikeBefore}
+use Rattle.spec_image.specs.Common.{File, Files, pack_in, SettledStandsOn, StandsOn, Stands}
+use Rattle.volume.specs.Common.{NamesInSpace, Refuses, IsMigrated, RaisedLikeBefore}
 use Rattle.volume.specs.declared.error.VolumeError.{VolumeError}
 use Rattle.volume.specs.declared.error.VolumeError.TheVariants.{Device, NoMemory}
 use Rattle.filser.specs.Denials.{IsExplained}

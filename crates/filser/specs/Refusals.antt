@@ -2,9 +2,9 @@
 use Rattle.std.specs.Prelude.{ℕ, List, ◌++◌, codes}
 use Rattle.std.specs.Fmt.{decimal}
 use Rattle.volume.specs.declared.error.VolumeError.{VolumeError}
-use Rattle.volume.specs.declared.error.VolumeError.TheVariants.{NotVolume, BadHome, BadLog, BadDirectory, BadRetrieval}
-use Rattle.volume.specs.declared.error.VolumeError.TheVariants.{BlockTwice, TableWrong, Device, NoMemory, Failed}
-use Rattle.volume.specs.declared.error.VolumeError.TheVariants.{BadData}
+use Rattle.volume.specs.declared.error.VolumeError.TheVariants.{NotVolume, BadHome, BadLog, BadDirectory}
+use Rattle.volume.specs.declared.error.VolumeError.TheVariants.{BadRetrieval, BlockTwice, TableWrong, Device}
+use Rattle.volume.specs.declared.error.VolumeError.TheVariants.{NoMemory, Failed, BadData}
 use Rattle.filser.specs.declared.refusal.Refusal.{Refusal}
 use Rattle.filser.specs.declared.refusal.Refusal.TheVariants.{Exists, Start}
 

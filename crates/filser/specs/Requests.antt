@@ -6,22 +6,21 @@ use Rattle.clap.specs.declared.error.Error.{Error}
 use Rattle.clap.specs.declared.error.kind.ErrorKind.TheVariants.{ValueValidation}
 use Rattle.words36.specs.declared.moment.Moment.{Moment}
 use Rattle.words36.specs.declared.names.FileName.{FileName}
-use Rattle.meaning.specs.Lines.{upper}
+use Rattle.spec_language.specs.Common.{upper}
 use Rattle.imagefile.specs.declared.form.Form.{Form}
 use Rattle.imagefile.specs.declared.form.Form.TheVariants.{Wide, Packed}
-use Rattle.meaning.specs.Layouts.{layout_number}
-use Rattle.meaning.specs.declared.layout.Layout.{Layout}
-use Rattle.meaning.specs.declared.encoding.Encoding.{Encoding}
-use Rattle.meaning.specs.declared.encoding.Encoding.TheVariants.{Characters, Words, Octets}
-use Rattle.meaning.specs.declared.style.Style.{Style}
-use Rattle.meaning.specs.declared.style.Style.TheVariants.{Table}
-use Rattle.commands.specs.DayTexts.{IsDayText}
-use Rattle.commands.specs.Files.{IsFileName, IsOwnerName}
+use Rattle.spec_image.specs.Common.{layout_number}
+use Rattle.spec_image.specs.declared.layout.Layout.{Layout}
+use Rattle.spec_language.specs.declared.encoding.Encoding.{Encoding}
+use Rattle.spec_language.specs.declared.encoding.Encoding.TheVariants.{Characters, Words, Octets}
+use Rattle.spec_language.specs.declared.style.Style.{Style}
+use Rattle.spec_language.specs.declared.style.Style.TheVariants.{Table}
+use Rattle.commands.specs.Common.{IsDayText, IsFileName, IsOwnerName}
 use Rattle.commands.specs.declared.existing.Existing.{Existing}
 use Rattle.commands.specs.declared.existing.Existing.TheVariants.{Refuse}
 use Rattle.filser.specs.declared.asked.Request.{Request}
-use Rattle.filser.specs.declared.asked.Request.TheVariants.{Fresh, Init, Work, Convert, Migrate}
-use Rattle.filser.specs.declared.asked.Request.TheVariants.{Import, Export, Salvage}
+use Rattle.filser.specs.declared.asked.Request.TheVariants.{Fresh, Init, Work, Convert, Migrate, Import, Export}
+use Rattle.filser.specs.declared.asked.Request.TheVariants.{Salvage}
 use Rattle.filser.specs.declared.error.WrongArgument.{WrongArgument}
 use Rattle.filser.specs.declared.error.WrongArgument.TheVariants.{Owner, Name, Encodings, Date}
 use Rattle.collection.specs.declared.task.ExportTask.{ExportTask}

@@ -1,7 +1,7 @@
 -- What a run comes to: the reader had `source` and has `left`, the writer held `sink` and holds `full`.
 use Rattle.std.specs.Prelude.{◌≡◌, ◌⊎◌, ℕ, List, Option, Some, None as Nothing}
 use Rattle.clap.specs.Words.{Kinds, kind_of, Row, Text}
-use Rattle.imagefile.specs.Unseen.{Unseen}
+use Rattle.imagefile.specs.Common.{Unseen}
 use Rattle.filser.specs.Denials.{IsExplained, of_host}
 use Rattle.filser.specs.Endings.{AsksForHelp, EndsUnasked}
 use Rattle.filser.specs.Exporting.{IsOnExported}
@@ -15,8 +15,8 @@ use Rattle.filser.specs.Sparing.{SparesNamed}
 use Rattle.filser.specs.Streams.{AreNeeded, IsStreamAt}
 use Rattle.filser.specs.Views.{Views}
 use Rattle.filser.specs.declared.asked.Request.{Request}
-use Rattle.filser.specs.declared.asked.Request.TheVariants.{Fresh, Init, Work, Convert, Migrate}
-use Rattle.filser.specs.declared.asked.Request.TheVariants.{Import, Export, Salvage}
+use Rattle.filser.specs.declared.asked.Request.TheVariants.{Fresh, Init, Work, Convert, Migrate, Import, Export}
+use Rattle.filser.specs.declared.asked.Request.TheVariants.{Salvage}
 use Rattle.filser.specs.declared.disks.Disks.{Disks}
 use Rattle.filser.specs.declared.disks.Disks.TheVariants.{Unasked}
 use Rattle.filser.specs.declared.error.RequestError.{RequestError}

@@ -1,26 +1,18 @@
 -- What became of an image whose whole files were to become files of the host.
 use Rattle.std.specs.Prelude.{◌≡◌, ◌⊎◌, ◌≤◌, ℕ, Bool, List, Option, Result}
-use Rattle.blockdisk.specs.Disk.{DiskState, Still, one_more}
-use Rattle.blockdisk.specs.Memory.{Memory, held, memory_state}
-use Rattle.imagefile.specs.Began.{begun_image}
-use Rattle.imagefile.specs.Unseen.{Unseen}
+use Rattle.blockdisk.specs.Common.{DiskState, Still, one_more, Memory, held, memory_state}
+use Rattle.imagefile.specs.Common.{begun_image, Unseen}
 use Rattle.imagefile.specs.declared.form.Form.{Form}
-use Rattle.meaning.specs.Files.{File, Files}
-use Rattle.meaning.specs.Home.{Home, IsHome}
-use Rattle.meaning.specs.Regions.{IsVolumeSize}
-use Rattle.meaning.specs.Stands.{Stands}
+use Rattle.spec_image.specs.Common.{File, Files, Home, IsHome, IsVolumeSize, Stands}
 use Rattle.volume.specs.declared.error.VolumeError.{VolumeError}
-use Rattle.volume.specs.declared.error.VolumeError.TheVariants as volume
 use Rattle.commands.specs.declared.answer.Tally.{Tally}
 use Rattle.commands.specs.declared.error.SessionError.{SessionError}
-use Rattle.salvage.specs.Copies.{IsCopyOf, failed_by}
-use Rattle.salvage.specs.Surveys.{AreAllSaved, IsSurveyed}
+use Rattle.salvage.specs.Common.{IsCopyOf, failed_by, AreAllSaved, IsSurveyed}
 use Rattle.salvage.specs.declared.error.SalvageError.{SalvageError}
 use Rattle.salvage.specs.declared.error.SalvageError.TheVariants.{NotVolume, Device, NoMemory}
 use Rattle.salvage.specs.declared.finding.Finding.{Finding}
 use Rattle.salvage.specs.declared.saved.SavedFile.{SavedFile}
-use Rattle.collection.specs.HostFacts.{FileFacts}
-use Rattle.collection.specs.Saving.{IsSalvageRun, head_findings}
+use Rattle.collection.specs.Common.{FileFacts, IsSalvageRun, head_findings}
 use Rattle.collection.specs.declared.task.ExportTask.{ExportTask}
 use Rattle.filser.specs.Denials.{IsExplained}
 use Rattle.filser.specs.Hosts.{HostFacts, IsOpened}
@@ -33,6 +25,7 @@ use Rattle.filser.specs.declared.disks.Disks.{Disks}
 use Rattle.filser.specs.declared.disks.Disks.TheVariants.{Unserved}
 use Rattle.filser.specs.declared.fault.ImageFault.{ImageFault}
 use Rattle.filser.specs.declared.status.Status.{Status}
+use Rattle.volume.specs.declared.error.VolumeError.TheVariants as volume
 
 -- why there is no survey, as a start says it
 abbrev pub start_error : SalvageError → VolumeError

@@ -1,22 +1,16 @@
 -- What a run makes of the disk of an image. `begun` is the disk before anything was asked of it.
 use Rattle.std.specs.Prelude.{◌≡◌, ◌⊎◌, ◌≤◌, ℕ, List, Option, Result, Ok, Err, false, max, if◌then◌else◌}
-use Rattle.blockdisk.specs.Disk.{DiskState, LeavesOnly, NoneOpen, SameDisk, Still, one_more}
-use Rattle.changeset.specs.Crashes.{IsRecovered}
-use Rattle.meaning.specs.Files.{File, Files}
-use Rattle.meaning.specs.Layouts.{pack_of, StandsOn}
-use Rattle.meaning.specs.Stands.{Stands}
-use Rattle.volume.specs.FaultsFound.{NamesInSpace, Refuses}
-use Rattle.volume.specs.Rest.{StandsLikeBefore}
+use Rattle.blockdisk.specs.Common.{DiskState, LeavesOnly, NoneOpen, SameDisk, Still, one_more}
+use Rattle.changeset.specs.Common.{IsRecovered}
+use Rattle.spec_image.specs.Common.{File, Files, pack_of, StandsOn, Stands}
+use Rattle.volume.specs.Common.{NamesInSpace, Refuses, StandsLikeBefore}
 use Rattle.volume.specs.declared.error.VolumeError.{VolumeError}
 use Rattle.volume.specs.declared.error.VolumeError.TheVariants.{Device, NoMemory}
-use Rattle.monitor.specs.Runs.{ServesFiles}
-use Rattle.monitor.specs.Sides.{no_jobs}
-use Rattle.monitor.specs.States.{MonitorState}
-use Rattle.commands.specs.Machines.{Machine}
-use Rattle.commands.specs.Monitors.{machine_of}
+use Rattle.monitor.specs.Common.{ServesFiles, no_jobs, MonitorState}
+use Rattle.commands.specs.Common.{Machine, machine_of}
 use Rattle.commands.specs.declared.answer.Tally.{Tally}
 use Rattle.commands.specs.declared.error.SessionError.{SessionError}
-use Rattle.salvage.specs.Copies.{failed_by}
+use Rattle.salvage.specs.Common.{failed_by}
 use Rattle.filser.specs.Lines.{IsLine}
 use Rattle.filser.specs.Refusals.{start_text, start_code}
 use Rattle.filser.specs.Statuses.{status_code}

@@ -1,15 +1,13 @@
 -- What becomes of a service, of a reader and of a writer by a task.
 use Rattle.std.specs.Prelude.{◌≡◌, ℕ, List, Option, Result}
 use Rattle.words36.specs.declared.moment.Moment.{Moment}
-use Rattle.blockdisk.specs.Disk.{DiskState}
-use Rattle.meaning.specs.Errands.{gets, own_file}
-use Rattle.monitor.specs.States.{MonitorState}
-use Rattle.commands.specs.Errands.{Checked, Delivery, Errand, Survey, deletes_file}
-use Rattle.commands.specs.Sessions.{Session, Script}
+use Rattle.blockdisk.specs.Common.{DiskState}
+use Rattle.spec_language.specs.Common.{gets, own_file}
+use Rattle.monitor.specs.Common.{MonitorState}
+use Rattle.commands.specs.Common.{Checked, Delivery, Errand, Survey, deletes_file, keeps_as, Session, Script}
 use Rattle.commands.specs.declared.answer.Tally.{Tally}
 use Rattle.commands.specs.declared.error.SessionError.{SessionError}
 use Rattle.exchange.specs.Exchanges.{Exchange}
-use Rattle.commands.specs.Errands.{keeps_as}
 use Rattle.filser.specs.ServedDisks.{machine_over}
 use Rattle.filser.specs.declared.task.Task.{Task}
 use Rattle.filser.specs.declared.task.Task.TheVariants.{Run, Calls, Wire, Put, Get, Delete, List as ListAll, Check}

@@ -1,9 +1,9 @@
 ghost use Rattle.std.specs.Prelude.{◌≡◌, option_map};
-ghost use Rattle.filser.specs.Requests.{image_named};
+ghost use Rattle.filser.specs.Common.{image_named};
 
 use crate::{ExportTask, ImportTask, Task};
 use imagefile::Form;
-use meaning::layout::Layout;
+use spec_image::layout::Layout;
 
 /// What the words of a command line ask for. An image is named by its path.
 #[derive(Debug, Drop, PartialEq, Eq)]

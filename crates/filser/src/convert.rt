@@ -1,19 +1,14 @@
 ghost use Rattle.std.specs.Prelude.{◌≡◌, ◌≢◌, None, OnOk, IfOk, IfErr, IfSome, IsErrOf};
-ghost use Rattle.blockdisk.specs.Disk.{SameDisk, one_more};
-ghost use Rattle.imagefile.specs.Began.{BeganAs};
-ghost use Rattle.imagefile.specs.Image.{other_form};
-ghost use Rattle.imagefile.specs.Supposition.{unseen_in};
+ghost use Rattle.blockdisk.specs.Common.{SameDisk, one_more};
+ghost use Rattle.imagefile.specs.Common.{BeganAs, other_form, unseen_in};
 ghost use Rattle.volume.specs.declared.error.CopyError.TheVariants.{Source, Target};
 ghost use Rattle.volume.specs.declared.error.VolumeError.{VolumeError as Errors};
-ghost use Rattle.filser.specs.Denials.{IsExplained};
-ghost use Rattle.filser.specs.Images.{IsCopied, IsCopyFault, IsCopyRun, IsLeftAlone, IsNewDisk, IsNotMade, IsOnBoth};
-ghost use Rattle.filser.specs.Images.{IsNameTaken, IsOnCopy, IsOnSource, IsTaken};
-ghost use Rattle.filser.specs.Lines.{IsLine};
-ghost use Rattle.filser.specs.Refusals.{converted_text};
-ghost use Rattle.filser.specs.ServedDisks.{IsRefusedBy};
-ghost use Rattle.filser.specs.declared.disks.Disks.TheVariants as disks;
+ghost use Rattle.filser.specs.Common.{IsExplained, IsCopied, IsCopyFault, IsCopyRun, IsLeftAlone, IsNewDisk};
+ghost use Rattle.filser.specs.Common.{IsNotMade, IsOnBoth, IsNameTaken, IsOnCopy, IsOnSource, IsTaken, IsLine};
+ghost use Rattle.filser.specs.Common.{converted_text, IsRefusedBy};
 ghost use Rattle.filser.specs.declared.fault.ImageFault.{ImageFault as Faults};
 ghost use Rattle.filser.specs.declared.status.Status.TheVariants.{BadArguments};
+ghost use Rattle.filser.specs.declared.disks.Disks.TheVariants as disks;
 
 use crate::fault::{report, tell_stale_cache};
 use crate::image::{NotMade, failure_of, new_file, open_disk, zeros_in};

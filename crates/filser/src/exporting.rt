@@ -1,6 +1,6 @@
 ghost use Rattle.std.specs.Prelude.{◌≡◌, ◌≢◌};
-ghost use Rattle.imagefile.specs.Supposition.{unseen_in};
-ghost use Rattle.filser.specs.Exporting.{IsExportedFrom, IsOnExported};
+ghost use Rattle.imagefile.specs.Common.{unseen_in};
+ghost use Rattle.filser.specs.Common.{IsExportedFrom, IsOnExported};
 ghost use Rattle.filser.specs.declared.status.Status.TheVariants.{BadArguments};
 
 use crate::host::Shelf;

@@ -1,6 +1,5 @@
 ghost use Rattle.std.specs.Prelude.{◌≡◌};
-ghost use Rattle.filser.specs.Denials.{of_host};
-ghost use Rattle.filser.specs.HostFaults.{forbids_errors, forbids_output};
+ghost use Rattle.filser.specs.Common.{of_host, forbids_errors, forbids_output};
 
 use crate::{Escaped, Refusal};
 use std::fmt::Display;

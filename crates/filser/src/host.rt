@@ -1,8 +1,5 @@
 ghost use Rattle.std.specs.Prelude.{◌≡◌, Ok, Err, IfOk, IfErr, pos, ◌<ℤ◌};
-ghost use Rattle.imagefile.specs.Began.{BeganAs};
-ghost use Rattle.imagefile.specs.Image.{IsImageSize};
-ghost use Rattle.imagefile.specs.Supposition.{unseen_in};
-ghost use Rattle.imagefile.specs.Unseen.{size_of};
+ghost use Rattle.imagefile.specs.Common.{BeganAs, IsImageSize, unseen_in, size_of};
 ghost use Rattle.imagefile.specs.declared.size.ImageError.TheVariants.{BadSize, Device};
 ghost use Rattle.filser.specs.Hosts.{HostFacts};
 

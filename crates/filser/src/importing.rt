@@ -1,6 +1,6 @@
 ghost use Rattle.std.specs.Prelude.{◌≡◌, ◌≢◌};
-ghost use Rattle.imagefile.specs.Supposition.{unseen_in};
-ghost use Rattle.filser.specs.Importing.{IsImportRun, IsOnImported};
+ghost use Rattle.imagefile.specs.Common.{unseen_in};
+ghost use Rattle.filser.specs.Common.{IsImportRun, IsOnImported};
 ghost use Rattle.filser.specs.declared.status.Status.TheVariants.{BadArguments};
 
 use crate::host::Shelf;

@@ -1,5 +1,5 @@
 ghost use Rattle.std.specs.Prelude.{◌≡◌, IsTrue};
-ghost use Rattle.filser.specs.ServedDisks.{IsGivenBack, IsSearched};
+ghost use Rattle.filser.specs.Common.{IsGivenBack, IsSearched};
 ghost use Rattle.filser.specs.declared.task.Task.TheVariants.{Check};
 
 use crate::Task;

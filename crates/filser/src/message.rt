@@ -1,8 +1,7 @@
 ghost use Rattle.std.specs.Prelude.{◌≡◌, ◌⊎◌, ◌∷◌, ◌++◌, []};
 ghost use Rattle.std.specs.Fmt.{decimal};
-ghost use Rattle.meaning.specs.Lines.{feed};
-ghost use Rattle.filser.specs.Lines.{IsLine, Puts, message_text};
-ghost use Rattle.filser.specs.Statuses.{status_code};
+ghost use Rattle.spec_language.specs.Common.{feed};
+ghost use Rattle.filser.specs.Common.{IsLine, Puts, message_text, status_code};
 ghost use Rattle.filser.specs.declared.status.Status.TheVariants.{Fault};
 
 use crate::Status;

@@ -1,8 +1,7 @@
 ghost use Rattle.std.specs.Prelude.{◌≡◌, ◌≢◌, codes};
-ghost use Rattle.blockdisk.specs.Disk.{SameDisk};
-ghost use Rattle.imagefile.specs.Supposition.{unseen_in};
-ghost use Rattle.filser.specs.Lines.{IsLine};
-ghost use Rattle.filser.specs.Migrations.{IsMigrationRun, IsOnMigrated};
+ghost use Rattle.blockdisk.specs.Common.{SameDisk};
+ghost use Rattle.imagefile.specs.Common.{unseen_in};
+ghost use Rattle.filser.specs.Common.{IsLine, IsMigrationRun, IsOnMigrated};
 ghost use Rattle.filser.specs.declared.status.Status.TheVariants.{BadArguments};
 
 use crate::image::{open_image, tell_failure};

@@ -1,7 +1,5 @@
 ghost use Rattle.std.specs.Prelude.{◌≡◌, ◌⊎◌};
-ghost use Rattle.filser.specs.Lines.{message_text};
-ghost use Rattle.filser.specs.Refusals.{refusal_text, refusal_code, start_text};
-ghost use Rattle.filser.specs.Statuses.{status_code};
+ghost use Rattle.filser.specs.Common.{message_text, refusal_text, refusal_code, start_text, status_code};
 ghost use Rattle.filser.specs.declared.status.Status.TheVariants.{BadImage, Fault};
 
 use crate::{Message, Status};

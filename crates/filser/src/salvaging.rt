@@ -1,13 +1,10 @@
 ghost use Rattle.std.specs.Prelude.{◌≡◌, ◌≢◌, ◌⊎◌, List, length};
-ghost use Rattle.blockdisk.specs.Disk.{SameDisk};
-ghost use Rattle.blockdisk.specs.Memory.{held};
-ghost use Rattle.imagefile.specs.Supposition.{unseen_in};
-ghost use Rattle.meaning.specs.Files.{File as StoredFile, Files};
-ghost use Rattle.meaning.specs.Regions.{IsVolumeSize};
-ghost use Rattle.meaning.specs.Stands.{SettledStands};
-ghost use Rattle.salvage.specs.Surveys.{AreAllSaved};
+ghost use Rattle.blockdisk.specs.Common.{SameDisk, held};
+ghost use Rattle.imagefile.specs.Common.{unseen_in};
+ghost use Rattle.spec_image.specs.Common.{File as StoredFile, Files, IsVolumeSize, SettledStands};
+ghost use Rattle.salvage.specs.Common.{AreAllSaved};
 ghost use Rattle.salvage.specs.declared.saved.SavedFile.{SavedFile};
-ghost use Rattle.filser.specs.Salvaging.{AreFound, IsOnSalvaged, IsSalvagedFrom, IsUnsurveyed, start_error};
+ghost use Rattle.filser.specs.Common.{AreFound, IsOnSalvaged, IsSalvagedFrom, IsUnsurveyed, start_error};
 ghost use Rattle.filser.specs.declared.status.Status.TheVariants.{BadArguments};
 
 use crate::fault::tell_fault;

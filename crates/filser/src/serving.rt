@@ -1,11 +1,7 @@
 ghost use Rattle.std.specs.Prelude.{◌≡◌, ◌≢◌, max, if◌then◌else◌};
-ghost use Rattle.imagefile.specs.Supposition.{unseen_in};
-ghost use Rattle.filser.specs.Images.{IsOnFresh, IsOnImage, IsTaskRun};
-ghost use Rattle.filser.specs.Lines.{IsLine};
-ghost use Rattle.filser.specs.Refusals.{refusal_text, refusal_code};
-ghost use Rattle.filser.specs.ServedDisks.{IsEnding};
-ghost use Rattle.filser.specs.Statuses.{status_code};
-ghost use Rattle.filser.specs.Tasks.{Attends, IsFirstMoment};
+ghost use Rattle.imagefile.specs.Common.{unseen_in};
+ghost use Rattle.filser.specs.Common.{IsOnFresh, IsOnImage, IsTaskRun, IsLine, refusal_text, refusal_code, IsEnding};
+ghost use Rattle.filser.specs.Common.{status_code, Attends, IsFirstMoment};
 ghost use Rattle.filser.specs.declared.status.Status.TheVariants.{BadArguments};
 
 use crate::fault::tell_no_memory;

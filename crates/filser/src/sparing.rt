@@ -1,5 +1,5 @@
 ghost use Rattle.std.specs.Prelude.{IsTrue, All, drop, map};
-ghost use Rattle.filser.specs.Sparing.{SparesErrors, SparesOutput};
+ghost use Rattle.filser.specs.Common.{SparesErrors, SparesOutput};
 
 use crate::Host;
 use crate::streams::stream_at;

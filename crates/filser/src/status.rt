@@ -1,5 +1,5 @@
 ghost use Rattle.std.specs.Prelude.{◌≡◌, ◌⊎◌, max};
-ghost use Rattle.filser.specs.Statuses.{status_code};
+ghost use Rattle.filser.specs.Common.{status_code};
 
 /// How a run of the program ended.
 #[derive(Clone, Copy, Debug, PartialEq, Eq)]

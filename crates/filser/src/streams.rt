@@ -1,6 +1,7 @@
 ghost use Rattle.std.specs.Prelude.{◌↔◌, IfOk, IfSome, IsTrue, IsFalse, Some, pos, ◌≤ℤ◌};
 ghost use Rattle.std.specs.Fd.{file_raw_fd};
-ghost use Rattle.filser.specs.Streams.{AreNeeded, HasNumber, IsMissing, IsStreamAt, IsStreamOf, LeadApart, LeadToOne};
+ghost use Rattle.filser.specs.Common.{AreNeeded, IsMissing, IsStreamAt, IsStreamOf, LeadApart, LeadToOne};
+ghost use Rattle.filser.specs.Streams.{HasNumber};
 
 use crate::{FileId, Host, HostFault};
 use std::fs::File;

@@ -1,16 +1,9 @@
 -- A disk over a file that was asked for its length and nothing else.
 use Rattle.std.proofs.Common.{◌≡◌, ℕ, List, [], Result, Ok, Err, IfOk, subst, sym}
-use Rattle.blockdisk.specs.Laws.{keeps_still}
-use Rattle.imagefile.specs.File.{FileState}
-use Rattle.imagefile.specs.Host.{with_failures}
-use Rattle.imagefile.specs.Image.{image_state}
-use Rattle.imagefile.specs.ImageLaws.{image_keeps}
-use Rattle.imagefile.specs.Measured.{IsImageOf}
+use Rattle.blockdisk.specs.Common.{keeps_still}
+use Rattle.imagefile.specs.Common.{FileState, with_failures, image_state, image_keeps, IsImageOf, Call, Unseen}
+use Rattle.imagefile.specs.Common.{recorded, BeganAs}
 use Rattle.imagefile.specs.declared.form.Form.{Form}
-use Rattle.imagefile.specs.Calls.{Call}
-use Rattle.imagefile.specs.Unseen.{Unseen}
-use Rattle.imagefile.specs.Recorded.{recorded}
-use Rattle.imagefile.specs.Began.{BeganAs}
 
 -- with the number of blocks that the length gives
 pub image_began : (form : Form) (u : Unseen) (blocks : ℕ) (s : FileState)

@@ -1,11 +1,10 @@
 -- Neighbouring blocks that are read by one call: the bytes of each, and the places that they fill.
-use Rattle.std.proofs.Common.{◌≡◌, ◌∙◌, ◌+◌, ◌*◌, ◌-◌, ◌<◌, ◌≤◌, ℕ, List, [], length, get_or, take, drop}
-use Rattle.std.proofs.Common.{Some, None, min, sym, ap, arith, rules}
+use Rattle.std.proofs.Common.{◌≡◌, ◌∙◌, ◌+◌, ◌*◌, ◌-◌, ◌<◌, ◌≤◌, ℕ, List, [], length, get_or, take, drop, Some, None}
+use Rattle.std.proofs.Common.{min, sym, ap, arith, rules}
 use Rattle.std.proofs.lemmas.List.{get_or-take, get_or-drop, ext_get_or, places, length-take, length-drop}
 use borrow.Rule.Slice.PartMut.{put_mid}
-use Rattle.blockdisk.specs.Disk.{AreFilled}
-use Rattle.imagefile.specs.File.{Bytes, window}
-use Rattle.imagefile.specs.Image.{block_content, block_length, spelled_blocks, image_contents}
+use Rattle.blockdisk.specs.Common.{AreFilled}
+use Rattle.imagefile.specs.Common.{Bytes, window, block_content, block_length, spelled_blocks, image_contents}
 use Rattle.imagefile.specs.declared.form.Form.{Form}
 use Rattle.imagefile.proofs.CallLaws.{length-window}
 use Rattle.imagefile.proofs.FileLaws.{window-at}

@@ -1,13 +1,12 @@
 -- Neighbouring blocks that are written by one call: the bytes of each, one behind the other.
-use Rattle.std.proofs.Common.{◌≡◌, ◌∙◌, ◌+◌, ◌*◌, ◌-◌, ◌<◌, ◌≤◌, ℕ, List, length, take, drop}
-use Rattle.std.proofs.Common.{Result, Ok, Err, OnOk, refl, sym, ap, arith}
+use Rattle.std.proofs.Common.{◌≡◌, ◌∙◌, ◌+◌, ◌*◌, ◌-◌, ◌<◌, ◌≤◌, ℕ, List, length, take, drop, Result, Ok, Err, OnOk}
+use Rattle.std.proofs.Common.{refl, sym, ap, arith}
 use Rattle.std.proofs.lemmas.List.{drop-take, length-take, length-drop}
 use Rattle.std.proofs.lemmas.Slice.{take-put_mid_below, between-put_mid}
 use borrow.Rule.Slice.PartMut.{put_mid}
-use Rattle.blockdisk.specs.Disk.{HoldRun}
+use Rattle.blockdisk.specs.Common.{HoldRun}
 use Rattle.blockdisk.specs.declared.fault.Fault.{Fault}
-use Rattle.imagefile.specs.File.{Bytes, window}
-use Rattle.imagefile.specs.Image.{block_content, block_length, spelled_blocks, image_contents}
+use Rattle.imagefile.specs.Common.{Bytes, window, block_content, block_length, spelled_blocks, image_contents}
 use Rattle.imagefile.specs.declared.form.Form.{Form}
 use Rattle.imagefile.proofs.BlockReads.{blocks_there}
 

@@ -1,16 +1,14 @@
 -- What one more call makes of a record, and a call at a place.
 use Rattle.std.proofs.Common.{◌≡◌, inl, inr, ⊎_elim, ℕ, zero, suc, ◌+◌, ◌-◌, ◌<◌, ◌≤◌, ◌||◌, true, false, List, ◌∷◌}
-use Rattle.std.proofs.Common.{length, get_or, take, Option, Some, None, Result, Ok, Err, IfOk, OnErr, is_ok, refl, sym}
-use Rattle.std.proofs.Common.{◌∙◌, ap, subst, arith, length-take, unwrap_or, IsSomeAnd}
+use Rattle.std.proofs.Common.{length, get_or, take, Option, Some, None, Result, Ok, Err, IfOk, OnErr, is_ok, refl}
+use Rattle.std.proofs.Common.{sym, ◌∙◌, ap, subst, arith, length-take, unwrap_or, IsSomeAnd}
 use Rattle.std.proofs.lemmas.Bool.{leb-true, le-leb, and_parts, and_from, or_left, cond-true, cond-false}
 use Rattle.std.proofs.lemmas.Bool.{false_from_ne_true}
 use Rattle.std.proofs.lemmas.List.{get_or-take}
-use Rattle.imagefile.specs.File.{Bytes, MayRemain, Inside, window, FilePasses, FileKeeps, FileWrites, FileSyncs}
-use Rattle.imagefile.specs.File.{FileFails}
-use Rattle.imagefile.specs.Calls.{Call, SeekStart, SeekEnd, Read, Write, Sync, answer, came}
-use Rattle.imagefile.specs.Unseen.{Unseen, size_of, left_by}
-use Rattle.imagefile.specs.Recorded.{is_inside, bytes_after, moved, after_calls, IsHonestRecord, BeginsAt, GoesTo}
-use Rattle.imagefile.specs.Recorded.{recorded}
+use Rattle.imagefile.specs.Common.{Bytes, MayRemain, Inside, window, FilePasses, FileKeeps, FileWrites, FileSyncs}
+use Rattle.imagefile.specs.Common.{FileFails, Call, SeekStart, SeekEnd, Read, Write, Sync, answer, came, Unseen}
+use Rattle.imagefile.specs.Common.{size_of, left_by, is_inside, bytes_after, moved, after_calls, IsHonestRecord}
+use Rattle.imagefile.specs.Common.{BeginsAt, GoesTo, recorded}
 use Rattle.imagefile.proofs.FileLaws.{keeps_on, writes_after}
 use Rattle.imagefile.proofs.Record.{window-list}
 

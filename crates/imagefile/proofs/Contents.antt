@@ -2,18 +2,15 @@
 use Rattle.std.proofs.Common.{◌≡◌, ◌∙◌, ◌⊎◌, ◌*◌, ◌/◌, ◌^◌, ◌<◌, ◌≤◌, ◌-◌, ◌==◌, ◌↔◌, ℕ, zero, suc, true, false, List}
 use Rattle.std.proofs.Common.{[], ◌∷◌, All, length, get_or, Some, None, inl, inr, ⊎_elim, refl, sym, ap, arith}
 use Rattle.std.proofs.Common.{length-append}
-use Rattle.std.proofs.lemmas.Bool.{cases_Bool, and_parts, and_from, eqb-true, eq-eqb, eqb-false, cond-true, cond-false}
-use Rattle.std.proofs.lemmas.Bool.{cases_lt}
+use Rattle.std.proofs.lemmas.Bool.{cases_Bool, and_parts, and_from, eqb-true, eq-eqb, eqb-false, cond-true}
+use Rattle.std.proofs.lemmas.Bool.{cond-false, cases_lt}
 use Rattle.std.proofs.lemmas.List.{get_or_append_left, get_or-append_right, get_or_past, ext_get_or}
-use Rattle.words36.specs.Words.{IsWord}
-use Rattle.words36.specs.Blocks.{IsBlock, IsFirstBadWord, block_bytes, number_at}
-use Rattle.words36.specs.Nines.{nine_bytes, nine_words}
+use Rattle.words36.specs.Common.{IsWord, IsBlock, IsFirstBadWord, block_bytes, number_at, nine_bytes, nine_words}
 use Rattle.words36.proofs.BlockLaws.{block_bytes-read, number_at-block_bytes}
 use Rattle.words36.proofs.NineLaws.{pairs_of_bytes, bytes_of_pairs, block_read}
 use Rattle.words36.specs.declared.error.WordError.{WordError}
 use Rattle.words36.specs.declared.error.WordError.TheVariants.{BadWord}
-use Rattle.imagefile.specs.File.{Bytes, window}
-use Rattle.imagefile.specs.Image.{are_words, first_words, wide_content, block_content, image_contents}
+use Rattle.imagefile.specs.Common.{Bytes, window, are_words, first_words, wide_content, block_content, image_contents}
 use Rattle.imagefile.specs.declared.form.Form.TheVariants.{Wide, Packed}
 
 -- Top bits

@@ -1,12 +1,11 @@
 -- How calls of a file follow each other.
-use Rattle.std.proofs.Common.{◌≡◌, ◌⊎◌, inl, inr, ⊎_elim, ℕ, suc, zero, ◌+◌, ◌<◌, ◌≤◌, List, ◌∷◌, ◌++◌, length, get_or}
-use Rattle.std.proofs.Common.{take, drop, Some, refl, sym, ◌∙◌, ap, arith, add-zero, ◌-◌, length-drop}
+use Rattle.std.proofs.Common.{◌≡◌, ◌⊎◌, inl, inr, ⊎_elim, ℕ, suc, zero, ◌+◌, ◌<◌, ◌≤◌, List, ◌∷◌, ◌++◌, length}
+use Rattle.std.proofs.Common.{get_or, take, drop, Some, refl, sym, ◌∙◌, ap, arith, add-zero, ◌-◌, length-drop}
 use Rattle.std.proofs.lemmas.Bool.{cases_lt, false≢true}
 use Rattle.std.proofs.lemmas.List.{take_all}
 use Rattle.std.proofs.Math.Seq.{take-add}
-use Rattle.imagefile.specs.File.{Bytes, Remains, FileState, MayRemain, Inside, window, FilePasses, SameFile, FileKeeps}
-use Rattle.imagefile.specs.File.{FileWrites, FileFails}
-use Rattle.imagefile.specs.ImageLaws.{window-same}
+use Rattle.imagefile.specs.Common.{Bytes, Remains, FileState, MayRemain, Inside, window, FilePasses, SameFile}
+use Rattle.imagefile.specs.Common.{FileKeeps, FileWrites, FileFails, window-same}
 
 inside_or_not : (at n p : ℕ) → Inside at n p ⊎ (Inside at n p → ⊥)
 inside_or_not at n p = ⊎_elim (λ low. inr (λ inside. before low inside))

@@ -1,13 +1,10 @@
 -- The blocks of a wide image that some bytes of the file spell, one behind the other.
-use Rattle.std.proofs.Common.{◌≡◌, ◌∙◌, ◌+◌, ◌*◌, ◌/◌, ◌%◌, ◌-◌, ◌^◌, ◌<◌, ◌≤◌, ◌↔◌, ℕ, List, length, get_or}
-use Rattle.std.proofs.Common.{Option, Some, None, ⊎_elim, refl, sym, ap, arith, add-zero}
-use Rattle.words36.specs.Words.{IsWord}
-use Rattle.words36.specs.Blocks.{IsFirstBadWord, number_at}
-use Rattle.words36.specs.Nines.{nine_words}
+use Rattle.std.proofs.Common.{◌≡◌, ◌∙◌, ◌+◌, ◌*◌, ◌/◌, ◌%◌, ◌-◌, ◌^◌, ◌<◌, ◌≤◌, ◌↔◌, ℕ, List, length, get_or, Option}
+use Rattle.std.proofs.Common.{Some, None, ⊎_elim, refl, sym, ap, arith, add-zero}
+use Rattle.words36.specs.Common.{IsWord, IsFirstBadWord, number_at, nine_words}
 use Rattle.words36.proofs.NineLaws.{length-nine_words}
-use Rattle.blockdisk.specs.Disk.{AreVerified, IsWithin, IsWholeBlock}
-use Rattle.imagefile.specs.File.{Bytes, window}
-use Rattle.imagefile.specs.Image.{first_words, image_contents}
+use Rattle.blockdisk.specs.Common.{AreVerified, IsWithin, IsWholeBlock}
+use Rattle.imagefile.specs.Common.{Bytes, window, first_words, image_contents}
 use Rattle.imagefile.specs.declared.form.Form.TheVariants.{Wide, Packed}
 use Rattle.imagefile.proofs.FileLaws.{window-at}
 use Rattle.imagefile.proofs.Contents.{first_bad, words_below, words_are, length-first_words, content_good}

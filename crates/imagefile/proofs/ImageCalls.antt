@@ -1,13 +1,13 @@
 -- The calls of a disk over an image, from what a file promises of its own.
-use Rattle.std.proofs.Common.{◌≡◌, ◌+◌, ◌*◌, ◌<◌, ℕ, length, List, Result, Ok, Err, Some, None, OnOk}
-use Rattle.std.proofs.Common.{OnErr, IsErrOf, refl, Option}
-use Rattle.blockdisk.specs.Disk.{SameDisk, Syncs, Fails, AreFilled, AreVerified, HoldRun, IsWithin, one_more}
-use Rattle.blockdisk.specs.Calls.{IsRead, IsRunRead, IsVerify, IsWrite, IsRunWrite}
+use Rattle.std.proofs.Common.{◌≡◌, ◌+◌, ◌*◌, ◌<◌, ℕ, length, List, Result, Ok, Err, Some, None, OnOk, OnErr, IsErrOf}
+use Rattle.std.proofs.Common.{refl, Option}
+use Rattle.blockdisk.specs.Common.{SameDisk, Syncs, Fails, AreFilled, AreVerified, HoldRun, IsWithin, one_more}
+use Rattle.blockdisk.specs.Common.{IsRead, IsRunRead, IsVerify, IsWrite, IsRunWrite}
 use Rattle.blockdisk.specs.declared.fault.Fault.{Fault}
 use Rattle.blockdisk.specs.declared.fault.Fault.TheVariants.{Device, Damaged}
-use Rattle.imagefile.specs.File.{FileState, SameFile, FileKeeps, FileWrites, FileSyncs, FileFails}
-use Rattle.imagefile.specs.Image.{block_length, image_contents, image_state}
-use Rattle.imagefile.specs.ImageLaws.{image_keeps, image_writes, image_writes_run, image_syncs, image_fails}
+use Rattle.imagefile.specs.Common.{FileState, SameFile, FileKeeps, FileWrites, FileSyncs, FileFails, block_length}
+use Rattle.imagefile.specs.Common.{image_contents, image_state, image_keeps, image_writes, image_writes_run}
+use Rattle.imagefile.specs.Common.{image_syncs, image_fails}
 use Rattle.imagefile.specs.declared.form.Form.{Form}
 
 same_disk : (form : Form) (blocks : ℕ) (s s' : FileState) → SameFile s s'

@@ -1,19 +1,18 @@
 -- How the record of a file in memory goes on: one more step leaves the moments before it as they were.
-use Rattle.std.proofs.Common.{◌≡◌, ◌⊎◌, inl, inr, ⊎_elim, ℕ, suc, ◌+◌, ◌-◌, ◌*◌, ◌<◌, ◌≤◌, Bool, true, false, List, []}
-use Rattle.std.proofs.Common.{◌∷◌, ◌++◌, length, get_or, take, drop, replicate, refl, sym, ◌∙◌, ap, subst, arith}
+use Rattle.std.proofs.Common.{◌≡◌, ◌⊎◌, inl, inr, ⊎_elim, ℕ, suc, ◌+◌, ◌-◌, ◌*◌, ◌<◌, ◌≤◌, Bool, true, false, List}
+use Rattle.std.proofs.Common.{[], ◌∷◌, ◌++◌, length, get_or, take, drop, replicate, refl, sym, ◌∙◌, ap, subst, arith}
 use Rattle.std.proofs.Common.{length-append, add-zero, length-drop}
 use Rattle.std.proofs.lemmas.Bool.{cases_lt, false≢true}
 use Rattle.std.proofs.lemmas.List.{take_all, take-append-le, drop-append-le, get_or_append_left, get_or-append_right}
-use Rattle.std.proofs.lemmas.List.{get_or-take, get_or-drop, get_or-replicate, get_or_past, length-replicate}
-use Rattle.std.proofs.lemmas.List.{length-take-le}
-use Rattle.imagefile.specs.File.{Remains, Inside, window, MayRemain, FilePasses, FileWrites, FileSyncs}
-use Rattle.blockdisk.specs.Disk.{one_more}
-use Rattle.imagefile.specs.Memory.{Step, Wrote, Synced, spelled, bytes_in}
-use Rattle.imagefile.specs.Memory.{FileMemory, memory_of, put, FileMoment, after_step}
-use Rattle.imagefile.specs.Memory.{after_steps, moment_at, FileLeaves, moment_now, memory_state, IsFileReplayed, begun}
-use Rattle.imagefile.specs.Memory.{bytes_written, write_refused, bytes_synced}
+use Rattle.std.proofs.lemmas.List.{get_or-take, get_or-drop, get_or-replicate, length-replicate, length-take-le}
+use Rattle.imagefile.specs.Common.{Remains, Inside, window, MayRemain, FilePasses, FileWrites, FileSyncs, Step, Wrote}
+use Rattle.imagefile.specs.Common.{Synced, spelled, bytes_in, FileMemory, memory_of, put, FileMoment, after_step}
+use Rattle.imagefile.specs.Common.{after_steps, moment_at, FileLeaves, moment_now, memory_state, IsFileReplayed}
+use Rattle.imagefile.specs.Common.{begun, bytes_written, write_refused, bytes_synced}
+use Rattle.blockdisk.specs.Common.{one_more}
 use Rattle.imagefile.specs.declared.memory.FileCall.{FileCall}
 use Rattle.imagefile.specs.declared.memory.FileCall.TheVariants.{Write, Sync}
+use Rattle.blockdisk.proofs.Record.{all_closed}
 
 -- Elements that are put from a place on
 
@@ -288,10 +287,6 @@ writes_refused m at n is fits = record {
         outside : (p : ℕ) → (Inside at n p → ⊥) → get_or (put at (replicate n true) m.opened) p false ≡ false
             → get_or m.opened p false ≡ false
         outside p out closed = sym (open_outside m at n is fits p out) ∙ closed
-
-all_closed : (n k : ℕ) → (k < n) ⊎ (n ≤ k) → get_or (replicate n false) k false ≡ false
-all_closed n k (inl less) = get_or-replicate n k false false less
-all_closed n k (inr past) = get_or_past (replicate n false) k false (omega (arith, length-replicate n false))
 
 pub syncs_synced : (m : FileMemory) → IsFileReplayed m → length m.steps < m.room
     → FileSyncs (memory_state m) (memory_state (bytes_synced m))

@@ -1,6 +1,6 @@
 -- The disk of an image whose file began in a given state.
 use Rattle.std.specs.Prelude.{◌≡◌, ◌*◌, ℕ, []}
-use Rattle.blockdisk.specs.Disk.{DiskState, Still}
+use Rattle.blockdisk.specs.Common.{DiskState, Still}
 use Rattle.imagefile.specs.Image.{block_length, image_state}
 use Rattle.imagefile.specs.declared.form.Form.{Form}
 use Rattle.imagefile.specs.Unseen.{Unseen, size_of}

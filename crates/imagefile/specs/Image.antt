@@ -3,9 +3,8 @@
 -- damaged by its bytes.
 use Rattle.std.specs.Prelude.{◌≡◌, ◌<◌, ◌+◌, ◌*◌, ◌/◌, ◌^◌, ◌==◌, ◌&&◌, ◌||◌, if◌then◌else◌, ℕ, zero, suc, Bool, true}
 use Rattle.std.specs.Prelude.{false, List, [], ◌∷◌, ◌++◌, Option, Some, None, take, drop}
-use Rattle.words36.specs.Blocks.{number_at}
-use Rattle.words36.specs.Nines.{nine_words}
-use Rattle.blockdisk.specs.Disk.{Contents, DiskState}
+use Rattle.words36.specs.Common.{number_at, nine_words}
+use Rattle.blockdisk.specs.Common.{Contents, DiskState}
 use Rattle.imagefile.specs.File.{Bytes, Remains, FileState, Inside, window}
 use Rattle.imagefile.specs.declared.form.Form.{Form}
 use Rattle.imagefile.specs.declared.form.Form.TheVariants.{Wide, Packed}

@@ -2,11 +2,12 @@
 use Rattle.std.specs.Prelude.{◌≡◌, ◌+◌, ◌*◌, ◌||◌, ℕ, zero, suc, Bool, true, false, ◌∷◌, Some, None, if◌then◌else◌}
 use Rattle.std.proofs.Common.{inl, inr, ⊎_elim, refl, sym, ◌∙◌, ap, arith}
 use Rattle.std.proofs.lemmas.Bool.{cases_eq, or_parts, or_from, or_left, cond-true, cond-false, false_from_ne_true}
-use Rattle.blockdisk.specs.Disk.{Contents, MayLeave, Passes, Keeps, Writes, Syncs, Fails, IsInRun, Modifies}
-use Rattle.blockdisk.specs.RunLaws.{run_modifies}
+use Rattle.blockdisk.specs.Common.{Contents, MayLeave, Passes, Keeps, Writes, Syncs, Fails, IsInRun, Modifies}
+use Rattle.blockdisk.specs.Common.{run_modifies}
 use Rattle.imagefile.specs.File.{Bytes, Remains, FileState, MayRemain, Inside, window, FilePasses, FileKeeps}
 use Rattle.imagefile.specs.File.{FileWrites, FileSyncs, FileFails}
-use Rattle.imagefile.specs.Image.{block_length, block_content, image_contents, opened_in, InBlock, ReadsAs, image_state}
+use Rattle.imagefile.specs.Image.{block_length, block_content, image_contents, opened_in, InBlock, ReadsAs}
+use Rattle.imagefile.specs.Image.{image_state}
 use Rattle.imagefile.specs.declared.form.Form.{Form}
 use Rattle.imagefile.specs.declared.form.Form.TheVariants.{Wide, Packed}
 

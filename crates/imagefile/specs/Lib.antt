@@ -21,3 +21,4 @@ pub mod Streams
 pub mod Began
 pub mod Outcomes
 pub mod Endings
+pub mod Common

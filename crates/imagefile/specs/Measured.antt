@@ -1,6 +1,6 @@
 -- What is said of a file that a disk is made of, or that is refused.
 use Rattle.std.specs.Prelude.{◌≡◌, ◌<◌, ◌*◌, ◌^◌, ℕ}
-use Rattle.blockdisk.specs.Disk.{one_more}
+use Rattle.blockdisk.specs.Common.{one_more}
 use Rattle.imagefile.specs.File.{FileState, FileKeeps, SameFile}
 use Rattle.imagefile.specs.Image.{block_length, IsImageSize}
 use Rattle.imagefile.specs.declared.form.Form.{Form}

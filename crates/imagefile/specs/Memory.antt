@@ -2,7 +2,7 @@
 -- which each earlier moment can be told.
 use Rattle.std.specs.Prelude.{◌<◌, ◌+◌, ◌≡◌, ◌⊎◌, ◌≤◌, ◌*◌, ℕ, Bool, true, false, List, [], ◌∷◌, ◌++◌, Some, get_or}
 use Rattle.std.specs.Prelude.{take, drop, length, replicate}
-use Rattle.blockdisk.specs.Disk.{one_more}
+use Rattle.blockdisk.specs.Common.{one_more}
 use Rattle.imagefile.specs.File.{Remains, FileState}
 use Rattle.imagefile.specs.declared.memory.FileCall.{FileCall}
 use Rattle.imagefile.specs.declared.memory.FileCall.TheVariants.{Write, Sync}

@@ -32,7 +32,7 @@ pub(crate) enum CallMade<'a> {
 }
 
 impl CallRecord {
-    ghost use Rattle.imagefile.specs.CallMade.{spelled_call};
+    ghost use Rattle.imagefile.specs.Common.{spelled_call};
 
     /// The record of a file that was asked nothing yet.
     pub(crate) fn new() -> CallRecord

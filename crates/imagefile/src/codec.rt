@@ -1,6 +1,6 @@
 ghost use Rattle.std.specs.Prelude.{◌≡◌, ◌+◌, ◌*◌, ◌<◌, ◌≤◌, ◌^◌, ℕ, Some, length};
-ghost use Rattle.blockdisk.specs.Calls.{IsRead, IsRunRead, IsVerify, IsWrite, IsRunWrite};
-ghost use Rattle.blockdisk.specs.Disk.{AreFilled, HoldRun, IsWithin};
+ghost use Rattle.blockdisk.specs.Common.{IsRead, IsRunRead, IsVerify, IsWrite, IsRunWrite, AreFilled, HoldRun};
+ghost use Rattle.blockdisk.specs.Common.{IsWithin};
 ghost use Rattle.imagefile.specs.File.{SameFile};
 ghost use Rattle.imagefile.specs.Image.{block_content, block_length, spelled_blocks, image_state};
 ghost use Rattle.imagefile.specs.declared.form.Form.TheVariants.{Wide, Packed};

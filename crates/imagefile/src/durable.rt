@@ -1,5 +1,5 @@
 ghost use Rattle.std.specs.Prelude.{◌≡◌, ◌+◌, ◌<◌, ◌≤◌, ℕ, length, IfOk, OnOk, OnErr, IsErrOf};
-ghost use Rattle.blockdisk.specs.Disk.{one_more};
+ghost use Rattle.blockdisk.specs.Common.{one_more};
 ghost use Rattle.blockdisk.specs.declared.fault.Fault.TheVariants.{Device, Damaged};
 ghost use Rattle.imagefile.specs.File.{Remains, FileState, MayRemain, SameFile, FileKeeps, FileWrites, FileSyncs};
 ghost use Rattle.imagefile.specs.File.{FileFails, window};

@@ -1,6 +1,6 @@
 ghost use Rattle.std.specs.Prelude.{◌≡◌, ◌⊎◌, ◌+◌, ◌<◌, ◌≤◌, ℕ, [], length, take, Some, None, IfOk, OnOk, OnErr};
 ghost use Rattle.std.specs.Prelude.{IsErrOf};
-ghost use Rattle.blockdisk.specs.Disk.{one_more};
+ghost use Rattle.blockdisk.specs.Common.{one_more};
 ghost use Rattle.blockdisk.specs.declared.fault.Fault.TheVariants.{Device, Damaged};
 ghost use Rattle.imagefile.specs.File.{SameFile, FileKeeps, FileWrites, FileSyncs, FileFails, window};
 ghost use Rattle.imagefile.specs.Host.{with_failures, the_first_of};
@@ -32,9 +32,9 @@ pub struct HostFile<C: FileCalls = SeekingFile> {
 }
 
 impl HostFile {
-    ghost use Rattle.imagefile.specs.HostFile.{calls_of, failures_of, failure_of, known_size_of};
-    ghost use Rattle.imagefile.specs.SeekingFile.{system_of, unseen_of};
-    ghost use Rattle.imagefile.specs.HostCalls.{file_of, history_of};
+    ghost use Rattle.imagefile.specs.Common.{calls_of, failures_of, failure_of, known_size_of};
+    ghost use Rattle.imagefile.specs.Common.{system_of, unseen_of};
+    ghost use Rattle.imagefile.specs.Common.{file_of, history_of};
 
     /// An open file of the host, of which nothing was asked yet, with what is supposed of it that its
     /// calls don't show. Its record is empty, and so it is honest.
@@ -52,7 +52,7 @@ impl HostFile {
 }
 
 impl<C: FileCalls> HostFile<C> {
-    ghost use Rattle.imagefile.specs.HostFile.{calls_of, failures_of, failure_of, known_size_of};
+    ghost use Rattle.imagefile.specs.Common.{calls_of, failures_of, failure_of, known_size_of};
 
     /// The file of these calls. No call has failed yet.
     pub fn new(calls: C) -> Self
@@ -184,7 +184,7 @@ impl<C: FileCalls> HostFile<C> {
 }
 
 impl<C: FileCalls> Durable for HostFile<C> {
-    ghost use Rattle.imagefile.specs.HostFile.{calls_of, failures_of, failure_of, known_size_of};
+    ghost use Rattle.imagefile.specs.Common.{calls_of, failures_of, failure_of, known_size_of};
 
     ghost state = { λ file. with_failures (C.state file.calls) file.failures };
 

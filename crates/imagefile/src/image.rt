@@ -1,8 +1,7 @@
 ghost use Rattle.std.specs.Prelude.{◌≡◌, ◌+◌, ◌*◌, ◌<◌, ◌≤◌, ◌^◌, ◌↔◌, ℕ, Some, None, IfOk, IfErr, OnOk, OnErr};
 ghost use Rattle.std.specs.Prelude.{IsErrOf, IsOk, IsSome, List, All, length};
-ghost use Rattle.words36.specs.Blocks.{IsBlock, block_bytes};
-ghost use Rattle.words36.specs.Nines.{nine_bytes};
-ghost use Rattle.blockdisk.specs.Disk.{DiskState, MayLeave, Keeps, Writes, Syncs, Fails, SameDisk, one_more};
+ghost use Rattle.words36.specs.Common.{IsBlock, block_bytes, nine_bytes};
+ghost use Rattle.blockdisk.specs.Common.{DiskState, MayLeave, Keeps, Writes, Syncs, Fails, SameDisk, one_more};
 ghost use Rattle.blockdisk.specs.declared.fault.Fault.TheVariants.{Device, Damaged};
 ghost use Rattle.imagefile.specs.Began.{BeganAs};
 ghost use Rattle.imagefile.specs.Image.{block_length, image_state, block_content, IsImageSize};
@@ -36,7 +35,8 @@ pub struct ImageDisk<F: Durable> {
 }
 
 impl<F: Durable> ImageDisk<F> {
-    ghost use Rattle.imagefile.specs.ImageDisk.{file_of, form_of, blocks_of};
+    ghost use Rattle.imagefile.specs.ImageDisk.{file_of};
+    ghost use Rattle.imagefile.specs.Common.{form_of, blocks_of};
 
     /// The disk of an image of form 1, as many blocks as the file has 1024 bytes. Nothing is written.
     ///
@@ -116,8 +116,9 @@ impl<F: Durable> ImageDisk<F> {
 }
 
 impl ImageDisk<HostFile> {
-    ghost use Rattle.imagefile.specs.ImageDisk.{file_of, form_of};
-    ghost use Rattle.imagefile.specs.HostFile.{failures_of, failure_of};
+    ghost use Rattle.imagefile.specs.ImageDisk.{file_of};
+    ghost use Rattle.imagefile.specs.Common.{form_of};
+    ghost use Rattle.imagefile.specs.Common.{failures_of, failure_of};
 
     /// Makes the disk of an image of this form from an open file that has not been used yet. `supposed` stands for what
     /// no call shows of the file. Writes nothing.

@@ -39,7 +39,7 @@ pub struct MemFile {
 
 impl Model for MemFile {
     ghost use Rattle.std.specs.Prelude.{◌≡◌, ◌≤◌, length, vec_capacity};
-    ghost use Rattle.imagefile.specs.Memory.{FileMemory, IsFileReplayed, memory_of, bytes_in};
+    ghost use Rattle.imagefile.specs.Common.{FileMemory, IsFileReplayed, memory_of, bytes_in};
 
     ghost Value = { FileMemory };
 

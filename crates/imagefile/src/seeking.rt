@@ -1,11 +1,11 @@
-ghost use Rattle.std.specs.Prelude.{◌≡◌, ◌+◌, ◌≤◌, ◌∷◌, ℕ, Bool, List, Some, None, All, length, take, is_ok};
-ghost use Rattle.std.specs.Prelude.{IfOk, IfSome, OnOk, OnErr};
+ghost use Rattle.std.specs.Prelude.{◌≡◌, ◌+◌, ◌≤◌, ◌∷◌, ℕ, Bool, List, Some, None, All, length, take, is_ok, IfOk};
+ghost use Rattle.std.specs.Prelude.{IfSome, OnOk, OnErr};
 ghost use Rattle.imagefile.specs.File.{FileWrites, window};
 ghost use Rattle.imagefile.specs.Calls.{Call, SeekStart, SeekEnd, Read, Write, Sync, answer, came};
 ghost use Rattle.imagefile.specs.Unseen.{Unseen, size_of};
-ghost use Rattle.imagefile.specs.Recorded.{IsHonestRecord, BeginsAt, GoesTo};
+ghost use Rattle.imagefile.specs.Recorded.{IsHonestRecord, BeginsAt, GoesTo, AsksAt, words_asked_at, after_calls};
+ghost use Rattle.imagefile.specs.Recorded.{recorded};
 ghost use Rattle.imagefile.specs.Endings.{EndsSo};
-ghost use Rattle.imagefile.specs.Recorded.{AsksAt, words_asked_at, after_calls, recorded};
 ghost use Rattle.imagefile.specs.RecordedLaws.{recorded_counts_now, recorded_only_now, recorded_reaches_back};
 ghost use Rattle.imagefile.specs.Answered.{HostCall, IsInFile, answered};
 ghost use Rattle.imagefile.specs.Supposition.{unseen_in};
@@ -26,7 +26,7 @@ pub struct SeekingFile<S: SystemCalls = HostCalls> {
 }
 
 impl<S: SystemCalls> SeekingFile<S> {
-    ghost use Rattle.imagefile.specs.SeekingFile.{system_of, unseen_of};
+    ghost use Rattle.imagefile.specs.Common.{system_of, unseen_of};
 
     /// The file of these calls, of which this is supposed that they don't show.
     pub fn new(calls: S, supposed: Supposition) -> Self
@@ -96,7 +96,7 @@ pub fn a_file_by_the_model_is_honest()
 {}
 
 impl<S: SystemCalls> FileCalls for SeekingFile<S> {
-    ghost use Rattle.imagefile.specs.SeekingFile.{system_of, unseen_of};
+    ghost use Rattle.imagefile.specs.Common.{system_of, unseen_of};
 
     ghost state = { λ file. recorded (unseen_of file) (S.history (system_of file)) };
 

@@ -1,9 +1,9 @@
 ghost use Rattle.std.specs.Prelude.{◌≡◌, ◌≤◌, Bool, List, ◌∷◌, [], length, is_ok, pos, IfOk};
 ghost use Rattle.std.specs.Io.KnownBytes.{ReadConsumes, WriteAppends};
 ghost use Rattle.std.specs.Io.Seek.{SeekMoves};
-ghost use Rattle.std.specs.declared.io.traits.SeekFrom.TheVariants as from;
 ghost use Rattle.imagefile.specs.Calls.{Call, SeekStart, SeekEnd, Read as ReadCall, Write as WriteCall, Sync, answer};
 ghost use Rattle.imagefile.specs.Calls.{came};
+ghost use Rattle.std.specs.declared.io.traits.SeekFrom.TheVariants as from;
 
 use crate::call_record::{CallMade, CallRecord};
 use std::fs::{File, OpenFile};
@@ -101,7 +101,7 @@ pub struct HostCalls<F: Read + Write + Seek + SyncData = File> {
 }
 
 impl<F: Read + Write + Seek + SyncData> HostCalls<F> {
-    ghost use Rattle.imagefile.specs.HostCalls.{history_of, file_of};
+    ghost use Rattle.imagefile.specs.Common.{history_of, file_of};
 
     /// This open file, of which nothing was asked yet.
     pub fn new(file: F) -> Self
@@ -116,7 +116,7 @@ impl<F: Read + Write + Seek + SyncData> HostCalls<F> {
 }
 
 impl<F: Read + Write + Seek + SyncData> SystemCalls for HostCalls<F> {
-    ghost use Rattle.imagefile.specs.HostCalls.{history_of, file_of};
+    ghost use Rattle.imagefile.specs.Common.{history_of, file_of};
 
     ghost history = { history_of };
 

@@ -1,8 +1,9 @@
 -- Which calls take no memory and leave the disk alone.
 use Rattle.std.specs.Prelude.{◌≡◌, false, Option}
-use Rattle.meaning.specs.declared.call.Call.{Call}
-use Rattle.meaning.specs.declared.call.Call.TheVariants.{Open, Inbuf, Outbuf, Lookup, Enter, Rename, In, Out, Useti}
-use Rattle.meaning.specs.declared.call.Call.TheVariants.{Useto, Close, Releas, Getsts, Reset, MakeDir, DeleteDir, Quota}
+use Rattle.spec_machine.specs.declared.call.Call.{Call}
+use Rattle.spec_machine.specs.declared.call.Call.TheVariants.{Open, Inbuf, Outbuf, Lookup, Enter, Rename, In, Out}
+use Rattle.spec_machine.specs.declared.call.Call.TheVariants.{Useti, Useto, Close, Releas, Getsts, Reset, MakeDir}
+use Rattle.spec_machine.specs.declared.call.Call.TheVariants.{DeleteDir, Quota}
 use Rattle.monitor.specs.declared.job.Job.{Job}
 use Rattle.monitor.specs.Rows.{publishes_by}
 

@@ -1,20 +1,16 @@
 -- Which words of its own core a call of a job may change, told by the call and by the job before it.
 use Rattle.std.specs.Prelude.{◌≡◌, ◌<◌, ◌≤◌, ℕ, ◌+◌, ◌-◌, ◌==◌, ◌||◌, ◌&&◌, not, Bool, true, is_none, is_some}
-use Rattle.std.specs.Prelude.{if◌then◌else◌, min, map}
-use Rattle.std.specs.Prelude.{List, [], ◌∷◌, length, Option, Some, None}
+use Rattle.std.specs.Prelude.{if◌then◌else◌, min, map, List, [], ◌∷◌, length, Option, Some, None}
 use Rattle.std.specs.List.{filter}
-use Rattle.meaning.specs.Closing.{keeps_output, keeps_input, discards}
-use Rattle.meaning.specs.CommandLists.{dump_list}
-use Rattle.meaning.specs.Cores.{lies_outside, first_free}
-use Rattle.meaning.specs.Inputs.{areas_or_none}
-use Rattle.meaning.specs.Jobs.{Channel, Job, State, channel_at, job_at}
-use Rattle.meaning.specs.Opening.{mode_at, output_header_at, input_header_at, has_no_ring}
-use Rattle.meaning.specs.Rings.{is_buffered, buffers_of}
-use Rattle.meaning.specs.declared.area.Area.{Area}
-use Rattle.meaning.specs.declared.call.Call.{Call}
-use Rattle.meaning.specs.declared.call.Call.TheVariants.{Open, Inbuf, Outbuf, Lookup, Enter, Rename, In, Out, Useti}
-use Rattle.meaning.specs.declared.call.Call.TheVariants.{Useto, Close, Releas, Getsts, Reset, MakeDir, DeleteDir, Quota}
-use Rattle.usercore.specs.Areas.{ChangesWithin, words_at, setup_areas, in_areas, out_areas}
+use Rattle.spec_machine.specs.Common.{keeps_output, keeps_input, discards, dump_list, lies_outside, first_free}
+use Rattle.spec_machine.specs.Common.{areas_or_none, Channel, Job, State, channel_at, job_at, mode_at}
+use Rattle.spec_machine.specs.Common.{output_header_at, input_header_at, has_no_ring, is_buffered, buffers_of}
+use Rattle.spec_machine.specs.declared.area.Area.{Area}
+use Rattle.spec_machine.specs.declared.call.Call.{Call}
+use Rattle.spec_machine.specs.declared.call.Call.TheVariants.{Open, Inbuf, Outbuf, Lookup, Enter, Rename, In, Out}
+use Rattle.spec_machine.specs.declared.call.Call.TheVariants.{Useti, Useto, Close, Releas, Getsts, Reset, MakeDir}
+use Rattle.spec_machine.specs.declared.call.Call.TheVariants.{DeleteDir, Quota}
+use Rattle.usercore.specs.Common.{ChangesWithin, words_at, setup_areas, in_areas, out_areas}
 
 -- The parts of areas that lie in core, without those that have no words.
 

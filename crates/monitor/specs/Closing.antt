@@ -1,12 +1,9 @@
 -- What a CLOSE or RELEAS leaves of its channel and of its job.
 use Rattle.std.specs.Prelude.{◌++◌, if◌then◌else◌, ℕ, Bool, List, Option, None, Some, slice_set}
-use Rattle.meaning.specs.Closing.{header_closed}
-use Rattle.meaning.specs.Cores.{after_writes}
-use Rattle.meaning.specs.Jobs.{cleared}
-use Rattle.meaning.specs.Rings.{is_buffered}
-use Rattle.meaning.specs.declared.call.Reply.{Reply}
-use Rattle.meaning.specs.declared.call.Reply.TheVariants.{Stopped}
-use Rattle.retrieval.specs.Modes.{mode_number}
+use Rattle.spec_machine.specs.Common.{header_closed, after_writes, cleared, is_buffered}
+use Rattle.spec_machine.specs.declared.call.Reply.{Reply}
+use Rattle.spec_machine.specs.declared.call.Reply.TheVariants.{Stopped}
+use Rattle.retrieval.specs.Common.{mode_number}
 use Rattle.monitor.specs.declared.channel.Channel.{Channel}
 use Rattle.monitor.specs.declared.input.Input.{Input}
 use Rattle.monitor.specs.declared.job.Job.{Job}

@@ -1,11 +1,11 @@
 -- Words that are put into a job's core one after the other.
 use Rattle.std.specs.Prelude.{◌≡◌, ◌+◌, ℕ, Bool, List, [], ◌∷◌, Option}
-use Rattle.blockdisk.specs.Disk.{DiskState}
-use Rattle.meaning.specs.Layouts.{pack_of}
-use Rattle.meaning.specs.Runs.{Service, Answers}
-use Rattle.meaning.specs.declared.call.Event.TheVariants.{Deposit}
-use Rattle.meaning.specs.declared.call.Reply.TheVariants.{Done}
-use Rattle.volume.specs.Live.{VolumeCore}
+use Rattle.blockdisk.specs.Common.{DiskState}
+use Rattle.spec_image.specs.Common.{pack_of}
+use Rattle.spec_machine.specs.Common.{Service, Answers}
+use Rattle.spec_machine.specs.declared.call.Event.TheVariants.{Deposit}
+use Rattle.spec_machine.specs.declared.call.Reply.TheVariants.{Done}
+use Rattle.volume.specs.Common.{VolumeCore}
 use Rattle.monitor.specs.Serving.{Serves}
 use Rattle.monitor.specs.declared.job.Job.{Job}
 

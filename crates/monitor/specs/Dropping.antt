@@ -1,7 +1,7 @@
 -- Versions that were being written are dropped, and versions that were read are let go.
 use Rattle.std.specs.Prelude.{◌≡◌, ℕ, ◌+◌, ◌<◌, ◌≤◌, false, List, Option, Some}
-use Rattle.meaning.specs.Maps.{times}
-use Rattle.volume.specs.Live.{VolumeCore, pending_at, slot}
+use Rattle.spec_image.specs.Common.{times}
+use Rattle.volume.specs.Common.{VolumeCore, pending_at, slot}
 use Rattle.volume.specs.declared.live.LiveVersion.{LiveVersion}
 use Rattle.volume.specs.declared.pending.PendingVersion.{PendingVersion}
 use Rattle.monitor.specs.Readers.{readers_of}

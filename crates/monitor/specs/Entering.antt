@@ -1,24 +1,20 @@
 -- What an ENTER does to a job and to what a volume keeps.
 use Rattle.std.specs.Prelude.{◌≡◌, ◌⊎◌, ℕ, Bool, false, if◌then◌else◌, is_none, Option, None, Some, slice_set}
 use Rattle.words36.specs.declared.moment.Moment.{Moment}
-use Rattle.meaning.specs.Entering.{enter_answer}
-use Rattle.meaning.specs.Jobs as machine
-use Rattle.meaning.specs.Jobs.{State, slot, cleared}
-use Rattle.meaning.specs.Looking.{place_at, with_attributes}
-use Rattle.meaning.specs.Outcomes.{refused_at}
-use Rattle.meaning.specs.Room.{Pack}
-use Rattle.meaning.specs.Runs.{is_plain}
-use Rattle.meaning.specs.declared.call.Reply.{Reply}
-use Rattle.meaning.specs.declared.call.Reply.TheVariants.{Done, NoChannel, NoMemory}
+use Rattle.spec_machine.specs.Common.{enter_answer, State, slot, cleared, place_at, with_attributes, refused_at}
+use Rattle.spec_machine.specs.Common.{is_plain}
+use Rattle.spec_image.specs.Common.{Pack}
+use Rattle.spec_machine.specs.declared.call.Reply.{Reply}
+use Rattle.spec_machine.specs.declared.call.Reply.TheVariants.{Done, NoChannel, NoMemory}
 use Rattle.retrieval.specs.declared.prime.Prime.{Prime}
-use Rattle.volume.specs.Beginning.{is_update, IsBegun}
-use Rattle.volume.specs.Live.{VolumeCore}
+use Rattle.volume.specs.Common.{is_update, IsBegun, VolumeCore}
 use Rattle.volume.specs.declared.pending.Kind.{Kind as VersionKind}
 use Rattle.monitor.specs.Finding.{file_begun, IsPrimeAt}
 use Rattle.monitor.specs.declared.channel.Channel.{Channel}
 use Rattle.monitor.specs.declared.job.Job.{Job}
 use Rattle.monitor.specs.declared.output.Kind.{Kind}
 use Rattle.monitor.specs.declared.output.Kind.TheVariants.{Create, Supersede}
+use Rattle.spec_machine.specs.Jobs as machine
 
 -- how an output side began that writes a version without words
 abbrev pub entered_kind : Bool → Kind

@@ -1,21 +1,19 @@
 -- What a call does to the disk, whatever state the monitor stands for.
 use Rattle.std.specs.Prelude.{◌⊎◌, ℕ, List, Option}
 use Rattle.words36.specs.declared.moment.Moment.{Moment}
-use Rattle.blockdisk.specs.Disk.{DiskState, LeavesOnly}
-use Rattle.meaning.specs.Jobs.{State, slot}
-use Rattle.meaning.specs.Layouts.{pack_of, StandsOn}
-use Rattle.meaning.specs.Published.{without_serials}
-use Rattle.meaning.specs.Step.{step}
-use Rattle.meaning.specs.declared.call.Call.{Call}
-use Rattle.meaning.specs.declared.call.Event.TheVariants.{Call as Calls, Login, Deposit, Examine}
-use Rattle.meaning.specs.declared.call.Reply.{Reply}
-use Rattle.meaning.specs.declared.call.Reply.TheVariants.{Done, Value, Refused, Stopped, NoChannel, AddressCheck, NoJob}
-use Rattle.meaning.specs.declared.call.Reply.TheVariants.{NoMemory, Device, Failed, DateRange}
-use Rattle.volume.specs.Live.{VolumeCore}
+use Rattle.blockdisk.specs.Common.{DiskState, LeavesOnly}
+use Rattle.spec_machine.specs.Common.{State, slot, step}
+use Rattle.spec_image.specs.Common.{pack_of, StandsOn, without_serials}
+use Rattle.spec_machine.specs.declared.call.Call.{Call}
+use Rattle.spec_machine.specs.declared.call.Event.TheVariants.{Call as Calls, Login, Deposit, Examine}
+use Rattle.spec_machine.specs.declared.call.Reply.{Reply}
+use Rattle.spec_machine.specs.declared.call.Reply.TheVariants.{Done, Value, Refused, Stopped, NoChannel, AddressCheck}
+use Rattle.spec_machine.specs.declared.call.Reply.TheVariants.{NoJob, NoMemory, Device, Failed, DateRange}
+use Rattle.volume.specs.Common.{VolumeCore}
 use Rattle.monitor.specs.Serving.{IsState}
 use Rattle.monitor.specs.declared.job.Job.{Job}
 use Rattle.monitor.specs.Calls.{IsLight}
-use Rattle.meaning.specs.declared.call.Event.{Event}
+use Rattle.spec_machine.specs.declared.call.Event.{Event}
 
 -- At any moment of the call by the job of a number, whether it is logged in or not, a crash leaves the files from
 -- before, or those of the machine after it, in the same layout.

@@ -1,40 +1,30 @@
 -- What a volume has of a place, and what an ENTER may do there.
-use Rattle.std.specs.Prelude.{◌≡◌, ℕ, ◌+◌, ◌%◌, ◌==◌, ◌&&◌, not, Bool, false, if◌then◌else◌, [], Option, None}
-use Rattle.std.specs.Prelude.{Some, Result, Ok, Err, slice_index}
+use Rattle.std.specs.Prelude.{◌≡◌, ℕ, ◌+◌, ◌%◌, ◌==◌, ◌&&◌, not, Bool, false, if◌then◌else◌, [], Option, None, Some}
+use Rattle.std.specs.Prelude.{Result, Ok, Err, slice_index}
 use Rattle.words36.specs.declared.names.FileName.{FileName}
 use Rattle.words36.specs.declared.moment.Moment.{Moment}
-use Rattle.words36.specs.Words.{left}
-use Rattle.blockdisk.specs.Disk.{DiskState}
-use Rattle.meaning.specs.declared.code.ErrorCode.{ErrorCode}
-use Rattle.meaning.specs.declared.code.ErrorCode.TheVariants.{NotFound, NoDirectory, Protection, BeingModified}
-use Rattle.meaning.specs.Charges.{pending_cost_in}
-use Rattle.meaning.specs.Codes.{number_of}
-use Rattle.meaning.specs.Entering.{begin_answer}
-use Rattle.meaning.specs.Files.{File, Directory, Place}
-use Rattle.meaning.specs.Jobs as machine
-use Rattle.meaning.specs.Jobs.{State}
-use Rattle.meaning.specs.Looking.{own_if_zero, has_no_directory}
-use Rattle.meaning.specs.Maps.{get, total}
-use Rattle.meaning.specs.Published.{without_serials}
-use Rattle.meaning.specs.Rights.{file_digit, directory_digit, may_look, may_create, may_supersede}
-use Rattle.meaning.specs.Room.{Pack, is_claimed, pending_creations, booked}
-use Rattle.meaning.specs.Runs.{is_plain}
-use Rattle.meaning.specs.declared.call.Reply.{Reply}
-use Rattle.meaning.specs.declared.call.Reply.TheVariants as replies
-use Rattle.retrieval.specs.Modes.{mode_number}
+use Rattle.words36.specs.Common.{left}
+use Rattle.blockdisk.specs.Common.{DiskState}
+use Rattle.spec_image.specs.declared.code.ErrorCode.{ErrorCode}
+use Rattle.spec_image.specs.declared.code.ErrorCode.TheVariants.{NotFound, NoDirectory, Protection, BeingModified}
+use Rattle.spec_machine.specs.Common.{pending_cost_in, begin_answer, State, own_if_zero, has_no_directory, file_digit}
+use Rattle.spec_machine.specs.Common.{directory_digit, may_look, may_create, may_supersede, is_claimed}
+use Rattle.spec_machine.specs.Common.{pending_creations, booked, is_plain}
+use Rattle.spec_image.specs.Common.{number_of, File, Directory, Place, get, total, without_serials, Pack}
+use Rattle.spec_machine.specs.declared.call.Reply.{Reply}
+use Rattle.retrieval.specs.Common.{mode_number}
 use Rattle.retrieval.specs.declared.mode.Mode.{Mode}
 use Rattle.retrieval.specs.declared.prime.Prime.{Prime}
-use Rattle.volume.specs.Charging.{writes_in}
-use Rattle.volume.specs.Claims.{claims}
-use Rattle.volume.specs.Live.{VolumeCore, creates}
-use Rattle.volume.specs.Rest.{RestsAt}
+use Rattle.volume.specs.Common.{writes_in, claims, VolumeCore, creates, RestsAt}
 use Rattle.volume.specs.declared.error.CallError.{CallError}
-use Rattle.volume.specs.declared.error.CallError.TheVariants as errors
 use Rattle.volume.specs.declared.pending.Kind.{Kind as VersionKind}
-use Rattle.volume.specs.declared.pending.Kind.TheVariants as kinds
 use Rattle.monitor.specs.declared.found.Found.{Found}
-use Rattle.monitor.specs.declared.found.Found.TheVariants as found
 use Rattle.monitor.specs.declared.job.Job.{Job}
+use Rattle.spec_machine.specs.Jobs as machine
+use Rattle.spec_machine.specs.declared.call.Reply.TheVariants as replies
+use Rattle.volume.specs.declared.error.CallError.TheVariants as errors
+use Rattle.volume.specs.declared.pending.Kind.TheVariants as kinds
+use Rattle.monitor.specs.declared.found.Found.TheVariants as found
 
 -- What a volume knows of a state: its files, and what is booked, being created, being written and claimed.
 pub record IsKnown (d : DiskState) (map : VolumeCore) (s : State) : Type 0 where

@@ -1,13 +1,13 @@
 -- What the monitor answers to who asks for a list, and where the volume refuses a call.
 use Rattle.std.specs.Prelude.{◌≡◌, ◌+◌, List, Result, Ok, Err}
-use Rattle.meaning.specs.Codes.{number_of}
-use Rattle.meaning.specs.Jobs.{cleared, block_too_large}
-use Rattle.meaning.specs.declared.entry.Entry.{Entry}
-use Rattle.meaning.specs.declared.call.Reply.{Reply}
-use Rattle.meaning.specs.declared.call.Reply.TheVariants as replies
+use Rattle.spec_image.specs.Common.{number_of}
+use Rattle.spec_machine.specs.Common.{cleared, block_too_large}
+use Rattle.spec_image.specs.declared.entry.Entry.{Entry}
+use Rattle.spec_machine.specs.declared.call.Reply.{Reply}
 use Rattle.volume.specs.declared.error.CallError.{CallError}
 use Rattle.volume.specs.declared.error.CallError.TheVariants.{Refused, Device, NoMemory, Failed}
 use Rattle.monitor.specs.declared.channel.Channel.{Channel}
+use Rattle.spec_machine.specs.declared.call.Reply.TheVariants as replies
 
 -- the answer to a call that the volume refused
 abbrev pub reply_of : CallError → Reply

@@ -1,25 +1,19 @@
 -- What a LOOKUP does to a job and to what a volume keeps.
 use Rattle.std.specs.Prelude.{◌≡◌, ℕ, ◌+◌, true, List, [], ◌∷◌, length, Option, None, Some, slice_set, option_to_list}
-use Rattle.blockdisk.specs.Disk.{Contents}
-use Rattle.meaning.specs.Cores.{after_writes}
-use Rattle.meaning.specs.Jobs as machine
-use Rattle.meaning.specs.Jobs.{State, slot, cleared}
-use Rattle.meaning.specs.Looking.{lookup_answer, place_at, with_attributes, size_word}
-use Rattle.meaning.specs.Outcomes.{refused_at}
-use Rattle.meaning.specs.Published.{Version, file_at}
-use Rattle.meaning.specs.Stands.{place_of}
-use Rattle.meaning.specs.declared.call.Reply.{Reply}
-use Rattle.meaning.specs.declared.call.Reply.TheVariants.{Done, NoChannel}
-use Rattle.volume.specs.Live.{as_known, VolumeCore}
-use Rattle.volume.specs.Live.{slot as version_at}
-use Rattle.volume.specs.Pins.{IsVersionOf}
-use Rattle.volume.specs.Places.{prime_at}
+use Rattle.blockdisk.specs.Common.{Contents}
+use Rattle.spec_machine.specs.Common.{after_writes, State, slot, cleared, lookup_answer, place_at, with_attributes}
+use Rattle.spec_machine.specs.Common.{size_word, refused_at}
+use Rattle.spec_image.specs.Common.{Version, file_at, place_of}
+use Rattle.spec_machine.specs.declared.call.Reply.{Reply}
+use Rattle.spec_machine.specs.declared.call.Reply.TheVariants.{Done, NoChannel}
+use Rattle.volume.specs.Common.{as_known, VolumeCore, slot as version_at, IsVersionOf, prime_at}
 use Rattle.volume.specs.declared.live.LiveVersion.{LiveVersion}
 use Rattle.monitor.specs.Dropping.{Closes}
 use Rattle.monitor.specs.Sides.{UnderKeys, pins_of, job_of}
 use Rattle.monitor.specs.declared.channel.Channel.{Channel}
 use Rattle.monitor.specs.declared.input.Input.{Input}
 use Rattle.monitor.specs.declared.job.Job.{Job}
+use Rattle.spec_machine.specs.Jobs as machine
 
 -- the channel with an input side that has read nothing
 abbrev pub looking : Channel → Input → Channel

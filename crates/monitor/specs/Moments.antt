@@ -1,21 +1,17 @@
 -- Lists of events, moment by moment; and that reading holds still along them.
 use Rattle.std.specs.Prelude.{◌≡◌, ℕ, List, [], ◌∷◌, ◌++◌, length, Option, Some, None}
 use Rattle.words36.specs.declared.moment.Moment.{Moment}
-use Rattle.blockdisk.specs.Disk.{Contents, DiskState, MayLeave, LeavesOnly}
-use Rattle.meaning.specs.Crashes.{StandsForState, StandsForEither}
-use Rattle.meaning.specs.Holding.{SpareAll, FoundBy, MovesWordsOf}
-use Rattle.meaning.specs.Inputs.{reads, body_read, core_filled}
-use Rattle.meaning.specs.Jobs as machine
-use Rattle.meaning.specs.Jobs.{State, channel_at, job_at}
-use Rattle.meaning.specs.Published.{Version}
-use Rattle.meaning.specs.Room.{Pack}
-use Rattle.meaning.specs.Runs.{Service, Serving, Broken, Answers}
-use Rattle.meaning.specs.Splices.{words_from}
-use Rattle.meaning.specs.declared.call.Call.TheVariants.{Lookup, In}
-use Rattle.meaning.specs.declared.call.Event.{Event}
-use Rattle.meaning.specs.declared.call.Event.TheVariants.{Call as Calls}
-use Rattle.meaning.specs.declared.call.Reply.{Reply}
-use Rattle.meaning.specs.declared.call.Reply.TheVariants.{Done, NoChannel}
+use Rattle.blockdisk.specs.Common.{Contents, DiskState, MayLeave, LeavesOnly}
+use Rattle.spec_machine.specs.Common.{StandsForState, StandsForEither, SpareAll, FoundBy, MovesWordsOf, reads}
+use Rattle.spec_machine.specs.Common.{body_read, core_filled, State, channel_at, job_at, Service, Serving, Broken}
+use Rattle.spec_machine.specs.Common.{Answers}
+use Rattle.spec_image.specs.Common.{Version, Pack, words_from}
+use Rattle.spec_machine.specs.declared.call.Call.TheVariants.{Lookup, In}
+use Rattle.spec_machine.specs.declared.call.Event.{Event}
+use Rattle.spec_machine.specs.declared.call.Event.TheVariants.{Call as Calls}
+use Rattle.spec_machine.specs.declared.call.Reply.{Reply}
+use Rattle.spec_machine.specs.declared.call.Reply.TheVariants.{Done, NoChannel}
+use Rattle.spec_machine.specs.Jobs as machine
 
 -- Moments.
 

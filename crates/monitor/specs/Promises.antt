@@ -1,16 +1,14 @@
 -- What every call promises, whichever it is.
 use Rattle.std.specs.Prelude.{◌≡◌, ◌⊎◌, ◌↔◌, ℕ, Bool, false, IsTrue, List, Option, Some, slice_set}
 use Rattle.words36.specs.declared.moment.Moment.{Moment}
-use Rattle.blockdisk.specs.Disk.{DiskState, SameDisk, one_more}
-use Rattle.meaning.specs.Jobs.{slot}
-use Rattle.meaning.specs.Layouts.{pack_of}
-use Rattle.meaning.specs.Runs.{Service, Answers}
-use Rattle.meaning.specs.declared.call.Call.{Call}
-use Rattle.meaning.specs.declared.call.Event.TheVariants.{Call as Calls}
-use Rattle.meaning.specs.declared.call.Reply.{Reply}
-use Rattle.meaning.specs.declared.call.Reply.TheVariants.{NoMemory, Device, Failed, Refused}
-use Rattle.volume.specs.Live.{VolumeCore}
-use Rattle.volume.specs.Rest.{IsSoundCore}
+use Rattle.blockdisk.specs.Common.{DiskState, SameDisk, one_more}
+use Rattle.spec_machine.specs.Common.{slot, Service, Answers}
+use Rattle.spec_image.specs.Common.{pack_of}
+use Rattle.spec_machine.specs.declared.call.Call.{Call}
+use Rattle.spec_machine.specs.declared.call.Event.TheVariants.{Call as Calls}
+use Rattle.spec_machine.specs.declared.call.Reply.{Reply}
+use Rattle.spec_machine.specs.declared.call.Reply.TheVariants.{NoMemory, Device, Failed, Refused}
+use Rattle.volume.specs.Common.{VolumeCore, IsSoundCore}
 use Rattle.monitor.specs.Calls.{IsLight, KeepsCore}
 use Rattle.monitor.specs.Events.{CallCrashes, IsIdle, IsDecided}
 use Rattle.monitor.specs.Refusals.{IsRefused}

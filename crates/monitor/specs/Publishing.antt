@@ -1,34 +1,27 @@
 -- A CLOSE or RELEAS publishes what an output side has written: the version under its key becomes the file of its name.
-use Rattle.std.specs.Prelude.{◌≡◌, ◌⊎◌, ◌<◌, ◌+◌, ℕ, Bool, true, false, if◌then◌else◌, List, [], length, Option}
-use Rattle.std.specs.Prelude.{Some, None, slice_set}
+use Rattle.std.specs.Prelude.{◌≡◌, ◌⊎◌, ◌<◌, ◌+◌, ℕ, Bool, true, false, if◌then◌else◌, List, [], length, Option, Some}
+use Rattle.std.specs.Prelude.{None, slice_set}
 use Rattle.words36.specs.declared.moment.Moment.{Moment}
-use Rattle.blockdisk.specs.Disk.{DiskState, LeavesOnly, SameDisk, one_more}
-use Rattle.meaning.specs.Files.{File, Files}
-use Rattle.meaning.specs.Jobs as machine
-use Rattle.meaning.specs.Jobs.{State, cleared, block_too_large}
-use Rattle.meaning.specs.Layouts.{pack_of, StandsOn}
-use Rattle.meaning.specs.Published.{without_serials}
-use Rattle.meaning.specs.Retrieval.{HasBody}
-use Rattle.meaning.specs.Rings.{is_buffered, last_words}
-use Rattle.meaning.specs.Runs.{Service, Serving, Answers}
-use Rattle.meaning.specs.Splices.{splice, length_after}
-use Rattle.meaning.specs.Step.{step}
-use Rattle.meaning.specs.declared.call.Call.{Call}
-use Rattle.meaning.specs.declared.call.Event.TheVariants.{Call as Calls}
-use Rattle.meaning.specs.declared.call.Reply.{Reply}
-use Rattle.meaning.specs.declared.call.Reply.TheVariants.{Done, Value, Refused, Stopped, NoChannel, AddressCheck, NoJob}
-use Rattle.meaning.specs.declared.call.Reply.TheVariants.{NoMemory, Device, Failed, DateRange}
-use Rattle.retrieval.specs.Modes.{mode_number}
-use Rattle.volume.specs.Live.{VolumeCore, slot, pending_at}
-use Rattle.volume.specs.Publishing.{IsPublishedCore, file_of, files_published}
-use Rattle.volume.specs.Rest.{RestsAt, StandsForOneOf, KeepsRead, KeepsWritten}
+use Rattle.blockdisk.specs.Common.{DiskState, LeavesOnly, SameDisk, one_more}
+use Rattle.spec_image.specs.Common.{File, Files, pack_of, StandsOn, without_serials, HasBody, splice, length_after}
+use Rattle.spec_machine.specs.Common.{State, cleared, block_too_large, is_buffered, last_words, Service, Serving}
+use Rattle.spec_machine.specs.Common.{Answers, step}
+use Rattle.spec_machine.specs.declared.call.Call.{Call}
+use Rattle.spec_machine.specs.declared.call.Event.TheVariants.{Call as Calls}
+use Rattle.spec_machine.specs.declared.call.Reply.{Reply}
+use Rattle.spec_machine.specs.declared.call.Reply.TheVariants.{Done, Value, Refused, Stopped, NoChannel, AddressCheck}
+use Rattle.spec_machine.specs.declared.call.Reply.TheVariants.{NoJob, NoMemory, Device, Failed, DateRange}
+use Rattle.retrieval.specs.Common.{mode_number}
+use Rattle.volume.specs.Common.{VolumeCore, slot, pending_at, IsPublishedCore, file_of, files_published, RestsAt}
+use Rattle.volume.specs.Common.{StandsForOneOf, KeepsRead, KeepsWritten}
 use Rattle.volume.specs.declared.live.LiveVersion.{LiveVersion}
 use Rattle.volume.specs.declared.pending.PendingVersion.{PendingVersion}
-use Rattle.monitor.specs.Putting.{FindsNone}
+use Rattle.monitor.specs.WritingOut.{FindsNone}
 use Rattle.monitor.specs.Serving.{AreKeyed, ArePlaced, AreReading, IsState, IsTimely, Serves}
 use Rattle.monitor.specs.declared.channel.Channel.{Channel}
 use Rattle.monitor.specs.declared.job.Job.{Job}
 use Rattle.monitor.specs.declared.output.Output.{Output}
+use Rattle.spec_machine.specs.Jobs as machine
 
 -- The words of a channel's last buffer, which are put before: none in dump mode. None is AddressCheck.
 abbrev pub last_at : List ℕ → Channel → Option (List ℕ)

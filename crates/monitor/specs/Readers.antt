@@ -2,15 +2,10 @@
 -- An input side has a pin, which names the version's key. As many readers may hold one version as there are.
 use Rattle.std.specs.Prelude.{◌≡◌, ℕ, ◌<◌, true, false, List, length, flat_map, Option, Some, None}
 use Rattle.std.specs.List.{AllByRecursion}
-use Rattle.blockdisk.specs.Disk.{DiskState}
-use Rattle.meaning.specs.Costs.{version_cost, cost_of_blocks}
-use Rattle.meaning.specs.Files.{Files, Place}
-use Rattle.meaning.specs.Maps.{times, values}
-use Rattle.meaning.specs.Published.{Version, file_at}
-use Rattle.meaning.specs.Room.{has_serial}
-use Rattle.volume.specs.Live.{as_known, VolumeCore, slot}
-use Rattle.volume.specs.Pins.{IsVersionOf}
-use Rattle.volume.specs.Places.{prime_at}
+use Rattle.blockdisk.specs.Common.{DiskState}
+use Rattle.spec_image.specs.Common.{version_cost, cost_of_blocks, Files, Place, times, values, Version, file_at}
+use Rattle.spec_machine.specs.Common.{has_serial}
+use Rattle.volume.specs.Common.{as_known, VolumeCore, slot, IsVersionOf, prime_at}
 use Rattle.volume.specs.declared.live.LiveVersion.{LiveVersion}
 
 -- how many readers the version of a slot has; none where there is no version

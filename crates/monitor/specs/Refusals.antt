@@ -1,10 +1,10 @@
 -- What a refusal leaves, whatever the disk does.
 use Rattle.std.specs.Prelude.{◌≡◌, ℕ, ◌+◌, List, Option, Some, slice_set}
-use Rattle.meaning.specs.Cores.{with_right}
-use Rattle.meaning.specs.Jobs.{slot}
-use Rattle.meaning.specs.declared.call.Call.{Call}
-use Rattle.meaning.specs.declared.call.Call.TheVariants.{Open, Inbuf, Outbuf, Lookup, Enter, Rename, In, Out, Useti}
-use Rattle.meaning.specs.declared.call.Call.TheVariants.{Useto, Close, Releas, Getsts, Reset, MakeDir, DeleteDir, Quota}
+use Rattle.spec_machine.specs.Common.{with_right, slot}
+use Rattle.spec_machine.specs.declared.call.Call.{Call}
+use Rattle.spec_machine.specs.declared.call.Call.TheVariants.{Open, Inbuf, Outbuf, Lookup, Enter, Rename, In, Out}
+use Rattle.spec_machine.specs.declared.call.Call.TheVariants.{Useti, Useto, Close, Releas, Getsts, Reset, MakeDir}
+use Rattle.spec_machine.specs.declared.call.Call.TheVariants.{DeleteDir, Quota}
 use Rattle.monitor.specs.declared.job.Job.{Job}
 
 -- the job with the code in the right half of the second of the words at an address

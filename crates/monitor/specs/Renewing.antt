@@ -1,12 +1,9 @@
 -- An input side that lets go what it holds, or comes to hold another version of its file.
 use Rattle.std.specs.Prelude.{◌≡◌, ℕ, [], true, false, Option, Some, Ok, option_to_list}
 use Rattle.words36.specs.declared.names.FileName.{FileName}
-use Rattle.blockdisk.specs.Disk.{DiskState}
-use Rattle.meaning.specs.Files.{File, Files}
-use Rattle.meaning.specs.Maps.{get}
-use Rattle.volume.specs.Live.{VolumeCore, pending_at, IsWholeCore}
-use Rattle.volume.specs.Pins.{IsPinAnswer}
-use Rattle.volume.specs.Rest.{RestsAt}
+use Rattle.blockdisk.specs.Common.{DiskState}
+use Rattle.spec_image.specs.Common.{File, Files, get}
+use Rattle.volume.specs.Common.{VolumeCore, pending_at, IsWholeCore, IsPinAnswer, RestsAt}
 use Rattle.volume.specs.declared.pending.PendingVersion.{PendingVersion}
 use Rattle.monitor.specs.Closing.{output_closed, closed_in}
 use Rattle.monitor.specs.Dropping.{Closes}

@@ -1,10 +1,10 @@
 -- What events are answered with, whatever the disk does.
 use Rattle.std.specs.Prelude.{◌≡◌, ◌⊎◌, ℕ, nat_lt, if◌then◌else◌, length, Option, None, Some, slice_index}
 use Rattle.monitor.specs.declared.job.Job.{Job}
-use Rattle.meaning.specs.Step.{last_date}
-use Rattle.meaning.specs.declared.call.Reply.{Reply}
-use Rattle.meaning.specs.declared.call.Reply.TheVariants.{Done, Value, Refused, Stopped, NoChannel, AddressCheck, NoJob}
-use Rattle.meaning.specs.declared.call.Reply.TheVariants.{NoMemory, Device, Failed, DateRange}
+use Rattle.spec_machine.specs.Common.{last_date}
+use Rattle.spec_machine.specs.declared.call.Reply.{Reply}
+use Rattle.spec_machine.specs.declared.call.Reply.TheVariants.{Done, Value, Refused, Stopped, NoChannel, AddressCheck}
+use Rattle.spec_machine.specs.declared.call.Reply.TheVariants.{NoJob, NoMemory, Device, Failed, DateRange}
 
 -- what a list is refused by: there is no such directory, or it may not be listed; the device is never blamed
 abbrev pub IsListRefusal : Reply → Type 0

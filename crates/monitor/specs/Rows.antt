@@ -3,20 +3,15 @@ use Rattle.std.specs.Prelude.{◌≡◌, ◌⊎◌, ℕ, ◌+◌, ◌==◌, ◌|
 use Rattle.std.specs.Prelude.{List, Option, None, Some}
 use Rattle.std.specs.List.{AllByRecursion}
 use Rattle.words36.specs.declared.moment.Moment.{Moment}
-use Rattle.meaning.specs.Closing.{keeps_output, discards}
-use Rattle.meaning.specs.Cores.{after_writes}
-use Rattle.meaning.specs.Jobs as machine
-use Rattle.meaning.specs.Jobs.{State, job_at, with_job, improper_mode}
-use Rattle.meaning.specs.Maps.{times}
-use Rattle.meaning.specs.Opening.{disk, mode_at, device_at, output_header_at, input_header_at, is_mode, header_opened}
-use Rattle.meaning.specs.Rings.{is_buffered}
-use Rattle.meaning.specs.Room.{Pack}
-use Rattle.meaning.specs.Step.{call_of}
-use Rattle.meaning.specs.declared.call.Call.{Call}
-use Rattle.meaning.specs.declared.call.Reply.{Reply}
-use Rattle.retrieval.specs.Modes.{mode_number}
+use Rattle.spec_machine.specs.Common.{keeps_output, discards, after_writes, State, job_at, with_job, improper_mode}
+use Rattle.spec_machine.specs.Common.{disk, mode_at, device_at, output_header_at, input_header_at, is_mode}
+use Rattle.spec_machine.specs.Common.{header_opened, is_buffered, call_of}
+use Rattle.spec_image.specs.Common.{times, Pack}
+use Rattle.spec_machine.specs.declared.call.Call.{Call}
+use Rattle.spec_machine.specs.declared.call.Reply.{Reply}
+use Rattle.retrieval.specs.Common.{mode_number}
 use Rattle.retrieval.specs.declared.mode.Mode.{Mode}
-use Rattle.volume.specs.Live.{pending_at, slot, is_creation}
+use Rattle.volume.specs.Common.{pending_at, slot, is_creation}
 use Rattle.volume.specs.declared.live.LiveVersion.{LiveVersion}
 use Rattle.volume.specs.declared.pending.PendingVersion.{PendingVersion}
 use Rattle.monitor.specs.Readers.{readers_of}
@@ -25,6 +20,7 @@ use Rattle.monitor.specs.Sides.{UnderKeys, sides_in, keys_of, readers_in, pins_o
 use Rattle.monitor.specs.declared.channel.Channel.{Channel}
 use Rattle.monitor.specs.declared.output.Output.{Output}
 use Rattle.monitor.specs.declared.job.Job.{Job}
+use Rattle.spec_machine.specs.Jobs as machine
 
 -- The job is this one after the call, with this answer, whatever is written and read; and nothing else changes.
 abbrev pub IsRow : Job → Job → Call → Reply → Type 0

@@ -1,20 +1,15 @@
 -- Lists of events, and what a crash among them leaves.
 use Rattle.std.specs.Prelude.{◌≡◌, ◌⊎◌, ℕ, Bool, IsTrue, List, [], ◌∷◌, Option}
 use Rattle.std.specs.List.{AllByRecursion}
-use Rattle.blockdisk.specs.Disk.{Contents, DiskState, MayLeave, LeavesOnly}
-use Rattle.meaning.specs.Crashes.{may_change}
-use Rattle.meaning.specs.Files.{File, Files}
-use Rattle.meaning.specs.Jobs.{State}
-use Rattle.meaning.specs.Room.{Pack}
-use Rattle.meaning.specs.Runs.{Service, Serving, Broken, Answers, IsStart}
-use Rattle.meaning.specs.Step.{step}
-use Rattle.meaning.specs.declared.call.Reply.{Reply}
-use Rattle.meaning.specs.declared.call.Reply.TheVariants.{Device, Failed}
-use Rattle.volume.specs.Live.{VolumeCore}
-use Rattle.volume.specs.Rest.{StandsLikeBefore}
+use Rattle.blockdisk.specs.Common.{Contents, DiskState, MayLeave, LeavesOnly}
+use Rattle.spec_machine.specs.Common.{may_change, State, Service, Serving, Broken, Answers, IsStart, step}
+use Rattle.spec_image.specs.Common.{File, Files, Pack}
+use Rattle.spec_machine.specs.declared.call.Reply.{Reply}
+use Rattle.spec_machine.specs.declared.call.Reply.TheVariants.{Device, Failed}
+use Rattle.volume.specs.Common.{VolumeCore, StandsLikeBefore}
 use Rattle.monitor.specs.Serving.{Serves}
 use Rattle.monitor.specs.declared.job.Job.{Job}
-use Rattle.meaning.specs.declared.call.Event.{Event}
+use Rattle.spec_machine.specs.declared.call.Event.{Event}
 
 -- A fault of the disk among the replies.
 

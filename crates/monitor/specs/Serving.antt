@@ -2,21 +2,12 @@
 use Rattle.std.specs.Prelude.{◌≡◌, ℕ, ◌<◌, ◌≤◌, Bool, true, false, List, length, Option, None, Some}
 use Rattle.std.specs.List.{AllByRecursion}
 use Rattle.words36.specs.declared.moment.Moment.{Moment}
-use Rattle.blockdisk.specs.Disk.{DiskState}
-use Rattle.meaning.specs.Jobs.{State, is_create, slot}
-use Rattle.meaning.specs.Layouts.{pack_of}
-use Rattle.meaning.specs.Maps.{times}
-use Rattle.meaning.specs.Published.{file_at, without_serials}
-use Rattle.meaning.specs.Retrieval.{HasBody}
-use Rattle.meaning.specs.Room.{current_versions}
-use Rattle.meaning.specs.Runs.{Service, Serving, Broken, HaveDistinctSerials}
-use Rattle.meaning.specs.Sound.{IsSound}
-use Rattle.meaning.specs.Stands.{place_of}
-use Rattle.meaning.specs.Step.{last_date}
-use Rattle.retrieval.specs.Modes.{mode_number}
-use Rattle.volume.specs.Live.{VolumeCore, pending_at, is_creation}
-use Rattle.volume.specs.Publishing.{IsPlaced}
-use Rattle.volume.specs.Rest.{RestsAt}
+use Rattle.blockdisk.specs.Common.{DiskState}
+use Rattle.spec_machine.specs.Common.{State, is_create, slot, current_versions, Service, Serving, Broken}
+use Rattle.spec_machine.specs.Common.{HaveDistinctSerials, IsSound, last_date}
+use Rattle.spec_image.specs.Common.{pack_of, times, file_at, without_serials, HasBody, place_of}
+use Rattle.retrieval.specs.Common.{mode_number}
+use Rattle.volume.specs.Common.{VolumeCore, pending_at, is_creation, IsPlaced, RestsAt}
 use Rattle.volume.specs.declared.live.LiveVersion.{LiveVersion}
 use Rattle.volume.specs.declared.pending.PendingVersion.{PendingVersion}
 use Rattle.monitor.specs.Readers.{ArePinned, AreRead}

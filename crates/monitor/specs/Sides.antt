@@ -1,18 +1,16 @@
 -- The sides of jobs' channels, and the records of the file machine that jobs stand for.
 use Rattle.std.specs.Prelude.{ℕ, List, [], map, flat_map, filter_map, replicate, Option, None, Some, option_map}
 use Rattle.std.specs.Prelude.{slice_set}
-use Rattle.meaning.specs.Cores.{first_free, rings_begin, with_right}
-use Rattle.meaning.specs.Files.{File, Files, Place}
-use Rattle.meaning.specs.Jobs as machine
-use Rattle.meaning.specs.Published.{Version, with_protection}
-use Rattle.meaning.specs.Stands.{place_of}
-use Rattle.retrieval.specs.Modes.{mode_number}
+use Rattle.spec_machine.specs.Common.{first_free, rings_begin, with_right}
+use Rattle.spec_image.specs.Common.{File, Files, Place, Version, with_protection, place_of}
+use Rattle.retrieval.specs.Common.{mode_number}
 use Rattle.monitor.specs.declared.input.Input.{Input}
 use Rattle.monitor.specs.declared.output.Kind.{Kind}
 use Rattle.monitor.specs.declared.output.Kind.TheVariants.{Create, Supersede, Update, Append}
 use Rattle.monitor.specs.declared.output.Output.{Output}
 use Rattle.monitor.specs.declared.channel.Channel.{Channel}
 use Rattle.monitor.specs.declared.job.Job.{Job}
+use Rattle.spec_machine.specs.Jobs as machine
 
 -- what the channels of a job have, by what is asked of each
 abbrev pub within : {Y : Type 0} → (Option Channel → Option Y) → Option Job → List Y

@@ -1,39 +1,32 @@
 -- What an ENTER does on a channel that reads a file: it updates that file as it is now, or appends to it.
 use Rattle.std.specs.Prelude.{◌≡◌, ℕ, ◌+◌, ◌&&◌, ◌==◌, if◌then◌else◌, true, Bool, None, Some, Result, Ok, Err}
 use Rattle.std.specs.Prelude.{slice_set}
-use Rattle.blockdisk.specs.Disk.{Contents}
-use Rattle.meaning.specs.Files.{File, Files, Place}
-use Rattle.meaning.specs.Jobs as machine
-use Rattle.meaning.specs.Jobs.{State, slot, cleared}
-use Rattle.meaning.specs.Looking.{place_at, with_attributes, has_no_directory}
-use Rattle.meaning.specs.Maps.{get}
-use Rattle.meaning.specs.Rights.{file_digit, directory_digit, may_look, may_append, may_update}
-use Rattle.meaning.specs.Room.{Pack}
-use Rattle.meaning.specs.Stands.{place_of}
-use Rattle.meaning.specs.Updating.{update_answer}
-use Rattle.meaning.specs.declared.code.ErrorCode.{ErrorCode}
-use Rattle.meaning.specs.declared.code.ErrorCode.TheVariants.{NotFound, NoDirectory}
-use Rattle.meaning.specs.declared.call.Reply.{Reply}
-use Rattle.meaning.specs.declared.call.Reply.TheVariants.{Refused}
+use Rattle.blockdisk.specs.Common.{Contents}
+use Rattle.spec_image.specs.Common.{File, Files, Place, get, Pack, place_of}
+use Rattle.spec_machine.specs.Common.{State, slot, cleared, place_at, with_attributes, has_no_directory, file_digit}
+use Rattle.spec_machine.specs.Common.{directory_digit, may_look, may_append, may_update, update_answer}
+use Rattle.spec_image.specs.declared.code.ErrorCode.{ErrorCode}
+use Rattle.spec_image.specs.declared.code.ErrorCode.TheVariants.{NotFound, NoDirectory}
+use Rattle.spec_machine.specs.declared.call.Reply.{Reply}
+use Rattle.spec_machine.specs.declared.call.Reply.TheVariants.{Refused}
 use Rattle.retrieval.specs.declared.prime.Prime.{Prime}
-use Rattle.volume.specs.Beginning.{is_update, IsBegun}
-use Rattle.volume.specs.Live.{VolumeCore, pending_at, as_written}
-use Rattle.volume.specs.Pins.{IsVersionOf, IsPinAnswer}
+use Rattle.volume.specs.Common.{is_update, IsBegun, VolumeCore, pending_at, as_written, IsVersionOf, IsPinAnswer}
 use Rattle.volume.specs.declared.pending.Kind.{Kind as VersionKind}
-use Rattle.volume.specs.declared.pending.Kind.TheVariants as kinds
 use Rattle.volume.specs.declared.pending.PendingVersion.{PendingVersion}
 use Rattle.monitor.specs.Finding.{begun_as, file_begun}
-use Rattle.monitor.specs.Inputs.{named_in}
+use Rattle.monitor.specs.LookupAnswers.{named_in}
 use Rattle.monitor.specs.Renewing.{Renews}
 use Rattle.monitor.specs.Sides.{UnderKeys, job_of}
 use Rattle.monitor.specs.declared.channel.Channel.{Channel}
 use Rattle.monitor.specs.declared.found.Found.{Found}
-use Rattle.monitor.specs.declared.found.Found.TheVariants as found
 use Rattle.monitor.specs.declared.input.Input.{Input}
 use Rattle.monitor.specs.declared.job.Job.{Job}
 use Rattle.monitor.specs.declared.output.Kind.{Kind}
 use Rattle.monitor.specs.declared.output.Kind.TheVariants.{Update, Append}
 use Rattle.monitor.specs.declared.output.Output.{Output}
+use Rattle.spec_machine.specs.Jobs as machine
+use Rattle.volume.specs.declared.pending.Kind.TheVariants as kinds
+use Rattle.monitor.specs.declared.found.Found.TheVariants as found
 
 -- How a job may write over the file of a place, or why not: `who` asks, in the directory of `owner`.
 

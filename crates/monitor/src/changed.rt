@@ -1,23 +1,18 @@
 ghost use Rattle.std.specs.Prelude.{◌≡◌, ◌+◌, ◌++◌, ◌∷◌, ◌==◌, not, [], IfOk, OnOk, option_map};
 ghost use Rattle.std.specs.List.{AllByRecursion, filter};
-ghost use Rattle.meaning.specs.CommandLists.{dump_list};
-ghost use Rattle.meaning.specs.Inputs.{areas_or_none};
-ghost use Rattle.meaning.specs.Jobs.{State, job_at, slot};
-ghost use Rattle.meaning.specs.Opening.{mode_at};
-ghost use Rattle.meaning.specs.Rings.{is_buffered};
-ghost use Rattle.meaning.specs.Runs.{Serving};
-ghost use Rattle.usercore.specs.Areas.{words_at};
-ghost use Rattle.monitor.specs.Changed.{IsInside, clipped, in_core, header_area, areas_opened, areas_set_up};
-ghost use Rattle.monitor.specs.Changed.{areas_filled, areas_emptied, areas_closed, on_open, areas_of, areas_for};
-ghost use Rattle.monitor.specs.Serving.{Serves};
-ghost use Rattle.monitor.specs.Sides.{UnderKeys, channel_of, job_of};
+ghost use Rattle.spec_machine.specs.Common.{dump_list, areas_or_none, State, job_at, slot, mode_at, is_buffered};
+ghost use Rattle.spec_machine.specs.Common.{Serving};
+ghost use Rattle.usercore.specs.Common.{words_at};
+ghost use Rattle.monitor.specs.Common.{IsInside, clipped, in_core, header_area, areas_opened, areas_set_up};
+ghost use Rattle.monitor.specs.Common.{areas_filled, areas_emptied, areas_closed, on_open, areas_of, areas_for};
+ghost use Rattle.monitor.specs.Common.{Serves, UnderKeys, channel_of, job_of};
 
 use crate::channel::Channel;
 use crate::job::{Job, Jobs};
 use crate::monitor::Monitor;
 use crate::open::{lies_outside, word_at};
 use blockdisk::{Disk, NoMemory};
-use meaning::Call;
+use spec_machine::Call;
 use std::alloc::{AllocError, Global};
 use usercore::{Area, Core, FIRST_FREE, HEADER_WORDS};
 

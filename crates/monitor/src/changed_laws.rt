@@ -1,19 +1,15 @@
 ghost use Rattle.std.specs.Prelude.{◌≡◌, ◌≤◌, ◌+◌, ◌-◌, ◌∷◌, ℕ, true, List, [], Some, length};
 ghost use Rattle.std.specs.List.{AllByRecursion};
 ghost use Rattle.words36.specs.declared.moment.Moment.{Moment};
-ghost use Rattle.meaning.specs.Cores.{first_free};
-ghost use Rattle.meaning.specs.Inputs.{ring_in};
-ghost use Rattle.meaning.specs.Jobs.{Input, Channel, Job, State, channel_at, job_at};
-ghost use Rattle.meaning.specs.Rings.{is_buffered, base, current, target};
-ghost use Rattle.meaning.specs.Room.{Pack};
-ghost use Rattle.meaning.specs.Runs.{Serving, Answers};
-ghost use Rattle.meaning.specs.Step.{step};
-ghost use Rattle.meaning.specs.declared.call.Call.{Call};
-ghost use Rattle.meaning.specs.declared.call.Call.TheVariants.{Lookup, In};
-ghost use Rattle.meaning.specs.declared.call.Event.TheVariants.{Call as Calls};
-ghost use Rattle.meaning.specs.declared.call.Reply.{Reply};
-ghost use Rattle.usercore.specs.Areas.{words_at};
-ghost use Rattle.monitor.specs.Changed.{IsPart, ChangesJob, areas_of};
+ghost use Rattle.spec_machine.specs.Common.{first_free, ring_in, Input, Channel, Job, State, channel_at, job_at};
+ghost use Rattle.spec_machine.specs.Common.{is_buffered, base, current, target, Serving, Answers, step};
+ghost use Rattle.spec_image.specs.Common.{Pack};
+ghost use Rattle.spec_machine.specs.declared.call.Call.{Call};
+ghost use Rattle.spec_machine.specs.declared.call.Call.TheVariants.{Lookup, In};
+ghost use Rattle.spec_machine.specs.declared.call.Event.TheVariants.{Call as Calls};
+ghost use Rattle.spec_machine.specs.declared.call.Reply.{Reply};
+ghost use Rattle.usercore.specs.Common.{words_at};
+ghost use Rattle.monitor.specs.Common.{IsPart, ChangesJob, areas_of};
 
 /// A call changes no words of cores but those of its own job's that lie in its areas; nor does the service in a run,
 /// where memory may be wanting.

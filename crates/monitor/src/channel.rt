@@ -1,8 +1,7 @@
 ghost use Rattle.std.specs.Prelude.{◌≡◌};
-ghost use Rattle.meaning.specs.Inputs.{lacks_header};
-ghost use Rattle.meaning.specs.Rings.{is_buffered, byte_size};
-ghost use Rattle.retrieval.specs.Modes.{mode_number};
-ghost use Rattle.usercore.specs.ByteSizes.{bits_of};
+ghost use Rattle.spec_machine.specs.Common.{lacks_header, is_buffered, byte_size};
+ghost use Rattle.retrieval.specs.Common.{mode_number};
+ghost use Rattle.usercore.specs.Common.{bits_of};
 
 use crate::input::Input;
 use crate::output::Output;

@@ -1,11 +1,9 @@
 ghost use Rattle.std.specs.Prelude.{◌≡◌, ◌≤◌, ℕ, [], filter_map, option_to_list};
-ghost use Rattle.meaning.specs.Jobs.{slot};
-ghost use Rattle.meaning.specs.Maps.{times};
-ghost use Rattle.volume.specs.Live.{pending_at, slot as version_at};
-ghost use Rattle.monitor.specs.Dropping.{Closes};
-ghost use Rattle.monitor.specs.Readers.{readers_of};
-ghost use Rattle.monitor.specs.Serving.{present, AreKeyed, AreReading};
-ghost use Rattle.monitor.specs.Sides.{side_of, sides_in, keys_of, reader_of, readers_in, pins_of};
+ghost use Rattle.spec_machine.specs.Common.{slot};
+ghost use Rattle.spec_image.specs.Common.{times};
+ghost use Rattle.volume.specs.Common.{pending_at, slot as version_at};
+ghost use Rattle.monitor.specs.Common.{Closes, readers_of, present, AreKeyed, AreReading, side_of, sides_in, keys_of};
+ghost use Rattle.monitor.specs.Common.{reader_of, readers_in, pins_of};
 
 use crate::channel::Channel;
 use crate::input::Input;

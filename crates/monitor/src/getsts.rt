@@ -1,10 +1,10 @@
 ghost use Rattle.std.specs.Prelude.{◌≡◌, ℕ};
-ghost use Rattle.meaning.specs.declared.call.Call.TheVariants.{Getsts};
-ghost use Rattle.meaning.specs.declared.call.Reply.TheVariants.{NoMemory, Failed, Device, Refused};
-ghost use Rattle.monitor.specs.Rows.{IsRow};
+ghost use Rattle.spec_machine.specs.declared.call.Call.TheVariants.{Getsts};
+ghost use Rattle.spec_machine.specs.declared.call.Reply.TheVariants.{NoMemory, Failed, Device, Refused};
+ghost use Rattle.monitor.specs.Common.{IsRow};
 
 use crate::job::Job;
-use meaning::Reply;
+use spec_machine::Reply;
 use words36::Word;
 
 /// GETSTS: what the last call of a channel has reported, and its mode.

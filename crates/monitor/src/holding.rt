@@ -1,15 +1,8 @@
 ghost use Rattle.std.specs.Prelude.{◌≡◌, ◌+◌, ◌<◌, ◌≤◌, ◌^◌, ℕ, false, None, Some, Ok, option_to_list};
-ghost use Rattle.meaning.specs.Files.{File, Files};
-ghost use Rattle.meaning.specs.Maps.{get, times};
-ghost use Rattle.volume.specs.Live.{slot};
-ghost use Rattle.volume.specs.Pins.{IsPinAnswer};
-ghost use Rattle.volume.specs.Places.{prime_at};
-ghost use Rattle.volume.specs.Rest.{RestsAt};
+ghost use Rattle.spec_image.specs.Common.{File, Files, get, times};
+ghost use Rattle.volume.specs.Common.{slot, IsPinAnswer, prime_at, RestsAt};
 ghost use Rattle.volume.specs.declared.live.LiveVersion.{LiveVersion};
-ghost use Rattle.monitor.specs.LookingUp.{IsHolding};
-ghost use Rattle.monitor.specs.Readers.{readers_of};
-ghost use Rattle.monitor.specs.Renewing.{Renews};
-ghost use Rattle.monitor.specs.Sides.{pins_of};
+ghost use Rattle.monitor.specs.Common.{IsHolding, readers_of, Renews, pins_of};
 
 use crate::dropping::release_input;
 use crate::input::Input;

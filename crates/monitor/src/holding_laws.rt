@@ -1,17 +1,12 @@
-ghost use Rattle.std.specs.Prelude.{◌≡◌, ◌⊎◌, ◌<◌, ◌+◌, ◌-◌, ◌==◌, ℕ, true, false, if◌then◌else◌, flat_map, Some, None};
-ghost use Rattle.meaning.specs.Files.{Files, Place};
-ghost use Rattle.meaning.specs.Maps.{values};
-ghost use Rattle.meaning.specs.Published.{Version, file_at, with_file};
-ghost use Rattle.meaning.specs.Runs.{HaveDistinctSerials};
-ghost use Rattle.meaning.specs.Stands.{place_of};
-ghost use Rattle.volume.specs.Live.{as_known, VolumeCore, slot, IsWholeCore};
-ghost use Rattle.volume.specs.Pins.{IsVersionOf};
-ghost use Rattle.volume.specs.Places.{prime_at};
-ghost use Rattle.volume.specs.Publishing.{IsPublishedCore};
-ghost use Rattle.volume.specs.Rest.{KeepsRead};
+ghost use Rattle.std.specs.Prelude.{◌≡◌, ◌⊎◌, ◌<◌, ◌+◌, ◌-◌, ◌==◌, ℕ, true, false, if◌then◌else◌, flat_map, Some};
+ghost use Rattle.std.specs.Prelude.{None};
+ghost use Rattle.spec_image.specs.Common.{Files, Place, values, Version, file_at, with_file, place_of};
+ghost use Rattle.spec_machine.specs.Common.{HaveDistinctSerials};
+ghost use Rattle.volume.specs.Common.{as_known, VolumeCore, slot, IsWholeCore, IsVersionOf, prime_at};
+ghost use Rattle.volume.specs.Common.{IsPublishedCore, KeepsRead};
 ghost use Rattle.volume.specs.declared.live.LiveVersion.{LiveVersion};
 ghost use Rattle.volume.specs.declared.pending.PendingVersion.{PendingVersion};
-ghost use Rattle.monitor.specs.Readers.{AreRead};
+ghost use Rattle.monitor.specs.Common.{AreRead};
 
 use blockdisk::Disk;
 

@@ -1,14 +1,13 @@
 ghost use Rattle.std.specs.Prelude.{◌≡◌, ℕ, List, Option};
-ghost use Rattle.meaning.specs.declared.call.Call.TheVariants.{Inbuf};
-ghost use Rattle.meaning.specs.declared.call.Reply.TheVariants.{NoMemory, Failed, Device, Refused};
+ghost use Rattle.spec_machine.specs.declared.call.Call.TheVariants.{Inbuf};
+ghost use Rattle.spec_machine.specs.declared.call.Reply.TheVariants.{NoMemory, Failed, Device, Refused};
 ghost use Rattle.volume.specs.declared.live.LiveVersion.{LiveVersion};
 ghost use Rattle.volume.specs.declared.pending.PendingVersion.{PendingVersion};
-ghost use Rattle.monitor.specs.Events.{IsDecided};
-ghost use Rattle.monitor.specs.Rows.{IsRow, KeepsSides, KeepsReading};
+ghost use Rattle.monitor.specs.Common.{IsDecided, IsRow, KeepsSides, KeepsReading};
 
 use crate::job::Job;
 use crate::ring::set_up_ring;
-use meaning::Reply;
+use spec_machine::Reply;
 
 /// INBUF: sets up a ring of so many buffers, where 0 means 2, for what a channel reads.
 pub fn inbuf(job: &mut Job, number: u32, count: u32) -> Reply

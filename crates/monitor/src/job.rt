@@ -1,15 +1,13 @@
 ghost use Rattle.std.specs.Prelude.{◌≡◌, ◌+◌, ◌≤◌, replicate, None, IfOk, Some, IfSome, IsTrue, IsFalse, length};
 ghost use Rattle.std.specs.Prelude.{slice_set};
-ghost use Rattle.meaning.specs.Cores.{after_writes, placed};
-ghost use Rattle.meaning.specs.Jobs.{slot};
-ghost use Rattle.meaning.specs.declared.call.Reply.TheVariants.{Done};
-ghost use Rattle.monitor.specs.Replies.{deposit_of};
-ghost use Rattle.monitor.specs.Sides.{no_jobs, reset_job};
+ghost use Rattle.spec_machine.specs.Common.{after_writes, placed, slot};
+ghost use Rattle.spec_machine.specs.declared.call.Reply.TheVariants.{Done};
+ghost use Rattle.monitor.specs.Common.{deposit_of, no_jobs, reset_job};
 ghost use Rattle.monitor.specs.declared.job.Job.{Job as JobRecord};
 
 use crate::channel::Channel;
 use blockdisk::NoMemory;
-use meaning::Reply;
+use spec_machine::Reply;
 use std::alloc::{AllocError, Global};
 use std::marker::Model;
 use usercore::Core;

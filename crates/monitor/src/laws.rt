@@ -1,13 +1,9 @@
 ghost use Rattle.std.specs.Prelude.{◌≡◌, ◌+◌, ◌++◌, ℕ, List, Option, map};
-ghost use Rattle.meaning.specs.Files.{File, Files};
-ghost use Rattle.meaning.specs.Jobs.{State};
-ghost use Rattle.meaning.specs.Maps.{total};
-ghost use Rattle.meaning.specs.Published.{Version};
-ghost use Rattle.meaning.specs.Room.{distinct_cost};
-ghost use Rattle.meaning.specs.Runs.{IsStart};
-ghost use Rattle.volume.specs.Live.{held_cost};
+ghost use Rattle.spec_image.specs.Common.{File, Files, total, Version};
+ghost use Rattle.spec_machine.specs.Common.{State, distinct_cost, IsStart};
+ghost use Rattle.volume.specs.Common.{held_cost};
 ghost use Rattle.volume.specs.declared.live.LiveVersion.{LiveVersion};
-ghost use Rattle.monitor.specs.Readers.{ArePinned, AreBooked};
+ghost use Rattle.monitor.specs.Common.{ArePinned, AreBooked};
 
 /// There is a state to start from, whatever the files are: each version can have a serial of its own.
 pub fn files_have_a_start()

@@ -1,17 +1,15 @@
 ghost use Rattle.std.specs.Prelude.{◌≡◌, ◌↔◌, ◌⊎◌, false, List, None, Result, IfOk, IfErr, IsErrOf, IsTrue};
-ghost use Rattle.meaning.specs.Jobs.{State, slot};
-ghost use Rattle.meaning.specs.Maps.{keys};
-ghost use Rattle.meaning.specs.Runs.{Service, Serving, Lists};
-ghost use Rattle.meaning.specs.declared.entry.Entry.{Entry};
-ghost use Rattle.meaning.specs.declared.call.Reply.{Reply};
-ghost use Rattle.meaning.specs.declared.call.Reply.TheVariants.{NoJob, NoMemory, Failed};
-ghost use Rattle.monitor.specs.Serving.{Serves};
-ghost use Rattle.monitor.specs.Lists.{IsListAnswer, reply_of};
-ghost use Rattle.monitor.specs.Replies.{IsListRefusal};
+ghost use Rattle.spec_machine.specs.Common.{State, slot, Service, Serving, Lists};
+ghost use Rattle.spec_image.specs.Common.{keys};
+ghost use Rattle.spec_image.specs.declared.entry.Entry.{Entry};
+ghost use Rattle.spec_machine.specs.declared.call.Reply.{Reply};
+ghost use Rattle.spec_machine.specs.declared.call.Reply.TheVariants.{NoJob, NoMemory, Failed};
+ghost use Rattle.monitor.specs.Common.{Serves, IsListAnswer, reply_of, IsListRefusal};
 
 use crate::monitor::Monitor;
 use blockdisk::Disk;
-use meaning::{Entry, ErrorCode, Reply};
+use spec_image::{Entry, ErrorCode};
+use spec_machine::Reply;
 use protect::{DirectoryAct, dir_right};
 use std::alloc::Global;
 use volume::CallError;

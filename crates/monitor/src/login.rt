@@ -1,19 +1,15 @@
 ghost use Rattle.std.specs.Prelude.{◌≡◌, ◌⊎◌, ◌↔◌, ℕ, false, Some, slice_set, IsTrue};
-ghost use Rattle.meaning.specs.Jobs.{slot};
-ghost use Rattle.meaning.specs.Layouts.{pack_of};
-ghost use Rattle.meaning.specs.Runs.{Service, Answers};
-ghost use Rattle.meaning.specs.Sessions.{login_answer};
-ghost use Rattle.meaning.specs.declared.call.Event.TheVariants.{Login};
-ghost use Rattle.meaning.specs.declared.call.Reply.TheVariants.{Done, Failed, NoMemory};
-ghost use Rattle.monitor.specs.Dropping.{OnlyDrops};
-ghost use Rattle.monitor.specs.Serving.{Serves, AreKeyed, ArePlaced, AreReading};
-ghost use Rattle.monitor.specs.Sides.{new_job};
+ghost use Rattle.spec_machine.specs.Common.{slot, Service, Answers, login_answer};
+ghost use Rattle.spec_image.specs.Common.{pack_of};
+ghost use Rattle.spec_machine.specs.declared.call.Event.TheVariants.{Login};
+ghost use Rattle.spec_machine.specs.declared.call.Reply.TheVariants.{Done, Failed, NoMemory};
+ghost use Rattle.monitor.specs.Common.{OnlyDrops, Serves, AreKeyed, ArePlaced, AreReading, new_job};
 
 use crate::dropping::close_job;
 use crate::job::{Job, Jobs, LARGEST_JOB, all_closed};
 use crate::monitor::Monitor;
 use blockdisk::Disk;
-use meaning::Reply;
+use spec_machine::Reply;
 use std::alloc::Global;
 use usercore::{Core, CoreError};
 use volume::Volume;

@@ -1,25 +1,16 @@
 ghost use Rattle.std.specs.Prelude.{◌≡◌, ◌⊎◌, ℕ, false, IfOk, IfErr};
-ghost use Rattle.blockdisk.specs.Disk.{NoneOpen, SameDisk, Still, one_more};
-ghost use Rattle.changeset.specs.Crashes.{IsRecovered, SyncsFirst};
-ghost use Rattle.meaning.specs.Files.{File, Files};
-ghost use Rattle.meaning.specs.Jobs.{State};
-ghost use Rattle.meaning.specs.Layouts.{StandsOn, layout_number, pack_of};
-ghost use Rattle.meaning.specs.Published.{without_serials};
-ghost use Rattle.meaning.specs.Room.{room};
-ghost use Rattle.meaning.specs.Runs.{Service, Serving, IsStart};
-ghost use Rattle.meaning.specs.Stands.{Stands};
-ghost use Rattle.monitor.specs.QuotaRows.{charge_told};
-ghost use Rattle.monitor.specs.Runs.{HasStarted};
-ghost use Rattle.monitor.specs.Serving.{Serves};
-ghost use Rattle.monitor.specs.Sides.{no_jobs};
-ghost use Rattle.volume.specs.FaultsFound.{NamesInSpace, Refuses};
-ghost use Rattle.volume.specs.Rest.{StandsLike};
+ghost use Rattle.blockdisk.specs.Common.{NoneOpen, SameDisk, Still, one_more};
+ghost use Rattle.changeset.specs.Common.{IsRecovered, SyncsFirst};
+ghost use Rattle.spec_image.specs.Common.{File, Files, StandsOn, layout_number, pack_of, without_serials, Stands};
+ghost use Rattle.spec_machine.specs.Common.{State, room, Service, Serving, IsStart};
+ghost use Rattle.monitor.specs.Common.{charge_told, HasStarted, Serves, no_jobs};
+ghost use Rattle.volume.specs.Common.{NamesInSpace, Refuses, StandsLike};
 ghost use Rattle.volume.specs.declared.error.VolumeError.TheVariants.{Device};
 
 use crate::StartError;
 use crate::job::Jobs;
 use blockdisk::{Disk, NoMemory};
-use meaning::layout::Layout;
+use spec_image::layout::Layout;
 use std::alloc::Global;
 use std::marker::Model;
 use volume::{Charge, Volume};
@@ -35,8 +26,8 @@ pub struct Monitor<D: Disk> {
 
 impl<D: Disk> Model for Monitor<D> {
     ghost use Rattle.std.specs.Prelude.{◌≡◌, false};
-    ghost use Rattle.monitor.specs.States.{MonitorState};
-    ghost use Rattle.monitor.specs.Serving.{AreKeyed, ArePlaced, AreReading};
+    ghost use Rattle.monitor.specs.Common.{MonitorState};
+    ghost use Rattle.monitor.specs.Common.{AreKeyed, ArePlaced, AreReading};
 
     ghost Value = { MonitorState D };
 

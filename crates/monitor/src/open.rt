@@ -1,18 +1,18 @@
 ghost use Rattle.std.specs.Prelude.{◌≡◌, ◌<◌, ◌≤◌, ◌+◌, ◌^◌, ℕ, true, false, List, Option, None, IfSome, slice_index};
-ghost use Rattle.meaning.specs.Cores.{lies_outside};
-ghost use Rattle.meaning.specs.Opening.{mode_at, output_header_at, input_header_at, misses_header, misses_headers};
-ghost use Rattle.meaning.specs.Rings.{is_buffered};
-ghost use Rattle.meaning.specs.declared.call.Call.TheVariants.{Open};
-ghost use Rattle.meaning.specs.declared.call.Reply.TheVariants.{NoMemory, Failed, Device, Refused};
+ghost use Rattle.spec_machine.specs.Common.{lies_outside, mode_at, output_header_at, input_header_at, misses_header};
+ghost use Rattle.spec_machine.specs.Common.{misses_headers, is_buffered};
+ghost use Rattle.spec_machine.specs.declared.call.Call.TheVariants.{Open};
+ghost use Rattle.spec_machine.specs.declared.call.Reply.TheVariants.{NoMemory, Failed, Device, Refused};
 ghost use Rattle.volume.specs.declared.live.LiveVersion.{LiveVersion};
 ghost use Rattle.volume.specs.declared.pending.PendingVersion.{PendingVersion};
-ghost use Rattle.retrieval.specs.Modes.{mode_number};
-ghost use Rattle.monitor.specs.Events.{IsDecided};
-ghost use Rattle.monitor.specs.Rows.{IsRow, KeepsSides, KeepsReading, improper_at, opened_at, rings_opened};
+ghost use Rattle.retrieval.specs.Common.{mode_number};
+ghost use Rattle.monitor.specs.Common.{IsDecided, IsRow, KeepsSides, KeepsReading, improper_at, opened_at};
+ghost use Rattle.monitor.specs.Common.{rings_opened};
 
 use crate::channel::Channel;
 use crate::job::{CHANNELS, Job};
-use meaning::{ErrorCode, Reply};
+use spec_image::ErrorCode;
+use spec_machine::Reply;
 use retrieval::Mode;
 use usercore::Core;
 use words36::Word;

@@ -1,14 +1,15 @@
 ghost use Rattle.std.specs.Prelude.{◌≡◌, ◌==◌};
-ghost use Rattle.meaning.specs.Layouts.{layout_number};
-ghost use Rattle.meaning.specs.declared.call.Call.TheVariants.{Quota};
-ghost use Rattle.monitor.specs.Promises.{IsCallReady, ServesAlways};
+ghost use Rattle.spec_image.specs.Common.{layout_number};
+ghost use Rattle.spec_machine.specs.declared.call.Call.TheVariants.{Quota};
+ghost use Rattle.monitor.specs.Common.{IsCallReady, ServesAlways};
 
 use crate::job::Job;
-use crate::makedir::is_system;
+use crate::make_dir::is_system;
 use crate::open::{lies_outside, word_at};
 use crate::status::refuse;
 use blockdisk::Disk;
-use meaning::{ErrorCode, Reply};
+use spec_image::ErrorCode;
+use spec_machine::Reply;
 use volume::{CallError, Layout, Volume};
 use words36::Ppn;
 

@@ -1,14 +1,10 @@
 ghost use Rattle.std.specs.Prelude.{◌≡◌, ℕ, flat_map, None, Some, IfSome};
 ghost use Rattle.std.specs.List.{AllByRecursion};
 ghost use Rattle.words36.specs.declared.names.FileName.{FileName};
-ghost use Rattle.meaning.specs.Files.{Directory, Files};
-ghost use Rattle.meaning.specs.Maps.{empty, get, insert, values};
-ghost use Rattle.meaning.specs.Published.{Version};
-ghost use Rattle.meaning.specs.Runs.{HaveDistinctSerials};
-ghost use Rattle.volume.specs.Live.{VolumeCore, IsFirstRead, IsWholeCore};
-ghost use Rattle.volume.specs.Places.{prime_at};
-ghost use Rattle.volume.specs.Rest.{KeepsRead};
-ghost use Rattle.monitor.specs.Readers.{AreBooked, AreRead};
+ghost use Rattle.spec_image.specs.Common.{Directory, Files, empty, get, insert, values, Version};
+ghost use Rattle.spec_machine.specs.Common.{HaveDistinctSerials};
+ghost use Rattle.volume.specs.Common.{VolumeCore, IsFirstRead, IsWholeCore, prime_at, KeepsRead};
+ghost use Rattle.monitor.specs.Common.{AreBooked, AreRead};
 
 use blockdisk::Disk;
 

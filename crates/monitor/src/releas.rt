@@ -1,21 +1,17 @@
 ghost use Rattle.std.specs.Prelude.{◌≡◌, ◌≤◌, ℕ, Some, false};
-ghost use Rattle.meaning.specs.Jobs.{slot};
-ghost use Rattle.meaning.specs.Maps.{times};
-ghost use Rattle.meaning.specs.declared.call.Call.TheVariants.{Releas};
-ghost use Rattle.meaning.specs.declared.call.Reply.TheVariants.{NoMemory, Device, Failed, Refused};
-ghost use Rattle.volume.specs.Live.{slot as version_at};
-ghost use Rattle.monitor.specs.Dropping.{OnlyDrops};
-ghost use Rattle.monitor.specs.Events.{IsDecided};
-ghost use Rattle.monitor.specs.Promises.{IsCallReady, ServesAlways};
-ghost use Rattle.monitor.specs.Readers.{readers_of};
-ghost use Rattle.monitor.specs.Rows.{IsRow, KeepsSides, KeepsReading, publishes_at};
-ghost use Rattle.monitor.specs.Sides.{readers_in, pins_of};
+ghost use Rattle.spec_machine.specs.Common.{slot};
+ghost use Rattle.spec_image.specs.Common.{times};
+ghost use Rattle.spec_machine.specs.declared.call.Call.TheVariants.{Releas};
+ghost use Rattle.spec_machine.specs.declared.call.Reply.TheVariants.{NoMemory, Device, Failed, Refused};
+ghost use Rattle.volume.specs.Common.{slot as version_at};
+ghost use Rattle.monitor.specs.Common.{OnlyDrops, IsDecided, IsCallReady, ServesAlways, readers_of, IsRow};
+ghost use Rattle.monitor.specs.Common.{KeepsSides, KeepsReading, publishes_at, readers_in, pins_of};
 
 use crate::close::{close_both, close_rings, closed_side};
 use crate::dropping::release_input;
 use crate::job::Job;
 use blockdisk::Disk;
-use meaning::Reply;
+use spec_machine::Reply;
 use std::alloc::Global;
 use volume::Volume;
 

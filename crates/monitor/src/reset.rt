@@ -1,22 +1,18 @@
 ghost use Rattle.std.specs.Prelude.{◌≡◌, ◌↔◌, ℕ, false, Some, None, slice_set, IsTrue, IsFalse};
-ghost use Rattle.meaning.specs.Jobs.{slot};
-ghost use Rattle.meaning.specs.Layouts.{layout_number, pack_in, pack_of};
-ghost use Rattle.meaning.specs.Runs.{Service, Answers};
-ghost use Rattle.meaning.specs.declared.call.Call.TheVariants.{Reset};
-ghost use Rattle.meaning.specs.declared.call.Event.TheVariants.{Call as Calls};
-ghost use Rattle.meaning.specs.declared.call.Reply.TheVariants.{Done, Failed};
-ghost use Rattle.monitor.specs.Dropping.{OnlyDrops};
-ghost use Rattle.monitor.specs.Replies.{reset_answer};
-ghost use Rattle.monitor.specs.Serving.{Serves, AreKeyed, ArePlaced, AreReading};
-ghost use Rattle.monitor.specs.Sides.{reset_job};
+ghost use Rattle.spec_machine.specs.Common.{slot, Service, Answers};
+ghost use Rattle.spec_image.specs.Common.{layout_number, pack_in, pack_of};
+ghost use Rattle.spec_machine.specs.declared.call.Call.TheVariants.{Reset};
+ghost use Rattle.spec_machine.specs.declared.call.Event.TheVariants.{Call as Calls};
+ghost use Rattle.spec_machine.specs.declared.call.Reply.TheVariants.{Done, Failed};
+ghost use Rattle.monitor.specs.Common.{OnlyDrops, reset_answer, Serves, AreKeyed, ArePlaced, AreReading, reset_job};
+ghost use Rattle.monitor.specs.Common.{IsCallReady, ServesAlways};
 ghost use Rattle.monitor.specs.declared.job.Job.{Job as JobRecord};
-ghost use Rattle.monitor.specs.Promises.{IsCallReady, ServesAlways};
 
 use crate::dropping::{close_channels, close_job};
 use crate::job::{Job, Jobs};
 use crate::monitor::Monitor;
 use blockdisk::Disk;
-use meaning::Reply;
+use spec_machine::Reply;
 use volume::Volume;
 use words36::Moment;
 

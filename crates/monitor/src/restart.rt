@@ -1,19 +1,12 @@
 ghost use Rattle.std.specs.Prelude.{◌≡◌, ◌⊎◌, ℕ, List, IsTrue, IfOk, IfErr};
-ghost use Rattle.blockdisk.specs.Disk.{Contents, MayLeave, LeavesOnly, Between, SameDisk, Still, one_more};
-ghost use Rattle.changeset.specs.Crashes.{IsRecovered};
-ghost use Rattle.meaning.specs.Crashes.{StandsForEither, RunsOn, may_change};
-ghost use Rattle.meaning.specs.Files.{File, Files};
-ghost use Rattle.meaning.specs.Jobs.{State};
-ghost use Rattle.meaning.specs.Layouts.{pack_of};
-ghost use Rattle.meaning.specs.Room.{Pack};
-ghost use Rattle.meaning.specs.Published.{without_serials};
-ghost use Rattle.meaning.specs.Runs.{Service, Serving};
-ghost use Rattle.meaning.specs.Stands.{Stands};
-ghost use Rattle.meaning.specs.Step.{step};
-ghost use Rattle.meaning.specs.declared.call.Event.{Event};
-ghost use Rattle.meaning.specs.declared.call.Reply.{Reply};
-ghost use Rattle.monitor.specs.Runs.{IsAlong, ServesFiles, HasStarted, AreStopped};
-ghost use Rattle.volume.specs.FaultsFound.{NamesInSpace, Refuses};
+ghost use Rattle.blockdisk.specs.Common.{Contents, MayLeave, LeavesOnly, Between, SameDisk, Still, one_more};
+ghost use Rattle.changeset.specs.Common.{IsRecovered};
+ghost use Rattle.spec_machine.specs.Common.{StandsForEither, RunsOn, may_change, State, Service, Serving, step};
+ghost use Rattle.spec_image.specs.Common.{File, Files, pack_of, Pack, without_serials, Stands};
+ghost use Rattle.spec_machine.specs.declared.call.Event.{Event};
+ghost use Rattle.spec_machine.specs.declared.call.Reply.{Reply};
+ghost use Rattle.monitor.specs.Common.{IsAlong, ServesFiles, HasStarted, AreStopped};
+ghost use Rattle.volume.specs.Common.{NamesInSpace, Refuses};
 ghost use Rattle.volume.specs.declared.error.VolumeError.TheVariants.{NoMemory, Device};
 
 use crate::StartError;

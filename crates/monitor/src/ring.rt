@@ -1,17 +1,15 @@
 ghost use Rattle.std.specs.Prelude.{◌≡◌, ℕ, List, Option, Some};
-ghost use Rattle.meaning.specs.Jobs.{slot};
-ghost use Rattle.meaning.specs.Opening.{sets_up};
-ghost use Rattle.meaning.specs.declared.call.Reply.TheVariants.{NoMemory, Failed, Device, Refused};
+ghost use Rattle.spec_machine.specs.Common.{slot, sets_up};
+ghost use Rattle.spec_machine.specs.declared.call.Reply.TheVariants.{NoMemory, Failed, Device, Refused};
 ghost use Rattle.volume.specs.declared.live.LiveVersion.{LiveVersion};
 ghost use Rattle.volume.specs.declared.pending.PendingVersion.{PendingVersion};
-ghost use Rattle.monitor.specs.Events.{IsDecided};
-ghost use Rattle.monitor.specs.Rows.{KeepsSides, KeepsReading};
-ghost use Rattle.monitor.specs.Sides.{UnderKeys, channel_of, job_of};
+ghost use Rattle.monitor.specs.Common.{IsDecided, KeepsSides, KeepsReading, UnderKeys, channel_of, job_of};
 
 use crate::channel::Channel;
 use crate::job::Job;
 use crate::status::cleared;
-use meaning::{ErrorCode, Reply};
+use spec_image::ErrorCode;
+use spec_machine::Reply;
 
 /// Sets up a ring of so many buffers, where 0 means 2, with the header at an address, for a channel of a job.
 pub fn set_up_ring(job: &mut Job, number: u32, channel: Channel, header: u32, count: u32) -> Reply

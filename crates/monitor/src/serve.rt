@@ -1,26 +1,20 @@
 ghost use Rattle.std.specs.Prelude.{◌≡◌, ◌⊎◌, ◌↔◌, ◌<◌, ◌≤◌, ℕ, List, Some, length, map, slice_set, true, false};
 ghost use Rattle.std.specs.Prelude.{IsTrue, IfOk, IsErr};
 ghost use Rattle.std.specs.List.{AllByRecursion};
-ghost use Rattle.blockdisk.specs.Disk.{SameDisk, LeavesOnly, one_more};
-ghost use Rattle.meaning.specs.Crashes.{StandsForEither, RunsOn};
-ghost use Rattle.meaning.specs.Jobs.{State, slot, job_at, Job as MachineJob};
-ghost use Rattle.meaning.specs.Layouts.{layout_number, pack_of};
-ghost use Rattle.meaning.specs.Runs.{Service, Serving, Answers};
-ghost use Rattle.meaning.specs.declared.call.Reply.TheVariants.{Refused, Device, Failed, DateRange};
-ghost use Rattle.meaning.specs.declared.call.Reply.TheVariants as replies;
-ghost use Rattle.monitor.specs.Moments.{RunsBy, HoldsStill, last_of, read_of};
-ghost use Rattle.monitor.specs.Runs.{TellsFault, FailsOnce};
-ghost use Rattle.meaning.specs.Step.{job_of, last_date};
-ghost use Rattle.monitor.specs.Serving.{Serves};
-ghost use Rattle.monitor.specs.Events.{IsIdle, IsDecided, OfCall, IsNoCall, IsLightEvent};
-ghost use Rattle.monitor.specs.Refusals.{IsRefused};
-ghost use Rattle.monitor.specs.Calls.{KeepsCore};
+ghost use Rattle.blockdisk.specs.Common.{SameDisk, LeavesOnly, one_more};
+ghost use Rattle.spec_machine.specs.Common.{StandsForEither, RunsOn, State, slot, job_at, Job as MachineJob, Service};
+ghost use Rattle.spec_machine.specs.Common.{Serving, Answers, job_of, last_date};
+ghost use Rattle.spec_image.specs.Common.{layout_number, pack_of};
+ghost use Rattle.spec_machine.specs.declared.call.Reply.TheVariants.{Refused, Device, Failed, DateRange};
+ghost use Rattle.monitor.specs.Common.{RunsBy, HoldsStill, last_of, read_of, TellsFault, FailsOnce, Serves, IsIdle};
+ghost use Rattle.monitor.specs.Common.{IsDecided, OfCall, IsNoCall, IsLightEvent, IsRefused, KeepsCore};
 ghost use Rattle.monitor.specs.declared.job.Job.{Job as JobRecord};
-ghost use Rattle.meaning.specs.declared.call.Call.TheVariants.{In};
+ghost use Rattle.spec_machine.specs.declared.call.Call.TheVariants.{In};
+ghost use Rattle.spec_machine.specs.declared.call.Reply.TheVariants as replies;
 
 use crate::monitor::Monitor;
 use blockdisk::{Disk, NoMemory};
-use meaning::{Event, Reply};
+use spec_machine::{Event, Reply};
 use std::alloc::Global;
 
 impl<D: Disk> Monitor<D> {

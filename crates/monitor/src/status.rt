@@ -1,13 +1,13 @@
 ghost use Rattle.std.specs.Prelude.{◌≡◌, ◌+◌, ◌<◌, ◌^◌, Some, slice_set};
-ghost use Rattle.meaning.specs.Jobs.{cleared};
-ghost use Rattle.meaning.specs.Codes.{number_of};
-ghost use Rattle.meaning.specs.Cores.{with_right};
-ghost use Rattle.meaning.specs.declared.call.Reply.TheVariants.{Stopped, Refused};
+ghost use Rattle.spec_machine.specs.Common.{cleared, with_right};
+ghost use Rattle.spec_image.specs.Common.{number_of};
+ghost use Rattle.spec_machine.specs.declared.call.Reply.TheVariants.{Stopped, Refused};
 
 use crate::channel::Channel;
 use crate::job::Job;
 use crate::open::word_at;
-use meaning::{ErrorCode, Reply};
+use spec_image::ErrorCode;
+use spec_machine::Reply;
 use usercore::Core;
 use words36::{Half, Word};
 

@@ -1,16 +1,16 @@
 ghost use Rattle.std.specs.Prelude.{◌≡◌, List, Option, ℕ};
-ghost use Rattle.meaning.specs.declared.call.Call.TheVariants.{Useto};
-ghost use Rattle.meaning.specs.declared.call.Reply.TheVariants.{NoMemory, Failed, Device, Refused};
+ghost use Rattle.spec_machine.specs.declared.call.Call.TheVariants.{Useto};
+ghost use Rattle.spec_machine.specs.declared.call.Reply.TheVariants.{NoMemory, Failed, Device, Refused};
 ghost use Rattle.volume.specs.declared.live.LiveVersion.{LiveVersion};
 ghost use Rattle.volume.specs.declared.pending.PendingVersion.{PendingVersion};
-ghost use Rattle.monitor.specs.Events.{IsDecided};
-ghost use Rattle.monitor.specs.Rows.{IsRow, KeepsSides, KeepsReading};
+ghost use Rattle.monitor.specs.Common.{IsDecided, IsRow, KeepsSides, KeepsReading};
 
 use crate::channel::Channel;
 use crate::job::Job;
 use crate::output::Output;
 use crate::status::{BLOCK_TOO_LARGE, cleared, stop};
-use meaning::{ErrorCode, Reply};
+use spec_image::ErrorCode;
+use spec_machine::Reply;
 
 /// USETO: names the block that a channel writes next, counted from 1.
 pub fn useto(job: &mut Job, number: u32, block: u32) -> Reply

@@ -1,20 +1,16 @@
 ghost use Rattle.std.specs.Prelude.{◌≡◌, ◌↔◌, ◌+◌, ◌<◌, ◌≤◌, ℕ, false, Some, IsSome, IfSome, IsFalse, IsTrue, length};
 ghost use Rattle.std.specs.Prelude.{slice_index, slice_set};
-ghost use Rattle.meaning.specs.Cores.{after_writes, placed};
-ghost use Rattle.meaning.specs.Jobs.{slot};
-ghost use Rattle.meaning.specs.Layouts.{pack_of};
-ghost use Rattle.meaning.specs.Runs.{Service, Answers};
-ghost use Rattle.meaning.specs.declared.call.Event.TheVariants.{Deposit, Examine};
-ghost use Rattle.meaning.specs.declared.call.Reply.TheVariants.{Done, Failed, Value};
-ghost use Rattle.monitor.specs.Deposits.{DepositsBy};
-ghost use Rattle.monitor.specs.Replies.{deposit_of, examine_of};
-ghost use Rattle.monitor.specs.Serving.{Serves};
+ghost use Rattle.spec_machine.specs.Common.{after_writes, placed, slot, Service, Answers};
+ghost use Rattle.spec_image.specs.Common.{pack_of};
+ghost use Rattle.spec_machine.specs.declared.call.Event.TheVariants.{Deposit, Examine};
+ghost use Rattle.spec_machine.specs.declared.call.Reply.TheVariants.{Done, Failed, Value};
+ghost use Rattle.monitor.specs.Common.{DepositsBy, deposit_of, examine_of, Serves};
 ghost use Rattle.monitor.specs.declared.job.Job.{Job as JobRecord};
 
 use crate::job::Jobs;
 use crate::monitor::Monitor;
 use blockdisk::Disk;
-use meaning::Reply;
+use spec_machine::Reply;
 use usercore::Area;
 use words36::Word;
 

@@ -1,6 +1,6 @@
 -- What a digit of a protection allows.
 use Rattle.std.specs.Prelude.{ℕ, Bool, ◌==◌, bit_and}
-use Rattle.meaning.specs.Rights.{acts_of, may_look, may_create}
+use Rattle.spec_machine.specs.Common.{acts_of, may_look, may_create}
 use Rattle.protect.specs.declared.rights.DirectoryAct.{DirectoryAct}
 use Rattle.protect.specs.declared.rights.DirectoryAct.TheVariants.{Look, Create}
 

@@ -14,5 +14,6 @@
 
 mod rights;
 
-pub use meaning::{Act, ErrorCode, IoStatus};
 pub use rights::{DirectoryAct, acts_are_nested, dir_right, right};
+pub use spec_image::ErrorCode;
+pub use spec_machine::{Act, IoStatus};

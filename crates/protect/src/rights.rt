@@ -1,11 +1,11 @@
 ghost use Rattle.std.specs.Prelude.{◌≡◌, ◌==◌, ℕ};
-ghost use Rattle.words36.specs.Words.{left};
-ghost use Rattle.meaning.specs.Rights.{system, digit, file_digit, directory_digit, may_execute, may_read, may_append};
-ghost use Rattle.meaning.specs.Rights.{may_update, may_supersede, may_rename, may_protect};
+ghost use Rattle.words36.specs.Common.{left};
+ghost use Rattle.spec_machine.specs.Common.{system, digit, file_digit, directory_digit, may_execute, may_read};
+ghost use Rattle.spec_machine.specs.Common.{may_append, may_update, may_supersede, may_rename, may_protect};
 ghost use Rattle.protect.specs.Allowing.{allows, allows_in};
 
 use bitflags::Flags;
-use meaning::Act;
+use spec_machine::Act;
 use words36::Ppn;
 
 /// What may be done in a directory.

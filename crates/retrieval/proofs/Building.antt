@@ -1,16 +1,14 @@
 -- Pointers that are put into a block one after the other.
-use Rattle.std.proofs.Common.{◌≡◌, ◌⊎◌, ⊎_elim, ℕ, min, zero, suc, ◌+◌, ◌-◌, ◌^◌, ◌<◌, ◌≤◌, List, [], ◌∷◌}
-use Rattle.std.proofs.Common.{◌++◌, map, length, get_or, take, drop, replicate, slice_set, refl, sym, ◌∙◌, ap, subst}
-use Rattle.std.proofs.Common.{arith}
+use Rattle.std.proofs.Common.{◌≡◌, ◌⊎◌, ⊎_elim, ℕ, min, zero, suc, ◌+◌, ◌-◌, ◌^◌, ◌<◌, ◌≤◌, List, [], ◌∷◌, ◌++◌, map}
+use Rattle.std.proofs.Common.{length, get_or, take, drop, replicate, slice_set, refl, sym, ◌∙◌, ap, subst, arith}
 use Rattle.std.proofs.Common.{append_assoc, length-append}
 use Rattle.std.specs.List.{AllByRecursion}
 use Rattle.std.proofs.lemmas.List.{map_more, take_all, take-append-drop, map-append, length-map, length-take-le}
 use Rattle.std.proofs.Math.Seq.{set-append_seam}
-use Rattle.meaning.specs.Retrieval.{Prime, Run, IsRun, run_blocks, pointer, prime_word, extension_word, attributes}
-use Rattle.meaning.specs.Retrieval.{prime_block}
-use Rattle.meaning.proofs.SlotLaws.{all_right}
-use Rattle.retrieval.specs.Heads.{prime_front}
-use Rattle.retrieval.specs.Runs.{pair_of, pairs_of, blocks_of_runs}
+use Rattle.spec_image.specs.Common.{Prime, Run, IsRun, run_blocks, pointer, prime_word, extension_word, prime_block}
+use Rattle.spec_image.specs.Retrieval.{attributes}
+use Rattle.spec_image.proofs.Common.{all_right}
+use Rattle.retrieval.specs.Common.{prime_front, pair_of, pairs_of, blocks_of_runs}
 use Rattle.retrieval.specs.declared.run.Run.{Run as RunValue}
 use Rattle.retrieval.proofs.RunLists.{length-count_up}
 

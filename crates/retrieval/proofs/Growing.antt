@@ -1,32 +1,26 @@
 -- A list of blocks that grows by free ones.
-use Rattle.std.proofs.Common.{◌≡◌, ⊎_elim, inl, inr, ℕ, ◌+◌, ◌-◌, ◌<◌, List, [], ◌∷◌, ◌++◌, length, max}
-use Rattle.std.proofs.Common.{refl, sym, ◌∙◌, ap, subst, arith, ◌≤◌}
+use Rattle.std.proofs.Common.{◌≡◌, ⊎_elim, inl, inr, ℕ, ◌+◌, ◌-◌, ◌<◌, List, [], ◌∷◌, ◌++◌, length, max, refl, sym}
+use Rattle.std.proofs.Common.{◌∙◌, ap, subst, arith, ◌≤◌}
 use Rattle.std.specs.Prelude.{slice_index}
 use Rattle.std.specs.List.{AllByRecursion}
 use Rattle.std.proofs.lemmas.Bool.{cases_eq, cases_lt}
 use Rattle.std.proofs.lemmas.Bool.Decides.{nat_tests}
 use Rattle.std.proofs.lemmas.List.{length-append, get_or_append_left}
-use Rattle.meaning.specs.Faults.{InSpace}
-use Rattle.meaning.specs.Maps.{times}
-use Rattle.meaning.specs.Splices.{length_after, block_start}
-use Rattle.meaning.proofs.MapSums.{times-append}
-use Rattle.meaning.proofs.Walking.{all_times}
-use Rattle.changeset.specs.PutLaws.{times_head, times_tail}
-use Rattle.alloctab.specs.TableState.{TableState, IsTable, bit, holds, with_held, uses}
-use Rattle.alloctab.specs.TableLaws.{sound-with_held}
-use Rattle.retrieval.specs.Bodies.{AddsFree, KeepsOwn}
-use Rattle.retrieval.specs.Writing.{Takes, GrowsBy, AreApart, IsFixed}
+use Rattle.spec_image.specs.Common.{InSpace, times, length_after, block_start}
+use Rattle.spec_image.proofs.Common.{times-append, all_times, all_append}
+use Rattle.changeset.specs.Common.{times_head, times_tail}
+use Rattle.alloctab.specs.Common.{TableState, IsTable, bit, holds, with_held, uses, sound-with_held}
+use Rattle.retrieval.specs.Common.{AddsFree, KeepsOwn, Takes, GrowsBy, AreApart, IsFixed}
 use Rattle.retrieval.proofs.Taking.{free_in_space, may_be_written, takes_none, takes_apart}
 use Rattle.retrieval.proofs.Holding.{holds_taken, uses-with_held}
 use Rattle.retrieval.proofs.Placed.{bits_same}
-use Rattle.meaning.proofs.SlotLaws.{all_append}
 
 -- what taking blocks does to a table
-takes_table : (t : TableState) (ns : List ℕ) (t' : TableState) → Takes t ns t' → t' ≡ record t { held = t'.held }
+pub takes_table : (t : TableState) (ns : List ℕ) (t' : TableState) → Takes t ns t' → t' ≡ record t { held = t'.held }
 takes_table t [] t' takes = subst (λ (u : TableState). u ≡ record t { held = u.held }) (sym takes) refl
 takes_table t (n ∷ ns) t' takes = takes_table (with_held t n (holds t n + 1)) ns t' takes.2
 
-takes_holds : (t : TableState) (ns : List ℕ) (t' : TableState) → IsTable t → Takes t ns t' → (m : ℕ)
+pub takes_holds : (t : TableState) (ns : List ℕ) (t' : TableState) → IsTable t → Takes t ns t' → (m : ℕ)
     → holds t' m ≡ holds t m + times m ns
 takes_holds t [] t' sound takes m = let e = ap (λ (u : TableState). holds u m) takes in omega arith
 takes_holds t (n ∷ ns) t' sound takes m =

@@ -1,22 +1,17 @@
 -- Blocks that are held once more or once less: how often they are held, and how many uses there are.
-use Rattle.std.proofs.Common.{◌≡◌, ⊎_elim, ℕ, zero, suc, ◌+◌, ◌-◌, ◌<◌, ◌≤◌, List, [], ◌∷◌, length, refl, sym, ◌∙◌, ap}
-use Rattle.std.proofs.Common.{subst, arith}
+use Rattle.std.proofs.Common.{◌≡◌, ⊎_elim, ℕ, zero, suc, ◌+◌, ◌-◌, ◌<◌, ◌≤◌, List, [], ◌∷◌, length, refl, sym, ◌∙◌}
+use Rattle.std.proofs.Common.{ap, subst, arith}
 use Rattle.std.specs.Prelude.{slice_index, slice_set}
 use Rattle.std.specs.List.{AllByRecursion}
 use Rattle.std.proofs.lemmas.Bool.{cases_eq}
 use Rattle.std.proofs.lemmas.Bool.Decides.{nat_tests}
 use Rattle.std.proofs.lemmas.List.{get_or-set_other}
 use Rattle.std.proofs.Math.ListN.{length-set}
-use Rattle.meaning.specs.Counts.{sum_below}
-use Rattle.meaning.specs.Faults.{InSpace}
-use Rattle.meaning.specs.Maps.{times}
-use Rattle.meaning.specs.Regions.{space_start}
-use Rattle.changeset.specs.PutLaws.{times_head, times_tail}
-use Rattle.alloctab.specs.TableState.{TableState, IsTable, IsFree, bit, holds, with_held, space, used, used_in_space}
-use Rattle.alloctab.specs.TableState.{uses}
-use Rattle.alloctab.specs.TableLaws.{holds-with_held_same, holds-with_held_other, sound-with_held, sum_but_one}
-use Rattle.retrieval.specs.Bodies.{IsOwn}
-use Rattle.retrieval.specs.Writing.{IsFixed}
+use Rattle.spec_image.specs.Common.{sum_below, InSpace, times, space_start}
+use Rattle.changeset.specs.Common.{times_head, times_tail}
+use Rattle.alloctab.specs.Common.{TableState, IsTable, IsFree, bit, holds, with_held, space, used, used_in_space}
+use Rattle.alloctab.specs.Common.{uses, holds-with_held_same, holds-with_held_other, sound-with_held, sum_but_one}
+use Rattle.retrieval.specs.Common.{IsOwn, IsFixed}
 use Rattle.retrieval.proofs.Taking.{free_in_space}
 use Rattle.retrieval.proofs.Parts.{all_at, times_at}
 

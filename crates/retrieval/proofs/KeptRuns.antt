@@ -1,7 +1,7 @@
 -- Runs as they are kept: one more behind, one found, one parted, all joined.
-use Rattle.std.proofs.Common.{◌≡◌, ℕ, zero, suc, Bool, ◌+◌, ◌-◌, ◌<◌, ◌≤◌, ◌==◌, if◌then◌else◌, List, [], ◌∷◌}
-use Rattle.std.proofs.Common.{◌++◌, length, get_or, take, drop, flat_map, slice_set, Some, Option, refl, sym, ⊎_elim}
-use Rattle.std.proofs.Common.{◌∙◌, ap, subst, arith, append_assoc, length-append, append-nil}
+use Rattle.std.proofs.Common.{◌≡◌, ℕ, zero, suc, Bool, ◌+◌, ◌-◌, ◌<◌, ◌≤◌, ◌==◌, if◌then◌else◌, List, [], ◌∷◌, ◌++◌}
+use Rattle.std.proofs.Common.{length, get_or, take, drop, flat_map, slice_set, Some, Option, refl, sym, ⊎_elim, ◌∙◌}
+use Rattle.std.proofs.Common.{ap, subst, arith, append_assoc, length-append, append-nil}
 use Rattle.std.specs.Prelude.{slice_get, slice_index, IfSome}
 use Rattle.std.proofs.lemmas.Bool.{eq-eqb, ne_eqb}
 use Rattle.std.proofs.lemmas.List.{map_more, map_push, map-append, take-append-drop, take_more_set, set_split}
@@ -9,12 +9,12 @@ use Rattle.std.proofs.lemmas.List.{drop_more, take_at, drop_at, length-take-le, 
 use Rattle.std.proofs.lemmas.List.{drop-drop, take_all, get_or_default}
 use Rattle.std.proofs.lemmas.Option.{slice_get_read, get_or_from_slice_get}
 use Rattle.std.proofs.lemmas.Grind.{flat_map-append}
-use Rattle.meaning.specs.Retrieval.{Run, run_blocks, count_up}
-use Rattle.retrieval.specs.Runs.{pair_of, pairs_of, blocks_of_runs, IsAtOffset, behind, longest_runs}
+use Rattle.spec_image.specs.Common.{Run, run_blocks, count_up}
+use Rattle.retrieval.specs.Common.{pair_of, pairs_of, blocks_of_runs, IsAtOffset, behind, longest_runs}
 use Rattle.retrieval.specs.declared.run.Run.{Run as RunValue}
 use Rattle.retrieval.proofs.RunLists.{length-count_up}
 use Rattle.retrieval.proofs.LongestRuns.{longest_behind, behind_last, blocks_of_longest, NoneAdjoins, longest_apart}
-use Rattle.meaning.proofs.SpliceLaws.{below_or_not}
+use Rattle.spec_image.proofs.Common.{below_or_not}
 
 -- A run behind the first so many.
 

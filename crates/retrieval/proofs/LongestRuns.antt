@@ -2,8 +2,8 @@
 use Rattle.std.proofs.Common.{◌≡◌, ℕ, zero, suc, Bool, true, false, ◌+◌, ◌≤◌, ◌==◌, if◌then◌else◌, List, [], ◌∷◌}
 use Rattle.std.proofs.Common.{◌++◌, length, flat_map, refl, sym, ◌∙◌, ap, arith}
 use Rattle.std.proofs.lemmas.Bool.{eqb-true, eqb-false, eq-eqb, ne_eqb}
-use Rattle.meaning.specs.Retrieval.{Run, run_blocks, count_up}
-use Rattle.retrieval.specs.Runs.{in_front, longest_runs, behind}
+use Rattle.spec_image.specs.Common.{Run, run_blocks, count_up}
+use Rattle.retrieval.specs.Common.{in_front, longest_runs, behind}
 
 -- A block in front.
 

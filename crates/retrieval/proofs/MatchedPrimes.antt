@@ -1,13 +1,9 @@
 -- A prime block beside what core has of its version.
 use Rattle.std.proofs.Common.{◌≡◌, ℕ, ◌+◌, ◌*◌, ◌/◌, ◌%◌, ◌^◌, ◌<◌, ◌≤◌, List, sym, ◌∙◌, subst, arith}
-use Rattle.words36.specs.Words.{IsPpn}
-use Rattle.meaning.specs.Blocks.{head_or_zero}
-use Rattle.meaning.specs.Retrieval.{Run, IsMode, prime_block, attributes, date_limit}
-use Rattle.retrieval.specs.Modes.{mode_number}
-use Rattle.retrieval.specs.PrimeWords.{IsPrimeOf}
-use Rattle.retrieval.specs.Primes.{with_length, IsRewritten}
-use Rattle.retrieval.specs.Spelling.{SpellsPrime}
-use Rattle.retrieval.specs.Versions.{VersionState}
+use Rattle.words36.specs.Common.{IsPpn}
+use Rattle.spec_image.specs.Common.{head_or_zero, Run, IsMode, prime_block, date_limit}
+use Rattle.spec_image.specs.Retrieval.{attributes}
+use Rattle.retrieval.specs.Common.{mode_number, IsPrimeOf, with_length, IsRewritten, SpellsPrime, VersionState}
 use Rattle.retrieval.specs.declared.prime.Prime.{Prime as PrimeValue}
 
 -- A prime block has one length and one first extension,

@@ -6,11 +6,10 @@ use Rattle.std.specs.Simd.{first_chunks}
 use Rattle.std.proofs.lemmas.Bool.{cases_eq, cases_lt}
 use Rattle.std.proofs.lemmas.List.{get_or-set_same, get_or-set_other, length-set, get_or-take, get_or-drop, drop-drop}
 use Rattle.std.proofs.lemmas.List.{length-take, length-drop}
-use Rattle.blockdisk.specs.Disk.{Contents, DiskState, HoldRun, IsInRun, Modifies, Writes}
-use Rattle.blockdisk.specs.Laws.{modifies_on, modifies_wider, writes_modifies}
-use Rattle.meaning.specs.Costs.{blocks_of}
-use Rattle.meaning.specs.Maps.{times}
-use Rattle.retrieval.specs.Placing.{StandAlone, AtPlace, IsNewBlock, HoldsNew}
+use Rattle.blockdisk.specs.Common.{Contents, DiskState, HoldRun, IsInRun, Modifies, Writes, modifies_on}
+use Rattle.blockdisk.specs.Common.{modifies_wider, writes_modifies}
+use Rattle.spec_image.specs.Common.{blocks_of, times}
+use Rattle.retrieval.specs.Common.{StandAlone, AtPlace, IsNewBlock, HoldsNew}
 use Rattle.retrieval.proofs.Holding.{alone_at}
 
 -- One place more whose block is the version's own.

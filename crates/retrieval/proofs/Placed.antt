@@ -1,16 +1,14 @@
 -- Blocks that are written one after the other, each to a place of its own.
-use Rattle.std.proofs.Common.{◌≡◌, ◌⊎◌, ⊎_elim, inl, inr, ℕ, zero, suc, ◌+◌, ◌<◌, ◌≤◌, List, [], ◌∷◌, length}
-use Rattle.std.proofs.Common.{sym, ◌∙◌, ap, subst, arith}
+use Rattle.std.proofs.Common.{◌≡◌, ◌⊎◌, ⊎_elim, inl, inr, ℕ, zero, suc, ◌+◌, ◌<◌, ◌≤◌, List, [], ◌∷◌, length, sym}
+use Rattle.std.proofs.Common.{◌∙◌, ap, subst, arith}
 use Rattle.std.specs.Prelude.{slice_index, slice_set}
 use Rattle.std.specs.List.{AllByRecursion}
 use Rattle.std.proofs.lemmas.Bool.{cases_eq, cases_lt}
 use Rattle.std.proofs.lemmas.List.{get_or-set_same, get_or-set_other}
-use Rattle.meaning.specs.Faults.{InSpace}
-use Rattle.meaning.specs.Maps.{times}
-use Rattle.changeset.specs.PutLaws.{times_tail}
-use Rattle.alloctab.specs.TableState.{TableState, IsFree, bit, holds, space}
-use Rattle.retrieval.specs.Bodies.{IsOwn, AddsClear, AddsFree, KeepsOwn}
-use Rattle.retrieval.specs.Writing.{IsFixed}
+use Rattle.spec_image.specs.Common.{InSpace, times}
+use Rattle.changeset.specs.Common.{times_tail}
+use Rattle.alloctab.specs.Common.{TableState, IsFree, bit, holds, space}
+use Rattle.retrieval.specs.Common.{IsOwn, AddsClear, AddsFree, KeepsOwn, IsFixed}
 use Rattle.retrieval.proofs.Holding.{times_set}
 use Rattle.retrieval.proofs.Parts.{times_at}
 

@@ -1,10 +1,10 @@
 -- Pointers as loops go over them: the first i of them, and one more.
-use Rattle.std.proofs.Common.{◌≡◌, ℕ, zero, suc, ◌+◌, ◌<◌, List, [], ◌∷◌, length, get_or, take, replicate, sym, ◌∙◌, ap}
-use Rattle.std.proofs.Common.{subst, arith}
+use Rattle.std.proofs.Common.{◌≡◌, ℕ, zero, suc, ◌+◌, ◌<◌, List, [], ◌∷◌, length, get_or, take, replicate, sym, ◌∙◌}
+use Rattle.std.proofs.Common.{ap, subst, arith}
 use Rattle.std.specs.List.{AllByRecursion}
 use Rattle.std.proofs.lemmas.List.{get_or-replicate}
-use Rattle.meaning.specs.Retrieval.{IsRun}
-use Rattle.retrieval.specs.Pointers.{run_of, runs_of}
+use Rattle.spec_image.specs.Common.{IsRun}
+use Rattle.retrieval.specs.Common.{run_of, runs_of}
 
 -- one more word is a pointer
 pub runs_more : (words : List ℕ) (i word : ℕ) → i < length words → word ≡ get_or words i word

@@ -3,13 +3,10 @@
 use Rattle.std.proofs.Common.{◌≡◌, ◌⊎◌, ⊎_elim, inl, inr, ℕ, ◌+◌, ◌-◌, ◌*◌, ◌/◌, ◌<◌, ◌≤◌, List, Option, length, min}
 use Rattle.std.proofs.Common.{max, sym, ◌∙◌, ap, subst, arith}
 use Rattle.std.specs.Prelude.{slice_index, IfSome}
-use Rattle.blockdisk.specs.Disk.{Contents}
-use Rattle.meaning.specs.Costs.{blocks_of}
-use Rattle.meaning.specs.Retrieval.{HasBody}
-use Rattle.meaning.specs.Splices.{splice, length_after, block_start}
-use Rattle.meaning.proofs.SpliceLaws.{length-splice, splice-outside, splice-inside, below_or_not}
-use Rattle.retrieval.specs.Bodies.{AreWhole}
-use Rattle.retrieval.specs.Placing.{Stays, IsPartlyPlaced}
+use Rattle.blockdisk.specs.Common.{Contents}
+use Rattle.spec_image.specs.Common.{blocks_of, HasBody, splice, length_after, block_start}
+use Rattle.spec_image.proofs.Common.{length-splice, splice-outside, splice-inside, below_or_not}
+use Rattle.retrieval.specs.Common.{AreWhole, Stays, IsPartlyPlaced}
 use Rattle.retrieval.proofs.Growing.{after_some}
 use Rattle.retrieval.proofs.Parts.{HoldsPart, part_of, body_of, all_at, all_indexed}
 

@@ -1,27 +1,18 @@
 -- A version as it is read, block by block: what was read so far, and what a stop there says of the disk.
-use Rattle.std.proofs.Common.{◌≡◌, ℕ, zero, suc, ◌-◌, ◌<◌, ◌≤◌, List, [], ◌∷◌, ◌++◌, length, flat_map, Some, None, refl}
-use Rattle.std.proofs.Common.{sym, ◌∙◌, ap, subst, arith, append_assoc, append-nil, length-append}
+use Rattle.std.proofs.Common.{◌≡◌, ℕ, zero, suc, ◌-◌, ◌<◌, ◌≤◌, List, [], ◌∷◌, ◌++◌, length, flat_map, Some, None}
+use Rattle.std.proofs.Common.{refl, sym, ◌∙◌, ap, subst, arith, append_assoc, append-nil, length-append}
 use Rattle.std.specs.List.{AllByRecursion}
 use Rattle.std.proofs.lemmas.Bool.Decides.{nat_tests}
 use Rattle.std.proofs.lemmas.List.{map-append}
-use Rattle.blockdisk.specs.Disk.{Contents, DiskState, MayLeave, Keeps}
-use Rattle.blockdisk.specs.Laws.{passes_start}
-use Rattle.meaning.specs.Maps.{times}
-use Rattle.meaning.specs.Costs.{blocks_of}
-use Rattle.meaning.specs.Retrieval.{Prime, Run, IsRun, run_blocks, Extension, all_runs, extension_numbers}
-use Rattle.meaning.specs.Retrieval.{first_extension, extension_block, prime_block, AreExtensions}
-use Rattle.meaning.specs.Walks.{LeadsOn, IsPrimeRead}
-use Rattle.meaning.specs.Faults.{InSpace, RunsInSpace, IsBadVersion}
-use Rattle.meaning.proofs.ExcludedFiles.{no_bad_version}
-use Rattle.meaning.proofs.MapLaws.{some_same, some_none}
-use Rattle.meaning.proofs.Walking.{flat-append, all_runs-append}
-use Rattle.retrieval.specs.Primes.{with_length}
-use Rattle.retrieval.specs.Spelling.{SpellsPrime, SpellsExtension}
-use Rattle.retrieval.specs.Versions.{VersionState}
-use Rattle.retrieval.specs.Reading.{IsBadPrime, IsBadExtension, Overfills, IsStarted, Extends, Follows, IsReadTo}
-use Rattle.retrieval.specs.Reading.{IsVersionAt, IsStandingVersion}
+use Rattle.blockdisk.specs.Common.{Contents, DiskState, MayLeave, Keeps, passes_start}
+use Rattle.spec_image.specs.Common.{times, blocks_of, Prime, Run, IsRun, run_blocks, Extension, all_runs}
+use Rattle.spec_image.specs.Common.{extension_numbers, first_extension, extension_block, prime_block, AreExtensions}
+use Rattle.spec_image.specs.Common.{LeadsOn, IsPrimeRead, InSpace, RunsInSpace, IsBadVersion}
+use Rattle.spec_image.proofs.Common.{no_bad_version, some_same, some_none, flat-append, all_runs-append, all_append}
+use Rattle.retrieval.specs.Common.{with_length, SpellsPrime, SpellsExtension, VersionState, IsBadPrime}
+use Rattle.retrieval.specs.Common.{IsBadExtension, Overfills, IsStarted, Extends, Follows, IsReadTo, IsVersionAt}
+use Rattle.retrieval.specs.Common.{IsStandingVersion}
 use Rattle.retrieval.specs.declared.prime.Prime.{Prime as PrimeValue}
-use Rattle.meaning.proofs.SlotLaws.{all_append}
 use Rattle.alloctab.proofs.SpaceLaws.{in_space_some}
 
 -- The disk is read and not written.
@@ -128,7 +119,7 @@ module _ (size : ℕ) (c : Contents) where
 zero_behind : (n : ℕ) (ns : List ℕ) → times 0 (suc n ∷ ns) ≡ times 0 ns
 zero_behind n ns = grind (arith, nat_tests)
 
-none_zero : (size : ℕ) (ns : List ℕ) → AllByRecursion (InSpace size) ns → times 0 ns ≡ 0
+pub none_zero : (size : ℕ) (ns : List ℕ) → AllByRecursion (InSpace size) ns → times 0 ns ≡ 0
 none_zero size [] all = refl
 none_zero size (zero ∷ ns) all = absurd (let f = in_space_some size zero all.0 in omega arith)
 none_zero size (suc n ∷ ns) all = zero_behind n ns ∙ none_zero size ns all.1

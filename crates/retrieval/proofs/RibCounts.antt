@@ -1,24 +1,10 @@
 -- How many extensions a version has: each but the last is full, so that no more are read than its blocks ask for.
 use Rattle.std.proofs.Common.{ℕ, ◌+◌, ◌*◌, ◌<◌, ◌≤◌, List, [], ◌∷◌, length, flat_map, ap, ◌∙◌, arith, length-append}
-use Rattle.std.specs.List.{AllByRecursion}
-use Rattle.meaning.specs.Retrieval.{Run, IsRun, run_blocks}
-use Rattle.retrieval.specs.Reading.{IsStarted, Extends}
-use Rattle.retrieval.specs.Runs.{ribs_of}
-use Rattle.retrieval.specs.Versions.{VersionState}
-use Rattle.retrieval.specs.Writing.{rib_count}
+use Rattle.spec_image.specs.Common.{run_blocks}
+use Rattle.retrieval.specs.Common.{IsStarted, Extends, ribs_of, VersionState, rib_count}
 use Rattle.retrieval.specs.declared.prime.Prime.{Prime}
-use Rattle.retrieval.proofs.RunLists.{length-count_up}
 use Rattle.retrieval.proofs.LongestRuns.{longest_few}
-
--- each run has a block at least
-runs-le : (runs : List Run) → AllByRecursion IsRun runs → length runs ≤ length (flat_map run_blocks runs)
-runs-le [] are = omega arith
-runs-le (run ∷ runs) are =
-    let all = length-append (run_blocks run) (flat_map run_blocks runs) in
-    let rest = runs-le runs are.1 in
-    let here = length-count_up run.0 run.1 in
-    let some = are.0.0 in
-    omega arith
+use Rattle.spec_image.proofs.Common.{runs-le}
 
 -- The last of so many extensions has a block at least, and where another follows all are full.
 pub record AreFilled (ribs blocks next : ℕ) : Type 0 where

@@ -1,15 +1,16 @@
 -- How many blocks there are up to the end of each run.
 use Rattle.std.proofs.Common.{◌≡◌, ℕ, zero, suc, ◌+◌, ◌-◌, ◌<◌, ◌≤◌, ◌==◌, true, false, Bool, if◌then◌else◌, List, []}
-use Rattle.std.proofs.Common.{Result, Ok, Err, OnOk, OnErr, ◌∷◌, ◌++◌, length}
-use Rattle.std.proofs.Common.{get_or, take, flat_map, slice_set, refl, sym, ◌∙◌, ap, subst, arith, length-append}
+use Rattle.std.proofs.Common.{Result, Ok, Err, OnOk, OnErr, ◌∷◌, ◌++◌, length, get_or, take, flat_map, slice_set}
+use Rattle.std.proofs.Common.{refl, sym, ◌∙◌, ap, subst, arith, length-append}
 use Rattle.std.proofs.lemmas.Bool.{leb-true, leb-false}
 use Rattle.std.proofs.lemmas.List.{take_all, take_more_set, length-set, length-map, map_push, map_more, get_or-map}
 use Rattle.std.proofs.lemmas.List.Folds.{length-flat_map-take}
 use Rattle.std.specs.Prelude.{leb, slice_index}
 use Rattle.std.specs.List.{take-map}
 use Rattle.std.specs.List.Sorted.{IsNonDecreasing, IsPartitionPoint}
-use Rattle.meaning.specs.Retrieval.{Run, run_blocks}
-use Rattle.retrieval.specs.Runs.{pair_of, pairs_of, blocks_of_runs, IsAtOffset, AreKept, behind, longest_runs, ends_of}
+use Rattle.spec_image.specs.Common.{Run, run_blocks}
+use Rattle.retrieval.specs.Common.{pair_of, pairs_of, blocks_of_runs, IsAtOffset, AreKept, behind, longest_runs}
+use Rattle.retrieval.specs.Common.{ends_of}
 use Rattle.retrieval.specs.declared.run.Run.{Run as RunValue}
 use Rattle.retrieval.proofs.RunLists.{length-count_up}
 use Rattle.retrieval.proofs.KeptRuns.{found, length_more, pushed}

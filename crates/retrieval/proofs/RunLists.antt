@@ -4,12 +4,9 @@ use Rattle.std.proofs.Common.{flat_map, refl, sym, ◌∙◌, ap, subst, arith, 
 use Rattle.std.specs.List.{AllByRecursion}
 use Rattle.std.proofs.lemmas.List.{take_more, take-append-drop, map-append}
 use Rattle.std.proofs.lemmas.Grind.{flat_map-append}
-use Rattle.meaning.specs.Regions.{space_start}
-use Rattle.meaning.specs.Retrieval.{count_up, run_blocks}
-use Rattle.meaning.specs.Faults.{InSpace, RunsInSpace}
-use Rattle.retrieval.specs.Pointers.{run_of, runs_of}
-use Rattle.retrieval.specs.Versions.{VersionState, with_blocks}
-use Rattle.meaning.proofs.SlotLaws.{all_append, all_right, all_left}
+use Rattle.spec_image.specs.Common.{space_start, count_up, run_blocks, InSpace, RunsInSpace}
+use Rattle.retrieval.specs.Common.{run_of, runs_of, VersionState, with_blocks}
+use Rattle.spec_image.proofs.Common.{all_append, all_right, all_left}
 
 pub length-count_up : (count first : ℕ) → length (count_up count first) ≡ count
 length-count_up zero first = refl

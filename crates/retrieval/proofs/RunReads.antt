@@ -1,14 +1,14 @@
 -- Neighbouring blocks whose words are put behind others, and the words of a body that these are.
-use Rattle.std.proofs.Common.{◌≡◌, ⊎_elim, ℕ, ◌+◌, ◌-◌, ◌*◌, ◌/◌, ◌%◌, ◌<◌, ◌≤◌, List, [], ◌++◌}
-use Rattle.std.proofs.Common.{Some, None, length, min, get_or, take, refl, sym, ap, ◌∙◌, arith}
+use Rattle.std.proofs.Common.{◌≡◌, ⊎_elim, ℕ, ◌+◌, ◌-◌, ◌*◌, ◌/◌, ◌%◌, ◌<◌, ◌≤◌, List, [], ◌++◌, Some, None, length}
+use Rattle.std.proofs.Common.{min, get_or, take, refl, sym, ap, ◌∙◌, arith}
 use Rattle.std.specs.Prelude.{slice_index}
 use Rattle.std.proofs.lemmas.Bool.{cases_eq, cases_lt}
 use Rattle.std.proofs.lemmas.List.{length-append, length-take, get_or-take, get_or_append_left, get_or-append_right}
 use Rattle.std.proofs.lemmas.List.{get_or_read}
-use Rattle.blockdisk.specs.Disk.{Contents}
-use Rattle.meaning.specs.Retrieval.{HasBody}
-use Rattle.meaning.proofs.MapLaws.{some_none}
-use Rattle.retrieval.specs.Bodies.{AreWhole, StandsAt}
+use Rattle.blockdisk.specs.Common.{Contents}
+use Rattle.spec_image.specs.Common.{HasBody}
+use Rattle.spec_image.proofs.Common.{some_none}
+use Rattle.retrieval.specs.Common.{AreWhole, StandsAt}
 use Rattle.retrieval.proofs.Parts.{part_of}
 
 -- One block more is put behind.

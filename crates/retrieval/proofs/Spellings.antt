@@ -1,16 +1,16 @@
 -- What the first words and the pointers of a block say together.
 use Rattle.std.proofs.Common.{◌≡◌, ℕ, ◌+◌, ◌-◌, ◌/◌, ◌%◌, ◌^◌, ◌<◌, ◌≤◌, Option, None, List, [], ◌∷◌, ◌++◌, map}
-use Rattle.std.proofs.Common.{length, get_or, take, drop, replicate, refl, sym, ◌∙◌, ap, subst, arith}
-use Rattle.std.proofs.Common.{length-append, length-drop}
+use Rattle.std.proofs.Common.{length, get_or, take, drop, replicate, refl, sym, ◌∙◌, ap, subst, arith, length-append}
+use Rattle.std.proofs.Common.{length-drop}
 use Rattle.std.specs.Prelude.{IfNone}
 use Rattle.std.specs.List.{AllByRecursion}
 use Rattle.std.proofs.lemmas.List.{take-append-drop, take_all, length-map, length-take-le, length-replicate}
 use Rattle.std.proofs.Math.Seq.{take-append_seam, drop-append_seam}
-use Rattle.words36.specs.Words.{join}
-use Rattle.meaning.specs.Retrieval.{Prime, Run, IsRun, pointer, extension_word, attributes, extension_half}
-use Rattle.retrieval.specs.Pointers.{run_of, runs_of, ArePointers}
-use Rattle.retrieval.specs.Heads.{IsPrimeHead, IsExtensionHead}
-use Rattle.retrieval.specs.Spelling.{SpellsPrime, SpellsExtension}
+use Rattle.words36.specs.Common.{join}
+use Rattle.spec_image.specs.Common.{Prime, Run, IsRun, pointer, extension_word, extension_half}
+use Rattle.spec_image.specs.Retrieval.{attributes}
+use Rattle.retrieval.specs.Common.{run_of, runs_of, ArePointers, IsPrimeHead, IsExtensionHead, SpellsPrime}
+use Rattle.retrieval.specs.Common.{SpellsExtension}
 
 pointer_back : (word : ℕ) → pointer (run_of word) ≡ word
 pointer_back word = omega arith

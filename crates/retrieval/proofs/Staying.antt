@@ -1,18 +1,16 @@
 -- The words of a body that stay in the blocks that are written.
-use Rattle.std.proofs.Common.{◌≡◌, ◌⊎◌, ⊎_elim, inl, inr, ℕ, ◌+◌, ◌-◌, ◌*◌, ◌/◌, ◌%◌, ◌<◌, ◌≤◌, List, ◌++◌, Some, None}
-use Rattle.std.proofs.Common.{length, min, take, drop, replicate, refl, sym, ◌∙◌, ap, subst, arith}
+use Rattle.std.proofs.Common.{◌≡◌, ◌⊎◌, ⊎_elim, inl, inr, ℕ, ◌+◌, ◌-◌, ◌*◌, ◌/◌, ◌%◌, ◌<◌, ◌≤◌, List, ◌++◌, Some}
+use Rattle.std.proofs.Common.{None, length, min, take, drop, replicate, refl, sym, ◌∙◌, ap, subst, arith}
 use Rattle.std.specs.Prelude.{slice_index, Bool, true, false, if◌then◌else◌, ◌==◌}
 use Rattle.std.proofs.lemmas.Bool.{cases_eq}
 use Rattle.std.proofs.lemmas.List.{length-take, get_or-take, get_or-drop, get_or-replicate, get_or_past}
 use Rattle.std.proofs.lemmas.List.{get_or_append_left, get_or-append_right}
-use Rattle.blockdisk.specs.Disk.{Contents}
-use Rattle.meaning.specs.Costs.{blocks_of}
-use Rattle.meaning.specs.Retrieval.{HasBody}
-use Rattle.retrieval.specs.Bodies.{AreWhole}
-use Rattle.retrieval.specs.Placing.{kept_word, IsEdge, IsEdgeBlock, Stays}
+use Rattle.blockdisk.specs.Common.{Contents}
+use Rattle.spec_image.specs.Common.{blocks_of, HasBody}
+use Rattle.retrieval.specs.Common.{AreWhole, kept_word, IsEdge, IsEdgeBlock, Stays}
 use Rattle.retrieval.proofs.NewBlocks.{same_block, other_block}
 use Rattle.retrieval.proofs.Parts.{HoldsPart, part_of}
-use Rattle.meaning.proofs.SpliceLaws.{below_or_not}
+use Rattle.spec_image.proofs.Common.{below_or_not}
 
 either : (b : Bool) (x : ℕ) → x ≡ 0 → (if b then x else 0) ≡ 0
 either true x is = is

@@ -1,10 +1,8 @@
 -- What is wrong with a block at which a reader stops.
 use Rattle.std.proofs.Common.{◌≡◌, ⊎_elim, ℕ, ◌<◌, List, length}
 use Rattle.std.proofs.lemmas.Bool.{cases_eq}
-use Rattle.meaning.specs.Retrieval.{Prime, Run}
-use Rattle.meaning.specs.Faults.{InSpace}
-use Rattle.retrieval.specs.Spelling.{SpellsPrime, SpellsExtension}
-use Rattle.retrieval.specs.Reading.{IsBadPrime, IsBadExtension}
+use Rattle.spec_image.specs.Common.{Prime, Run, InSpace}
+use Rattle.retrieval.specs.Common.{SpellsPrime, SpellsExtension, IsBadPrime, IsBadExtension}
 
 pub prime_stuck : (size layout : ℕ) (words : List ℕ) (p : Prime) (runs : List Run) (next : ℕ)
     → SpellsPrime layout words p runs next → 0 < next → (length runs ≡ 112 → InSpace size next → ⊥)

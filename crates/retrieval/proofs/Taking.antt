@@ -3,14 +3,12 @@ use Rattle.std.proofs.Common.{◌≡◌, ◌⊎◌, ⊎_elim, inl, inr, ℕ, zer
 use Rattle.std.proofs.Common.{length, refl, sym, ◌∙◌, ap, subst, arith}
 use Rattle.std.specs.List.{AllByRecursion}
 use Rattle.std.proofs.lemmas.Bool.{cases_eq}
-use Rattle.meaning.specs.Maps.{times}
-use Rattle.meaning.specs.Regions.{space_start}
-use Rattle.meaning.specs.Faults.{InSpace}
-use Rattle.changeset.specs.PutLaws.{times_tail}
-use Rattle.alloctab.specs.TableState.{TableState, IsTable, IsFree, holds, with_held, space, used_in_space}
-use Rattle.alloctab.specs.TableLaws.{holds-with_held_same, holds-with_held_other, sound-with_held}
-use Rattle.alloctab.specs.TableLaws.{used_in_space-with_held, used-free, used-not_free}
-use Rattle.retrieval.specs.Writing.{Takes, AreApart, IsFixed}
+use Rattle.spec_image.specs.Common.{times, space_start, InSpace}
+use Rattle.changeset.specs.Common.{times_tail}
+use Rattle.alloctab.specs.Common.{TableState, IsTable, IsFree, holds, with_held, space, used_in_space}
+use Rattle.alloctab.specs.Common.{holds-with_held_same, holds-with_held_other, sound-with_held}
+use Rattle.alloctab.specs.Common.{used_in_space-with_held, used-free, used-not_free}
+use Rattle.retrieval.specs.Common.{Takes, AreApart, IsFixed}
 
 abbrev taken : TableState → ℕ → TableState
 taken t n = with_held t n (holds t n + 1)

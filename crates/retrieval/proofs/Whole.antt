@@ -3,18 +3,12 @@ use Rattle.std.proofs.Common.{◌≡◌, ◌⊎◌, ⊎_elim, inl, inr, ℕ, zer
 use Rattle.std.proofs.Common.{arith}
 use Rattle.std.specs.List.{AllByRecursion}
 use Rattle.std.proofs.lemmas.Bool.{cases_eq}
-use Rattle.words36.specs.Words.{IsPpn}
-use Rattle.blockdisk.specs.Disk.{Contents}
-use Rattle.meaning.specs.Maps.{times}
-use Rattle.meaning.specs.Faults.{InSpace}
-use Rattle.meaning.specs.Retrieval.{Prime, first_extension, prime_block, IsRetrieved}
-use Rattle.meaning.proofs.MapLaws.{some_same}
-use Rattle.meaning.proofs.MapSums.{times-append}
-use Rattle.meaning.proofs.Versions.{prime_ext_same, retrieved_same}
-use Rattle.changeset.specs.PutLaws.{times_tail}
-use Rattle.retrieval.specs.Primes.{with_length}
-use Rattle.retrieval.specs.Versions.{VersionState}
-use Rattle.retrieval.specs.Reading.{IsVersionAt, IsReadAs, IsStandingVersion}
+use Rattle.words36.specs.Common.{IsPpn}
+use Rattle.blockdisk.specs.Common.{Contents}
+use Rattle.spec_image.specs.Common.{times, InSpace, Prime, first_extension, prime_block, IsRetrieved}
+use Rattle.spec_image.proofs.Common.{some_same, times-append, prime_ext_same, retrieved_same}
+use Rattle.changeset.specs.Common.{times_tail}
+use Rattle.retrieval.specs.Common.{with_length, VersionState, IsVersionAt, IsReadAs, IsStandingVersion}
 use Rattle.retrieval.specs.declared.prime.Prime.{Prime as PrimeValue}
 
 -- what all have, each that stands in the list has

@@ -1,20 +1,17 @@
 -- Extensions that are written, and blocks that are taken for them.
-use Rattle.std.proofs.Common.{inl, inr, ◌≡◌, ℕ, zero, suc, ◌+◌, ◌-◌, ◌/◌, ◌<◌, ◌≤◌, List, [], ◌∷◌, ◌++◌, min}
-use Rattle.std.proofs.Common.{length, take, drop, flat_map, Some, Result, Ok, Err, OnOk}
-use Rattle.std.proofs.Common.{refl, sym, ◌∙◌, ap, subst, arith, length-drop}
+use Rattle.std.proofs.Common.{inl, inr, ◌≡◌, ℕ, zero, suc, ◌+◌, ◌-◌, ◌/◌, ◌<◌, ◌≤◌, List, [], ◌∷◌, ◌++◌, min, length}
+use Rattle.std.proofs.Common.{take, drop, flat_map, Some, Result, Ok, Err, OnOk, refl, sym, ◌∙◌, ap, subst, arith}
+use Rattle.std.proofs.Common.{length-drop}
 use Rattle.std.specs.List.{AllByRecursion}
 use Rattle.std.proofs.lemmas.List.{take_all, take-append-drop, length-take-le}
-use Rattle.blockdisk.specs.Disk.{Contents}
-use Rattle.meaning.specs.Blocks.{head_or_zero}
-use Rattle.meaning.specs.Maps.{times}
-use Rattle.meaning.specs.Costs.{blocks_of}
-use Rattle.meaning.specs.Retrieval.{Prime, Run, IsRun, IsPrime, IsMode, IsRetrieved, prime_block, run_blocks}
-use Rattle.meaning.specs.Retrieval.{all_runs, AreExtensions, extension_block, extension_numbers, first_extension}
-use Rattle.retrieval.specs.Modes.{mode_number}
+use Rattle.blockdisk.specs.Common.{Contents}
+use Rattle.spec_image.specs.Common.{head_or_zero, times, blocks_of, Prime, Run, IsRun, IsPrime, IsMode, IsRetrieved}
+use Rattle.spec_image.specs.Common.{prime_block, run_blocks, all_runs, AreExtensions, extension_block}
+use Rattle.spec_image.specs.Common.{extension_numbers, first_extension}
+use Rattle.retrieval.specs.Common.{mode_number, AreApart, extensions_of, rib_count}
 use Rattle.retrieval.specs.declared.mode.Mode.{Mode}
 use Rattle.retrieval.specs.declared.mode.Mode.TheVariants.{Ascii, AsciiLine, Image, ImageBinary, Binary, Dump}
-use Rattle.changeset.specs.PutLaws.{times_head}
-use Rattle.retrieval.specs.Writing.{AreApart, extensions_of, rib_count}
+use Rattle.changeset.specs.Common.{times_head}
 use Rattle.retrieval.proofs.Building.{all_first}
 
 -- as far as there are so many

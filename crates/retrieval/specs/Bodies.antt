@@ -1,9 +1,9 @@
 -- Bodies: the words of a version, and the blocks that may be written where they change.
 use Rattle.std.specs.Prelude.{◌≡◌, ◌⊎◌, ◌+◌, ◌<◌, ◌≤◌, ℕ, List, Some, length, IfSome, slice_index}
 use Rattle.std.specs.List.{AllByRecursion}
-use Rattle.blockdisk.specs.Disk.{Contents}
-use Rattle.meaning.specs.Maps.{times}
-use Rattle.alloctab.specs.TableState.{TableState, IsFree, bit, holds}
+use Rattle.blockdisk.specs.Common.{Contents}
+use Rattle.spec_image.specs.Common.{times}
+use Rattle.alloctab.specs.Common.{TableState, IsFree, bit, holds}
 
 -- Each of these blocks that isn't damaged holds 128 words.
 abbrev pub AreWhole : Contents → List ℕ → Type 0

@@ -1,7 +1,8 @@
 -- The first words of retrieval blocks, those before the pointers.
 use Rattle.std.specs.Prelude.{◌≡◌, ℕ, ◌+◌, ◌*◌, ◌%◌, ◌^◌, ◌<◌, ◌≤◌, List, [], ◌∷◌, take, drop, replicate, slice_index}
-use Rattle.words36.specs.Words.{IsPpn, join}
-use Rattle.meaning.specs.Retrieval.{Prime, IsMode, prime_word, extension_word, attributes, extension_half, date_limit}
+use Rattle.words36.specs.Common.{IsPpn, join}
+use Rattle.spec_image.specs.Common.{Prime, IsMode, prime_word, extension_word, extension_half, date_limit}
+use Rattle.spec_image.specs.Retrieval.{attributes}
 
 -- The word has these attributes, each in its range, and the low twelve bits of a date.
 pub record IsAttributes (word protection mode time low : ℕ) : Type 0 where

@@ -10,3 +10,4 @@ pub mod Writing
 pub mod Bodies
 pub mod Placing
 pub mod PrimeWords
+pub mod Common

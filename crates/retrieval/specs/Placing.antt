@@ -1,8 +1,8 @@
 -- Writing words over a body, block by block: the new words of each block, and how far it has come.
 use Rattle.std.specs.Prelude.{◌≡◌, ◌⊎◌, ℕ, ◌+◌, ◌-◌, ◌*◌, ◌/◌, ◌%◌, ◌<◌, ◌≤◌, ◌==◌, if◌then◌else◌, List, length}
 use Rattle.std.specs.Prelude.{slice_index, Some}
-use Rattle.blockdisk.specs.Disk.{Contents}
-use Rattle.meaning.specs.Costs.{blocks_of}
+use Rattle.blockdisk.specs.Common.{Contents}
+use Rattle.spec_image.specs.Common.{blocks_of}
 
 -- the word that stays at a place in words: of the words that are kept of one block, and zero in all others
 abbrev pub kept_word : ℕ → List ℕ → ℕ → ℕ

@@ -1,8 +1,8 @@
 -- Pointers, as they stand in words.
 use Rattle.std.specs.Prelude.{◌≡◌, ℕ, ◌-◌, List, map, length, take, drop, replicate}
 use Rattle.std.specs.List.{AllByRecursion}
-use Rattle.words36.specs.Words.{left, right}
-use Rattle.meaning.specs.Retrieval.{Run, IsRun}
+use Rattle.words36.specs.Common.{left, right}
+use Rattle.spec_image.specs.Common.{Run, IsRun}
 
 -- the run of a pointer: the count left, the first block right
 abbrev pub run_of : ℕ → Run

@@ -1,7 +1,6 @@
 -- The words of a prime block, beside what core has of its version.
 use Rattle.std.specs.Prelude.{List, ℕ}
-use Rattle.meaning.specs.Blocks.{head_or_zero}
-use Rattle.meaning.specs.Retrieval.{Run}
+use Rattle.spec_image.specs.Common.{head_or_zero, Run}
 use Rattle.retrieval.specs.Primes.{with_length}
 use Rattle.retrieval.specs.Spelling.{SpellsPrime}
 use Rattle.retrieval.specs.Versions.{VersionState}

@@ -1,6 +1,6 @@
 -- What a prime block says of its file, as code has it and as the disk does.
 use Rattle.std.specs.Prelude.{◌≡◌, ℕ, List}
-use Rattle.meaning.specs.Retrieval.{Prime, Run, prime_block}
+use Rattle.spec_image.specs.Common.{Prime, Run, prime_block}
 use Rattle.retrieval.specs.Modes.{mode_number}
 use Rattle.retrieval.specs.declared.prime.Prime.{Prime as PrimeValue}
 

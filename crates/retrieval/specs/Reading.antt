@@ -1,14 +1,11 @@
 -- What reading a version finds, block by block.
 use Rattle.std.specs.Prelude.{◌≡◌, ◌^◌, ℕ, ◌+◌, ◌<◌, ◌≤◌, List, [], ◌∷◌, ◌++◌, length, flat_map, Some}
 use Rattle.std.specs.List.{AllByRecursion}
-use Rattle.words36.specs.Words.{IsPpn}
-use Rattle.blockdisk.specs.Disk.{Contents}
-use Rattle.meaning.specs.Maps.{times}
-use Rattle.meaning.specs.Costs.{blocks_of}
-use Rattle.meaning.specs.Retrieval.{Prime, Run, IsRun, run_blocks, Extension, all_runs, extension_numbers}
-use Rattle.meaning.specs.Retrieval.{extension_block, IsRetrieved}
-use Rattle.meaning.specs.Walks.{IsPrimeRead}
-use Rattle.meaning.specs.Faults.{InSpace, RunsInSpace}
+use Rattle.words36.specs.Common.{IsPpn}
+use Rattle.blockdisk.specs.Common.{Contents}
+use Rattle.spec_image.specs.Common.{times, blocks_of, Prime, Run, IsRun, run_blocks, Extension, all_runs}
+use Rattle.spec_image.specs.Common.{extension_numbers, extension_block, IsRetrieved, IsPrimeRead, InSpace}
+use Rattle.spec_image.specs.Common.{RunsInSpace}
 use Rattle.retrieval.specs.Primes.{with_length}
 use Rattle.retrieval.specs.Spelling.{SpellsPrime, SpellsExtension}
 use Rattle.retrieval.specs.Versions.{VersionState}

@@ -1,7 +1,7 @@
 -- Runs of neighbouring blocks: the list of blocks that they stand for, and the longest runs of a list.
 use Rattle.std.specs.Prelude.{◌≡◌, ℕ, suc, ◌+◌, ◌-◌, ◌<◌, ◌≤◌, ◌==◌, if◌then◌else◌, List, [], ◌∷◌, Option, Some, None}
 use Rattle.std.specs.Prelude.{IfSome, slice_get, length, map, flat_map, take}
-use Rattle.meaning.specs.Retrieval.{Run, run_blocks}
+use Rattle.spec_image.specs.Common.{Run, run_blocks}
 use Rattle.retrieval.specs.Writing.{rib_count}
 use Rattle.retrieval.specs.declared.run.Run.{Run as RunValue}
 

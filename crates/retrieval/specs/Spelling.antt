@@ -1,8 +1,8 @@
 -- Retrieval blocks as a reader finds them: words that spell some runs, whatever the disk.
 use Rattle.std.specs.Prelude.{◌≡◌, ℕ, ◌^◌, ◌<◌, ◌≤◌, List, length}
 use Rattle.std.specs.List.{AllByRecursion}
-use Rattle.words36.specs.Words.{IsPpn}
-use Rattle.meaning.specs.Retrieval.{Prime, Run, IsRun, IsPrime, prime_block, extension_block}
+use Rattle.words36.specs.Common.{IsPpn}
+use Rattle.spec_image.specs.Common.{Prime, Run, IsRun, IsPrime, prime_block, extension_block}
 
 -- The words are those of a prime block of this layout.
 pub record SpellsPrime (layout : ℕ) (words : List ℕ) (p : Prime) (runs : List Run) (next : ℕ) : Type 0 where

@@ -1,9 +1,7 @@
 -- What writing a version does, to the disk and to the table.
 use Rattle.std.specs.Prelude.{◌≡◌, ℕ, ◌+◌, ◌-◌, ◌/◌, ◌<◌, List, [], ◌∷◌, ◌++◌, length, take, drop}
-use Rattle.meaning.specs.Maps.{times}
-use Rattle.meaning.specs.Retrieval.{Run, Extension}
-use Rattle.alloctab.specs.TableState.{TableState, IsFree, bit, holds, with_held}
-use Rattle.meaning.specs.Regions.{space_start}
+use Rattle.spec_image.specs.Common.{times, Run, Extension, space_start}
+use Rattle.alloctab.specs.Common.{TableState, IsFree, bit, holds, with_held}
 
 -- how many extensions so many pointers ask for
 abbrev pub rib_count : ℕ → ℕ

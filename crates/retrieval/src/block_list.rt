@@ -1,9 +1,9 @@
-ghost use Rattle.std.specs.Prelude.{◌≡◌, ◌+◌, ◌-◌, ◌<◌, ◌≤◌, ◌^◌, ◌++◌, ◌∷◌, [], ℕ, IfSome, IfNone, OnOk, OnErr, IfOk};
-ghost use Rattle.std.specs.Prelude.{IsOk, nat_le};
-ghost use Rattle.std.specs.Prelude.{length, take, drop, slice_get, slice_index, slice_set, vec_len, vec_capacity};
+ghost use Rattle.std.specs.Prelude.{◌≡◌, ◌+◌, ◌-◌, ◌<◌, ◌≤◌, ◌^◌, ◌++◌, ◌∷◌, [], ℕ, IfSome, IfNone, OnOk, OnErr};
+ghost use Rattle.std.specs.Prelude.{IfOk, IsOk, nat_le, length, take, drop, slice_get, slice_index, slice_set};
+ghost use Rattle.std.specs.Prelude.{vec_len, vec_capacity};
 ghost use Rattle.std.specs.List.Sorted.{IsNonDecreasing};
-ghost use Rattle.retrieval.specs.Runs.{BlocksState, IsAtOffset, blocks_of_runs, pairs_of, pair_of, part_blocks};
-ghost use Rattle.retrieval.specs.Runs.{behind, longest_runs, ends_of};
+ghost use Rattle.retrieval.specs.Common.{BlocksState, IsAtOffset, blocks_of_runs, pairs_of, pair_of, part_blocks};
+ghost use Rattle.retrieval.specs.Common.{behind, longest_runs, ends_of};
 
 use crate::run::Run;
 use blockdisk::NoMemory;
@@ -20,7 +20,7 @@ pub(crate) struct BlockList {
 
 impl Model for BlockList {
     ghost use Rattle.std.specs.Prelude.{◌-◌, min, vec_len, vec_capacity};
-    ghost use Rattle.retrieval.specs.Runs.{BlocksState, blocks_of_runs, AreKept};
+    ghost use Rattle.retrieval.specs.Common.{BlocksState, blocks_of_runs, AreKept};
 
     ghost Value = { BlocksState };
 

@@ -1,13 +1,9 @@
 ghost use Rattle.std.specs.Prelude.{◌≡◌, ◌+◌, ◌-◌, ◌*◌, ◌<◌, ◌≤◌, ◌^◌, ℕ, List, [], Some, None, IfOk, OnOk, IsErrOf};
 ghost use Rattle.std.specs.Prelude.{length, min, get_or, slice_index, take, vec_capacity};
 ghost use Rattle.std.specs.List.{AllByRecursion};
-ghost use Rattle.blockdisk.specs.Disk.{Keeps, SameDisk, one_more};
-ghost use Rattle.meaning.specs.Costs.{blocks_of};
-ghost use Rattle.meaning.specs.Faults.{InSpace};
-ghost use Rattle.meaning.specs.Maps.{times};
-ghost use Rattle.meaning.specs.Retrieval.{HasBody};
-ghost use Rattle.meaning.specs.Splices.{block_start, words_from};
-ghost use Rattle.retrieval.specs.Bodies.{StandsAt};
+ghost use Rattle.blockdisk.specs.Common.{Keeps, SameDisk, one_more};
+ghost use Rattle.spec_image.specs.Common.{blocks_of, InSpace, times, HasBody, block_start, words_from};
+ghost use Rattle.retrieval.specs.Common.{StandsAt};
 ghost use Rattle.retrieval.specs.declared.error.BodyError.TheVariants.{BadData, Device, NoMemory};
 
 use crate::{BodyError, Version};

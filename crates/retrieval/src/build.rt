@@ -1,15 +1,12 @@
 ghost use Rattle.std.specs.Prelude.{◌≡◌, ◌-◌, ◌<◌, ◌≤◌, ◌^◌, ◌++◌, map, length, take, drop, replicate};
 ghost use Rattle.std.specs.List.{AllByRecursion};
-ghost use Rattle.meaning.specs.Blocks.{head_or_zero};
-ghost use Rattle.meaning.specs.Retrieval.{IsRun, pointer, prime_block, most_blocks};
-ghost use Rattle.retrieval.specs.Heads.{prime_front};
-ghost use Rattle.retrieval.specs.Runs.{pair_of, pairs_of, longest_runs};
-ghost use Rattle.retrieval.specs.Primes.{with_length, IsRewritten};
+ghost use Rattle.spec_image.specs.Common.{head_or_zero, IsRun, pointer, prime_block, most_blocks};
+ghost use Rattle.retrieval.specs.Common.{prime_front, pair_of, pairs_of, longest_runs, with_length, IsRewritten};
 
 use crate::head::{PRIME_WORD, attributes_word, extension_word};
 use crate::run::Run;
 use crate::{Prime, Version};
-use meaning::layout::{PRIME_HEAD, PRIME_POINTERS};
+use spec_image::layout::{PRIME_HEAD, PRIME_POINTERS};
 use words36::{BLOCK_WORDS, Block, Half, Word};
 
 /// The pointer to a run: how many blocks, and the first of them.

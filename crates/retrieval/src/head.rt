@@ -1,13 +1,11 @@
 ghost use Rattle.std.specs.Prelude.{◌≡◌, ◌+◌, ◌*◌, ◌/◌, ◌%◌, ◌<◌, ◌≤◌, ◌^◌, ℕ, IfSome, IfNone};
-ghost use Rattle.words36.specs.Words.{IsPpn};
-ghost use Rattle.meaning.specs.Layouts.{layout_number};
-ghost use Rattle.meaning.specs.Retrieval.{Prime as PrimeRecord, attributes, extension_word, date_limit};
-ghost use Rattle.retrieval.specs.Modes.{mode_number};
-ghost use Rattle.retrieval.specs.Primes.{with_length};
-ghost use Rattle.retrieval.specs.Heads.{IsAttributes, IsPrimeHead, IsExtensionHead};
+ghost use Rattle.words36.specs.Common.{IsPpn};
+ghost use Rattle.spec_image.specs.Common.{layout_number, Prime as PrimeRecord, extension_word, date_limit};
+ghost use Rattle.spec_image.specs.Retrieval.{attributes};
+ghost use Rattle.retrieval.specs.Common.{mode_number, with_length, IsAttributes, IsPrimeHead, IsExtensionHead};
 
 use crate::{Mode, Prime};
-use meaning::layout::{
+use spec_image::layout::{
     EXTENSION_POINTERS, Layout, MOST_WORDS, PRIME_HEAD, PRIME_POINTERS, are_zeros,
 };
 use words36::{Block, FileName, Half, Moment, Ppn, Word};

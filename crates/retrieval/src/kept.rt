@@ -1,13 +1,9 @@
-ghost use Rattle.std.specs.Prelude.{◌≡◌, ◌+◌, ◌-◌, ◌*◌, ◌/◌, ◌%◌, ◌<◌, ◌≤◌, ◌++◌, ℕ, List, None, IfOk, IfSome, IfNone};
-ghost use Rattle.std.specs.Prelude.{OnOk, IsErrOf, length, min, take, drop, slice_index};
+ghost use Rattle.std.specs.Prelude.{◌≡◌, ◌+◌, ◌-◌, ◌*◌, ◌/◌, ◌%◌, ◌<◌, ◌≤◌, ◌++◌, ℕ, List, None, IfOk, IfSome};
+ghost use Rattle.std.specs.Prelude.{IfNone, OnOk, IsErrOf, length, min, take, drop, slice_index};
 ghost use Rattle.std.specs.List.{AllByRecursion};
-ghost use Rattle.blockdisk.specs.Disk.{Keeps, SameDisk, one_more};
-ghost use Rattle.meaning.specs.Costs.{blocks_of};
-ghost use Rattle.meaning.specs.Faults.{InSpace};
-ghost use Rattle.meaning.specs.Maps.{times};
-ghost use Rattle.meaning.specs.Retrieval.{HasBody};
-ghost use Rattle.retrieval.specs.Bodies.{AreWhole};
-ghost use Rattle.retrieval.specs.Placing.{kept_word, IsEdge, IsEdgeBlock, Stays, IsNewBlock};
+ghost use Rattle.blockdisk.specs.Common.{Keeps, SameDisk, one_more};
+ghost use Rattle.spec_image.specs.Common.{blocks_of, InSpace, times, HasBody};
+ghost use Rattle.retrieval.specs.Common.{AreWhole, kept_word, IsEdge, IsEdgeBlock, Stays, IsNewBlock};
 ghost use Rattle.retrieval.specs.declared.error.BodyError.TheVariants.{BadData, Device, NoMemory};
 
 use crate::BodyError;

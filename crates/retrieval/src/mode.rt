@@ -1,6 +1,6 @@
 ghost use Rattle.std.specs.Prelude.{◌≡◌, ◌↔◌, IsSome, IfSome};
-ghost use Rattle.meaning.specs.Retrieval.{IsMode};
-ghost use Rattle.retrieval.specs.Modes.{mode_number};
+ghost use Rattle.spec_image.specs.Common.{IsMode};
+ghost use Rattle.retrieval.specs.Common.{mode_number};
 
 /// A data mode: how the words of a file were written. (TOPS-10 Monitor Calls Manual.)
 #[derive(Clone, Copy, Debug, PartialEq, Eq)]

@@ -1,16 +1,12 @@
 ghost use Rattle.std.specs.Prelude.{◌≡◌, ◌↔◌, ℕ, List, IsTrue, IfSome, IfNone, take, drop};
-ghost use Rattle.meaning.specs.Layouts.{layout_number};
-ghost use Rattle.meaning.specs.Retrieval.{Prime as PrimeRecord, Run};
-ghost use Rattle.retrieval.specs.Primes.{with_length};
-ghost use Rattle.retrieval.specs.Pointers.{runs_of};
-ghost use Rattle.retrieval.specs.PrimeWords.{IsPrimeOf};
-ghost use Rattle.retrieval.specs.Spelling.{SpellsPrime, SpellsExtension};
+ghost use Rattle.spec_image.specs.Common.{layout_number, Prime as PrimeRecord, Run};
+ghost use Rattle.retrieval.specs.Common.{with_length, runs_of, IsPrimeOf, SpellsPrime, SpellsExtension};
 
 use crate::build::{first_of, prime_block_for};
 use crate::head::{ExtensionHead, PrimeHead, extension_head, prime_head};
 use crate::pointers::are_pointers;
 use crate::{Prime, Version};
-use meaning::layout::{EXTENSION_HEAD, Layout, PRIME_HEAD};
+use spec_image::layout::{EXTENSION_HEAD, Layout, PRIME_HEAD};
 use words36::Block;
 
 /// Gives what a prime block says before its pointers, or `None` if its words aren't those of a prime block of this

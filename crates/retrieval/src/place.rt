@@ -1,15 +1,12 @@
 ghost use Rattle.std.specs.Prelude.{◌≡◌, ◌⊎◌, ◌+◌, ◌-◌, ◌*◌, ◌<◌, ◌≤◌, ℕ, length, slice_index, slice_set, IfOk, OnOk};
 ghost use Rattle.std.specs.Prelude.{IsErrOf};
 ghost use Rattle.std.specs.List.{AllByRecursion};
-ghost use Rattle.blockdisk.specs.Disk.{SameDisk, Modifies, one_more};
+ghost use Rattle.blockdisk.specs.Common.{SameDisk, Modifies, one_more};
 ghost use Rattle.blockdisk.specs.declared.fault.Fault.TheVariants.{Device as DeviceFault, Damaged};
-ghost use Rattle.meaning.specs.Costs.{blocks_of};
-ghost use Rattle.meaning.specs.Faults.{InSpace};
-ghost use Rattle.meaning.specs.Maps.{times};
-ghost use Rattle.alloctab.specs.TableState.{holds, space, uses, bit};
-ghost use Rattle.retrieval.specs.Bodies.{IsOwn, AddsFree, KeepsOwn};
-ghost use Rattle.retrieval.specs.Placing.{StandAlone, AtPlace, HoldsNew, IsPartlyPlaced};
-ghost use Rattle.retrieval.specs.Writing.{IsFixed};
+ghost use Rattle.spec_image.specs.Common.{blocks_of, InSpace, times};
+ghost use Rattle.alloctab.specs.Common.{holds, space, uses, bit};
+ghost use Rattle.retrieval.specs.Common.{IsOwn, AddsFree, KeepsOwn, StandAlone, AtPlace, HoldsNew, IsPartlyPlaced};
+ghost use Rattle.retrieval.specs.Common.{IsFixed};
 
 use crate::block_list::BlockList;
 use crate::kept::{Kept, new_block};

@@ -1,9 +1,9 @@
 ghost use Rattle.std.specs.Prelude.{◌≡◌, ◌≤◌, ◌↔◌, IsTrue, length};
 ghost use Rattle.std.specs.List.{AllByRecursion};
-ghost use Rattle.meaning.specs.Retrieval.{IsRun};
-ghost use Rattle.retrieval.specs.Pointers.{run_of, runs_of, ArePointers};
+ghost use Rattle.spec_image.specs.Common.{IsRun};
+ghost use Rattle.retrieval.specs.Common.{run_of, runs_of, ArePointers};
 
-use meaning::layout::are_zeros;
+use spec_image::layout::are_zeros;
 use words36::Word;
 
 /// Whether a word is a pointer: its left half, the count, isn't zero.

@@ -1,17 +1,11 @@
-ghost use Rattle.std.specs.Prelude.{◌≡◌, ◌+◌, ◌-◌, ◌*◌, ◌/◌, ◌<◌, ◌≤◌, ◌^◌, ℕ, List, None, IfOk, OnOk, OnErr, IsErrOf};
-ghost use Rattle.std.specs.Prelude.{length, min};
+ghost use Rattle.std.specs.Prelude.{◌≡◌, ◌+◌, ◌-◌, ◌*◌, ◌/◌, ◌<◌, ◌≤◌, ◌^◌, ℕ, List, None, IfOk, OnOk, OnErr};
+ghost use Rattle.std.specs.Prelude.{IsErrOf, length, min};
 ghost use Rattle.std.specs.List.{AllByRecursion};
-ghost use Rattle.blockdisk.specs.Disk.{Keeps, SameDisk, Modifies, one_more};
-ghost use Rattle.meaning.specs.Costs.{blocks_of};
-ghost use Rattle.meaning.specs.Faults.{InSpace};
-ghost use Rattle.meaning.specs.Maps.{times};
-ghost use Rattle.meaning.specs.Regions.{IsVolumeSize};
-ghost use Rattle.meaning.specs.Retrieval.{HasBody, most_blocks};
-ghost use Rattle.meaning.specs.Splices.{splice, length_after};
-ghost use Rattle.alloctab.specs.TableState.{IsTable, uses, used_in_space, holds, space};
-ghost use Rattle.retrieval.specs.Bodies.{AreWhole, IsOwn, AddsFree, KeepsOwn};
-ghost use Rattle.retrieval.specs.Placing.{IsEdgeBlock, Stays};
-ghost use Rattle.retrieval.specs.Writing.{IsFixed, GrowsBy};
+ghost use Rattle.blockdisk.specs.Common.{Keeps, SameDisk, Modifies, one_more};
+ghost use Rattle.spec_image.specs.Common.{blocks_of, InSpace, times, IsVolumeSize, HasBody, most_blocks, splice};
+ghost use Rattle.spec_image.specs.Common.{length_after};
+ghost use Rattle.alloctab.specs.Common.{IsTable, uses, used_in_space, holds, space};
+ghost use Rattle.retrieval.specs.Common.{AreWhole, IsOwn, AddsFree, KeepsOwn, IsEdgeBlock, Stays, IsFixed, GrowsBy};
 ghost use Rattle.retrieval.specs.declared.error.BodyError.TheVariants.{BadData, Device, NoMemory};
 
 use crate::block_list::BlockList;

@@ -1,22 +1,18 @@
 ghost use Rattle.std.specs.Prelude.{◌≡◌, ◌*◌, ◌<◌, ◌≤◌, ◌^◌, ◌⊎◌, ℕ, List, IsTrue, Some, None, IfSome, IfNone, IfOk};
 ghost use Rattle.std.specs.Prelude.{OnOk, IsErrOf, length};
 ghost use Rattle.std.specs.List.{AllByRecursion};
-ghost use Rattle.blockdisk.specs.Disk.{Keeps, SameDisk, one_more};
-ghost use Rattle.meaning.specs.Costs.{blocks_of};
-ghost use Rattle.meaning.specs.Layouts.{layout_number};
-ghost use Rattle.meaning.specs.Regions.{IsVolumeSize};
-ghost use Rattle.meaning.specs.Retrieval.{Prime as PrimeRecord, IsRetrieved, most_blocks};
-ghost use Rattle.meaning.specs.Faults.{InSpace, IsBadVersion};
-ghost use Rattle.retrieval.specs.Reading.{IsBadPrime, IsBadExtension, Overfills, IsStarted, Extends, IsVersionAt};
-ghost use Rattle.retrieval.specs.Reading.{IsReadAs, IsStandingVersion};
+ghost use Rattle.blockdisk.specs.Common.{Keeps, SameDisk, one_more};
+ghost use Rattle.spec_image.specs.Common.{blocks_of, layout_number, IsVolumeSize, Prime as PrimeRecord, IsRetrieved};
+ghost use Rattle.spec_image.specs.Common.{most_blocks, InSpace, IsBadVersion};
+ghost use Rattle.retrieval.specs.Common.{IsBadPrime, IsBadExtension, Overfills, IsStarted, Extends, IsVersionAt};
+ghost use Rattle.retrieval.specs.Common.{IsReadAs, IsStandingVersion, rib_count};
 ghost use Rattle.retrieval.specs.declared.error.RetrievalError.TheVariants.{BadRetrieval, Device, NoMemory};
-ghost use Rattle.retrieval.specs.Writing.{rib_count};
 
 use crate::parse::{parse_extension, parse_prime};
 use crate::runs::{RunError, push_runs};
 use crate::{Prime, RetrievalError, Version};
 use blockdisk::{Disk, Fault};
-use meaning::layout::{
+use spec_image::layout::{
     EXTENSION_HEAD, EXTENSION_POINTERS, Layout, PRIME_HEAD, PRIME_POINTERS, follow,
 };
 use std::alloc::Global;

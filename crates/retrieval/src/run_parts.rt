@@ -1,6 +1,6 @@
 ghost use Rattle.std.specs.Prelude.{◌≡◌, ◌+◌, ◌-◌, ◌≤◌, ◌^◌, ◌↔◌, suc, IsTrue};
-ghost use Rattle.meaning.specs.Retrieval.{count_up};
-ghost use Rattle.retrieval.specs.Runs.{pair_of, part_blocks};
+ghost use Rattle.spec_image.specs.Common.{count_up};
+ghost use Rattle.retrieval.specs.Common.{pair_of, part_blocks};
 
 use crate::run::Run;
 

@@ -1,10 +1,7 @@
 ghost use Rattle.std.specs.Prelude.{◌≡◌, ◌+◌, ◌<◌, ◌≤◌, ◌^◌, ◌++◌, ℕ, OnOk, OnErr, IsErrOf, length, flat_map};
 ghost use Rattle.std.specs.List.{AllByRecursion};
-ghost use Rattle.meaning.specs.Regions.{IsVolumeSize};
-ghost use Rattle.meaning.specs.Faults.{RunsInSpace, InSpace};
-ghost use Rattle.meaning.specs.Retrieval.{IsRun, run_blocks, count_up};
-ghost use Rattle.retrieval.specs.Pointers.{run_of, runs_of};
-ghost use Rattle.retrieval.specs.Versions.{with_blocks};
+ghost use Rattle.spec_image.specs.Common.{IsVolumeSize, RunsInSpace, InSpace, IsRun, run_blocks, count_up};
+ghost use Rattle.retrieval.specs.Common.{run_of, runs_of, with_blocks};
 ghost use Rattle.retrieval.specs.declared.runs.RunError.TheVariants.{Outside, TooMany};
 
 use crate::Version;

@@ -1,7 +1,7 @@
 ghost use Rattle.std.specs.Prelude.{◌+◌, ◌<◌, ◌≤◌, ◌^◌, ◌↔◌, IsTrue};
-ghost use Rattle.meaning.specs.Regions.{IsVolumeSize, space_start};
+ghost use Rattle.spec_image.specs.Common.{IsVolumeSize, space_start};
 
-use meaning::layout::space_start;
+use spec_image::layout::space_start;
 
 /// Whether a run of blocks, at least one, lies in the free space.
 pub fn is_run_in_space(size: u32, count: u32, first: u32) -> bool

@@ -1,8 +1,6 @@
 ghost use Rattle.std.specs.Prelude.{◌≡◌, ◌+◌, ◌-◌, ◌<◌, ◌≤◌, ◌++◌, ◌∷◌, ℕ, [], slice_set, slice_get, slice_index};
-ghost use Rattle.std.specs.Prelude.{length, Some, IfOk};
-ghost use Rattle.std.specs.Prelude.{OnOk, OnErr};
-ghost use Rattle.retrieval.specs.Runs.{BlocksState, blocks_of_runs, pairs_of, longest_runs};
-ghost use Rattle.retrieval.specs.Versions.{VersionState};
+ghost use Rattle.std.specs.Prelude.{length, Some, IfOk, OnOk, OnErr};
+ghost use Rattle.retrieval.specs.Common.{BlocksState, blocks_of_runs, pairs_of, longest_runs, VersionState};
 
 use crate::block_list::BlockList;
 use crate::run::Run;
@@ -20,7 +18,7 @@ pub struct Version {
 }
 
 impl Model for Version {
-    ghost use Rattle.retrieval.specs.Versions.{VersionState};
+    ghost use Rattle.retrieval.specs.Common.{VersionState};
 
     ghost Value = { VersionState };
 

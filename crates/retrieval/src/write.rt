@@ -1,20 +1,14 @@
 ghost use Rattle.std.specs.Prelude.{◌≡◌, ◌+◌, ◌-◌, ◌/◌, ◌<◌, ◌≤◌, ◌^◌, ◌∷◌, ℕ, map, length, take, drop, Some, OnOk};
 ghost use Rattle.std.specs.Prelude.{IfOk, IsErrOf};
 ghost use Rattle.std.specs.List.{AllByRecursion};
-ghost use Rattle.blockdisk.specs.Disk.{SameDisk, Modifies, one_more};
+ghost use Rattle.blockdisk.specs.Common.{SameDisk, Modifies, one_more};
 ghost use Rattle.blockdisk.specs.declared.fault.Fault.TheVariants.{Device as DeviceFault, Damaged};
-ghost use Rattle.meaning.specs.Blocks.{head_or_zero};
-ghost use Rattle.meaning.specs.Costs.{blocks_of};
-ghost use Rattle.meaning.specs.Faults.{InSpace};
-ghost use Rattle.meaning.specs.Maps.{times};
-ghost use Rattle.meaning.specs.Regions.{IsVolumeSize};
-ghost use Rattle.meaning.specs.Retrieval.{IsRun, prime_block, extension_block, AreExtensions, IsRetrieved, date_limit};
-ghost use Rattle.alloctab.specs.TableState.{IsTable, IsFree, holds, space, used_in_space, with_held};
-ghost use Rattle.retrieval.specs.Runs.{pairs_of, longest_runs, ribs_of};
-ghost use Rattle.retrieval.specs.Primes.{with_length};
-ghost use Rattle.retrieval.specs.Reading.{IsStandingVersion};
+ghost use Rattle.spec_image.specs.Common.{head_or_zero, blocks_of, InSpace, times, IsVolumeSize, IsRun, prime_block};
+ghost use Rattle.spec_image.specs.Common.{extension_block, AreExtensions, IsRetrieved, date_limit};
+ghost use Rattle.alloctab.specs.Common.{IsTable, IsFree, holds, space, used_in_space, with_held};
+ghost use Rattle.retrieval.specs.Common.{pairs_of, longest_runs, ribs_of, with_length, IsStandingVersion, rib_count};
+ghost use Rattle.retrieval.specs.Common.{Takes, AreApart, IsFixed, extensions_of};
 ghost use Rattle.retrieval.specs.declared.error.RetrievalError.TheVariants.{BadRetrieval, Device, NoMemory};
-ghost use Rattle.retrieval.specs.Writing.{rib_count, Takes, AreApart, IsFixed, extensions_of};
 
 use crate::build::{first_of, pointer_to, prime_block};
 use crate::head::EXTENSION_HALF;
@@ -22,7 +16,7 @@ use crate::run::Run;
 use crate::{Prime, RetrievalError, Version};
 use alloctab::Table;
 use blockdisk::{Disk, Fault};
-use meaning::layout::{EXTENSION_HEAD, EXTENSION_POINTERS, PRIME_POINTERS};
+use spec_image::layout::{EXTENSION_HEAD, EXTENSION_POINTERS, PRIME_POINTERS};
 use std::alloc::Global;
 use words36::{BLOCK_WORDS, Block, Half, Word};
 

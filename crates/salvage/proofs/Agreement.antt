@@ -3,19 +3,13 @@ use Rattle.std.proofs.Common.{◌≡◌, ◌∙◌, ◌+◌, ◌*◌, ◌/◌, �
 use Rattle.std.proofs.Common.{Option, Some, refl, sym, ap, arith, inl, inr, ⊎_elim, ltb, ltb-true}
 use Rattle.std.proofs.lemmas.Bool.{cases_lt}
 use Rattle.std.specs.Prelude.{if◌then◌else◌, ◌==◌}
-use Rattle.blockdisk.specs.Disk.{Contents}
-use Rattle.meaning.specs.declared.put.Put.{Put}
-use Rattle.meaning.specs.Files.{File, Files}
-use Rattle.meaning.specs.Home.{Home, IsHomeCopy, IsHome}
-use Rattle.meaning.specs.Log.{AreImages, IsGateOpen, IsLog, with_puts}
-use Rattle.meaning.specs.Maps.{get}
-use Rattle.meaning.specs.Regions.{IsVolumeSize, log_start, table_blocks, table_start}
-use Rattle.meaning.specs.Stands.{DiskMap, HasMap, IsWhole, Stands, StoredDirectory, place_of, reaches}
-use Rattle.meaning.specs.Directories.{IsFileEntry, IsMasterEntry, file_words, master_words}
-use Rattle.meaning.specs.Table.{bit_in}
-use Rattle.meaning.proofs.Chains.{directory_kept}
-use Rattle.meaning.proofs.DiskMaps.{directory_part, file_part}
-use Rattle.meaning.proofs.Versions.{version_kept}
+use Rattle.blockdisk.specs.Common.{Contents}
+use Rattle.spec_image.specs.declared.put.Put.{Put}
+use Rattle.spec_image.specs.Common.{File, Files, Home, IsHomeCopy, IsHome, AreImages, IsGateOpen, IsLog, with_puts}
+use Rattle.spec_image.specs.Common.{get, IsVolumeSize, log_start, table_blocks, table_start, DiskMap, HasMap, IsWhole}
+use Rattle.spec_image.specs.Common.{Stands, StoredDirectory, place_of, reaches, IsFileEntry, IsMasterEntry}
+use Rattle.spec_image.specs.Common.{file_words, master_words, bit_in}
+use Rattle.spec_image.proofs.Common.{directory_kept, directory_part, file_part, version_kept}
 
 -- the same at each block of the disk
 abbrev pub Agree : ℕ → Contents → Contents → Type 0

@@ -1,8 +1,8 @@
 -- What holds of one thing is carried to another.
-use Rattle.std.proofs.Common.{◌≡◌, ℕ, List, Result, Ok, Err, IfOk, OnOk, subst}
+use Rattle.std.proofs.Common.{◌≡◌, ℕ, List, Result, Ok, Err, OnOk, subst}
 use Rattle.std.proofs.lemmas.List.Elements.{All-contains, All-from_recursion}
 use Rattle.std.specs.List.{AllByRecursion, Contains}
-use Rattle.blockdisk.specs.Disk.{Contents}
+use Rattle.blockdisk.specs.Common.{Contents}
 
 -- What holds of the disk at one step holds of it at the first, if it was only read.
 pub moved : (P : ℕ → Contents → Type 0) (size size' : ℕ) (contents contents' : Contents) → size' ≡ size
@@ -19,11 +19,6 @@ pub on_ok_both : {T E P Q R : Type 0} (result : Result T E) → (P → Q → R) 
     → OnOk result R
 on_ok_both (Ok x) then p q = then p q
 on_ok_both (Err e) then p q = tt
-
-pub if_ok : {T E : Type 0} (P Q : T → Type 0) (result : Result T E) → ((x : T) → P x → Q x) → IfOk result P
-    → IfOk result Q
-if_ok P Q (Ok x) then holds = then x holds
-if_ok P Q (Err e) then holds = tt
 
 -- what all of a list have, each of it has
 pub element_has : {A : Type 0} (P : A → Type 0) (xs : List A) (x : A) → AllByRecursion P xs → Contains xs x → P x

@@ -1,37 +1,19 @@
 -- A chain that was read whole: each walk from its first block goes over a front of it.
-use Rattle.std.proofs.Common.{◌≡◌, ℕ, List, [], ◌∷◌, ◌++◌, Some, refl, sym, ap, ◌∙◌, arith, nat_cmp, Ordering}
+use Rattle.std.proofs.Common.{◌≡◌, ℕ, List, [], ◌∷◌, ◌++◌, Some, sym, ap, ◌∙◌, arith, nat_cmp, Ordering}
 use Rattle.std.specs.Cmp.{nat_cmp_total}
 use Rattle.std.specs.FinMap.Entries.{find}
 use Rattle.std.specs.List.{AllByRecursion}
 use Rattle.words36.specs.declared.names.FileName.{FileName}
-use Rattle.blockdisk.specs.Disk.{Contents}
-use Rattle.meaning.specs.Blocks.{head_or_zero}
-use Rattle.meaning.specs.Directories.{Node, items, numbers, first_of, MasterEntry, master_words, FileEntry, file_words}
-use Rattle.meaning.specs.Directories.{IsFileEntry}
-use Rattle.meaning.specs.Faults.{InSpace, IsMasterEntryOf}
-use Rattle.meaning.specs.Files.{name_cmp}
-use Rattle.meaning.specs.Home.{IsHome}
-use Rattle.meaning.specs.Maps.{times}
-use Rattle.meaning.specs.Regions.{IsVolumeSize}
-use Rattle.meaning.specs.Stands.{place_of}
-use Rattle.meaning.specs.Walks.{LeadsAlong, IsDirectoryNamed, IsFileNamed}
-use Rattle.meaning.proofs.ChainEdits.{items-append}
-use Rattle.meaning.proofs.Chains.{head-numbers}
-use Rattle.meaning.proofs.Lists.{TellsApart}
-use Rattle.meaning.proofs.MapLists.{each_entry}
-use Rattle.meaning.proofs.MapSums.{times_other}
-use Rattle.meaning.proofs.Names.{name_total}
-use Rattle.meaning.proofs.Walking.{walk_of_chain, find_front}
-use Rattle.directory.specs.ChainLaws.{chain_items, numbers_of}
-use Rattle.directory.specs.Chains.{ChainState, nodes_of, IsChain, IsOn}
-use Rattle.volume.specs.Homes.{home_in}
-use Rattle.salvage.specs.Reading.{IsNamedIn}
-
--- block 0 lies outside the free space
-pub zero_outside : (size : ℕ) (blocks : List ℕ) → AllByRecursion (InSpace size) blocks → times 0 blocks ≡ 0
-zero_outside size [] all = refl
-zero_outside size (n ∷ blocks) all = times_other 0 n blocks
-    (λ (same : 0 ≡ n). let from = all.0.from in let e = same in absurd (omega arith)) ∙ zero_outside size blocks all.1
+use Rattle.blockdisk.specs.Common.{Contents}
+use Rattle.spec_image.specs.Common.{head_or_zero, Node, items, numbers, first_of, MasterEntry, master_words}
+use Rattle.spec_image.specs.Common.{FileEntry, file_words, IsFileEntry, InSpace, IsMasterEntryOf, name_cmp, IsHome}
+use Rattle.spec_image.specs.Common.{times, IsVolumeSize, place_of, LeadsAlong, IsDirectoryNamed, IsFileNamed}
+use Rattle.spec_image.proofs.Common.{items-append, head-numbers, TellsApart, each_entry, name_total, walk_of_chain}
+use Rattle.spec_image.proofs.Common.{find_front}
+use Rattle.directory.specs.Common.{chain_items, numbers_of, ChainState, nodes_of, IsChain, IsOn}
+use Rattle.volume.specs.Common.{home_in}
+use Rattle.salvage.specs.Common.{IsNamedIn}
+use Rattle.retrieval.proofs.Readings.{none_zero}
 
 module _ {K V : Type 0} {R : K → K → Ordering} (words : K × V → List ℕ) (apart : TellsApart words)
     (IsEntry : K × V → Type 0) (size : ℕ) (contents : Contents) (first : ℕ) (chain : ChainState (K × V))
@@ -45,7 +27,7 @@ module _ {K V : Type 0} {R : K → K → Ordering} (words : K × V → List ℕ)
       let first_is : first_of whole ≡ first = sym (head-numbers whole)
       ∙ ap head_or_zero (numbers_of chain.blocks chain.entries) ∙ begins in
       let zero : times 0 (numbers whole) ≡ 0 = ap (times 0) (numbers_of chain.blocks chain.entries)
-      ∙ zero_outside size chain.blocks inside in
+      ∙ none_zero size chain.blocks inside in
       let w = walk_of_chain words apart contents first nodes whole last on first_is zero walk in
       let all : chain.entries ≡ items nodes ++ items w.0 = sym (chain_items words IsEntry chain is) ∙ ap items w.1
       ∙ items-append nodes w.0 in

@@ -1,15 +1,13 @@
 -- Copying a disk block by block.
-use Rattle.std.proofs.Common.{◌≡◌, ◌∙◌, ap, arith, inl, inr, refl, sym, subst, ⊎_elim, ◌⊎◌}
-use Rattle.std.proofs.Common.{◌+◌, ◌<◌, ◌≤◌, ℕ, suc, List, [], ◌∷◌, Option, None, Some, Contains, length, replicate}
+use Rattle.std.proofs.Common.{◌≡◌, ◌∙◌, ap, arith, inl, inr, refl, sym, subst, ⊎_elim, ◌⊎◌, ◌+◌, ◌<◌, ◌≤◌, ℕ, suc}
+use Rattle.std.proofs.Common.{List, [], ◌∷◌, Option, None, Some, Contains, length, replicate}
 use Rattle.std.proofs.lemmas.List.{get_or-set_same, get_or-set_other, length-replicate}
 use Rattle.std.proofs.lemmas.Bool.{cases_lt}
 use Rattle.std.specs.Prelude.{slice_set}
-use Rattle.blockdisk.specs.Disk.{Contents, DiskState, SameDisk, one_more}
-use Rattle.blockdisk.specs.Laws.{still_start}
-use Rattle.blockdisk.specs.Memory.{Memory, held, loaded, zeroed}
-use Rattle.changeset.specs.Reads.{OnlyReads}
+use Rattle.blockdisk.specs.Common.{Contents, DiskState, SameDisk, one_more, still_start, Memory, held, loaded, zeroed}
+use Rattle.changeset.specs.Common.{OnlyReads}
 use Rattle.changeset.proofs.Reading.{only_reads_on}
-use Rattle.salvage.specs.Copies.{AreCopies, failed_by}
+use Rattle.salvage.specs.Common.{AreCopies, failed_by}
 use Rattle.salvage.proofs.Members.{contains_here, contains_later}
 
 -- The blocks below n were copied, and so many of them couldn't be read.

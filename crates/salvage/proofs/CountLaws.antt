@@ -1,17 +1,16 @@
 -- Blocks that are counted one after the other.
 use Rattle.std.proofs.Common.{◌≡◌, ℕ, zero, suc, ◌+◌, ◌<◌, ◌≤◌, min, List, [], ◌∷◌, ◌++◌, length, get_or, slice_index}
-use Rattle.std.proofs.Common.{slice_set, take, replicate, refl, sym, ap, subst, ◌∙◌, arith, ⊎_elim, Option, None, Some}
-use Rattle.std.proofs.Common.{IfSome, IfNone}
+use Rattle.std.proofs.Common.{slice_set, take, replicate, refl, sym, ap, subst, ◌∙◌, arith, ⊎_elim, Option, None}
+use Rattle.std.proofs.Common.{Some, IfSome, IfNone}
 use Rattle.std.specs.List.{AllByRecursion}
 use Rattle.std.proofs.lemmas.Bool.{cases_eq, cases_lt}
 use Rattle.std.proofs.lemmas.List.{take_more, take_all, get_or-set_same, get_or-set_other, get_or-replicate}
 use Rattle.std.proofs.lemmas.List.{get_or_past, length-replicate}
-use Rattle.meaning.specs.Maps.{times}
-use Rattle.meaning.proofs.MapSums.{times-append, total-append}
-use Rattle.changeset.specs.PutLaws.{times_head, times_tail}
-use Rattle.volume.proofs.Marking.{times_parts}
-use Rattle.salvage.specs.Counting.{CountTo}
-use Rattle.salvage.specs.Saved.{FitsDisk, blocks_of, claims}
+use Rattle.spec_image.specs.Common.{times}
+use Rattle.spec_image.proofs.Common.{times-append, total-append}
+use Rattle.changeset.specs.Common.{times_head, times_tail}
+use Rattle.volume.proofs.Shared.Marking.{times_parts}
+use Rattle.salvage.specs.Common.{CountTo, FitsDisk, blocks_of, claims}
 use Rattle.salvage.specs.declared.saved.SavedFile.{SavedFile}
 
 -- a block that is counted once more

@@ -1,21 +1,16 @@
 -- What is told of a file stands in the contents.
-use Rattle.std.proofs.Common.{◌≡◌, ℕ, zero, suc, ◌<◌, ◌≤◌, true, false, List, [], ◌∷◌}
-use Rattle.std.proofs.Common.{slice_index, refl, arith}
+use Rattle.std.proofs.Common.{◌≡◌, ℕ, zero, suc, ◌<◌, ◌≤◌, true, false, List, [], ◌∷◌, slice_index, refl, arith}
 use Rattle.std.specs.List.{AllByRecursion}
-use Rattle.blockdisk.specs.Disk.{Contents}
-use Rattle.meaning.specs.Faults.{InSpace}
-use Rattle.meaning.specs.Maps.{times}
-use Rattle.retrieval.specs.Primes.{with_length}
+use Rattle.blockdisk.specs.Common.{Contents}
+use Rattle.spec_image.specs.Common.{InSpace, times}
+use Rattle.retrieval.specs.Common.{with_length}
 use Rattle.volume.specs.declared.error.VolumeError.{VolumeError}
 use Rattle.volume.specs.declared.error.VolumeError.TheVariants.{BadData, BlockTwice}
-use Rattle.volume.proofs.FoundDirectories.{all_times_at}
-use Rattle.salvage.specs.Counting.{CountTo}
-use Rattle.salvage.specs.Findings.{IsFinding}
-use Rattle.salvage.specs.Findings.{Concerns, ConcernsUnnamed}
-use Rattle.salvage.specs.Saved.{AreApart, FitsDisk, IsNamedRead, IsRead, blocks_of, claims, place_in}
-use Rattle.salvage.specs.Taking.{loss_of, IsBlamed}
+use Rattle.salvage.specs.Common.{CountTo, IsFinding, Concerns, ConcernsUnnamed, AreApart, FitsDisk, IsNamedRead}
+use Rattle.salvage.specs.Common.{IsRead, blocks_of, claims, place_in, loss_of, IsBlamed}
 use Rattle.salvage.specs.declared.saved.SavedFile.{SavedFile}
-use Rattle.salvage.proofs.Members.{all_weaken}
+use Rattle.spec_image.proofs.Common.{each_times}
+use Rattle.directory.proofs.Gathering.{all_of}
 
 -- A block stands in the files as often as in one of them, or more.
 pub claims_each : (files : List SavedFile)
@@ -23,7 +18,7 @@ pub claims_each : (files : List SavedFile)
 claims_each [] = tt
 claims_each (x ∷ xs) = (
   λ n. omega arith,
-  all_weaken (λ file. (n : ℕ) → times n (blocks_of file) ≤ claims xs n)
+  all_of (λ file. (n : ℕ) → times n (blocks_of file) ≤ claims xs n)
       (λ file. (n : ℕ) → times n (blocks_of file) ≤ claims (x ∷ xs) n) xs
       (λ file few n. let e = few n in omega arith) (claims_each xs),
 )
@@ -46,7 +41,7 @@ module _ (size layout : ℕ) (contents : Contents) (counts : List ℕ) (files : 
         → ((n : ℕ) → times n (blocks_of file) ≤ claims files n) → IsBlamed contents counts file fault
         → Concerns size layout contents (place_in file) file.at fault
     named_concerns file (BadData n) is few blamed = (
-      all_times_at (InSpace size) file.stored.version.blocks n is.read.blocks_inside blamed.0,
+      each_times (InSpace size) file.stored.version.blocks n is.read.blocks_inside blamed.0,
       record {
         p = with_length file.stored.prime file.stored.version.words;
         extensions = file.stored.version.ribs;

@@ -4,12 +4,10 @@ use Rattle.std.proofs.Common.{slice_index, Contains, length, get_or, take, refl,
 use Rattle.std.proofs.Common.{append_assoc}
 use Rattle.std.specs.List.{AllByRecursion}
 use Rattle.std.proofs.lemmas.List.{take_more}
-use Rattle.blockdisk.specs.Disk.{Contents}
-use Rattle.meaning.specs.Maps.{times, total}
+use Rattle.blockdisk.specs.Common.{Contents}
+use Rattle.spec_image.specs.Common.{times, total}
 use Rattle.volume.specs.declared.error.VolumeError.{VolumeError}
-use Rattle.salvage.specs.Saved.{blocks_of, claims}
-use Rattle.salvage.specs.Surveys.{IsLostBy}
-use Rattle.salvage.specs.Taking.{loss_of, IsSound, IsBlamed, AreJudged, Judges}
+use Rattle.salvage.specs.Common.{blocks_of, claims, IsLostBy, loss_of, IsSound, IsBlamed, AreJudged, Judges}
 use Rattle.salvage.specs.declared.saved.SavedFile.{SavedFile}
 use Rattle.salvage.specs.declared.finding.Finding.{Finding}
 use Rattle.salvage.proofs.Members.{contains_here, contains_later, contains_first, contains_none}

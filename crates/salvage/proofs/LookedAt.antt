@@ -1,30 +1,20 @@
 -- Blocks that are looked at one after the other, and the files that stand there.
-use Rattle.std.proofs.Common.{◌≡◌, ⊎_elim, ℕ, ◌+◌, ◌<◌, ◌≤◌, ◌^◌, List, [], ◌∷◌, ◌++◌, map}
-use Rattle.std.proofs.Common.{Option, None, Some, IsSome, slice_index, refl, sym, ap, subst, ◌∙◌, arith}
+use Rattle.std.proofs.Common.{◌≡◌, ⊎_elim, ℕ, ◌+◌, ◌<◌, ◌≤◌, ◌^◌, List, [], ◌∷◌, ◌++◌, map, Option, None, Some}
+use Rattle.std.proofs.Common.{IsSome, slice_index, refl, sym, ap, subst, ◌∙◌, arith}
 use Rattle.std.specs.List.{AllByRecursion}
 use Rattle.std.proofs.lemmas.Bool.{cases_eq}
 use Rattle.std.proofs.lemmas.List.{get_or_past}
-use Rattle.blockdisk.specs.Disk.{Contents}
-use Rattle.meaning.specs.Faults.{InSpace}
-use Rattle.meaning.specs.Maps.{times}
-use Rattle.meaning.specs.Retrieval.{Prime, IsRetrieved}
-use Rattle.meaning.specs.Regions.{table_start}
-use Rattle.meaning.proofs.MapSums.{times-append}
-use Rattle.meaning.proofs.SlotLaws.{all_append}
-use Rattle.changeset.specs.PutLaws.{times_tail}
-use Rattle.alloctab.specs.Lists.{digit}
-use Rattle.alloctab.specs.Reading.{IsBadTableBlock, IsTableOf}
-use Rattle.alloctab.specs.TableState.{TableState, IsTable, bit}
-use Rattle.retrieval.specs.Primes.{with_length}
-use Rattle.retrieval.specs.Reading.{IsReadAs, IsStandingVersion}
-use Rattle.volume.proofs.FoundDirectories.{all_times_at, all_behind_all}
-use Rattle.salvage.specs.Counting.{CountTo}
-use Rattle.salvage.specs.Looking.{AreFound, IsCandidate, IsInUse, IsReadAt, IsTableRead, IsUnheld}
-use Rattle.salvage.specs.Saved.{AreApart, IsAmong, IsRead, claims, place_in}
-use Rattle.salvage.specs.Surveys.{MayBeUsed}
-use Rattle.salvage.specs.Trees.{IsScanned}
+use Rattle.blockdisk.specs.Common.{Contents}
+use Rattle.spec_image.specs.Common.{InSpace, times, Prime, IsRetrieved, table_start}
+use Rattle.spec_image.proofs.Common.{times-append, all_append, each_times}
+use Rattle.changeset.specs.Common.{times_tail}
+use Rattle.alloctab.specs.Common.{digit, IsBadTableBlock, IsTableOf, TableState, IsTable, bit}
+use Rattle.retrieval.specs.Common.{with_length, IsReadAs, IsStandingVersion}
+use Rattle.salvage.specs.Common.{CountTo, AreFound, IsCandidate, IsInUse, IsReadAt, IsTableRead, IsUnheld, AreApart}
+use Rattle.salvage.specs.Common.{IsAmong, IsRead, claims, place_in, MayBeUsed, IsScanned}
 use Rattle.salvage.specs.declared.saved.SavedFile.{SavedFile}
-use Rattle.salvage.proofs.Members.{all_weaken, contains_here, contains_left, contains_right, map_behind}
+use Rattle.salvage.proofs.Members.{contains_here, contains_left, contains_right, map_behind}
+use Rattle.directory.proofs.Gathering.{all_of}
 
 -- One block.
 
@@ -36,10 +26,10 @@ module _ (size layout : ℕ) (contents : Contents) (n : ℕ) (inside : InSpace s
     retrieved = subst (λ (k : ℕ). IsRetrieved layout contents
         (with_length file.stored.prime file.stored.version.words) k file.stored.version.ribs
         file.stored.version.blocks) at read.retrieved;
-    inside = λ m among. all_times_at (InSpace size)
+    inside = λ m among. each_times (InSpace size)
         (n ∷ (file.stored.version.ribs ++ file.stored.version.blocks)) m (
           inside,
-          all_behind_all (InSpace size) file.stored.version.ribs file.stored.version.blocks read.ribs_inside
+          all_append (InSpace size) file.stored.version.ribs file.stored.version.blocks read.ribs_inside
               read.blocks_inside,
         ) among;
     ppn_fits = read.ppn_fits;
@@ -126,7 +116,7 @@ found_from size layout contents counts start from = record {
 module _ (size layout : ℕ) (contents : Contents) (counts : List ℕ) (files : List SavedFile) (n : ℕ)
     (found : AreFound size layout contents counts files n) where
   earlier_more : AllByRecursion (λ file. file.at < n + 1) files
-  earlier_more = all_weaken (λ file. file.at < n) (λ file. file.at < n + 1) files (λ file less. omega arith)
+  earlier_more = all_of (λ file. file.at < n) (λ file. file.at < n + 1) files (λ file less. omega arith)
       found.earlier
 
   pub found_passed : (table : Option TableState) → IsTableRead size contents table → IsUnheld size table
@@ -152,9 +142,9 @@ module _ (size layout : ℕ) (contents : Contents) (counts : List ℕ) (files : 
         read = all_append (IsRead size layout contents) files at.found found.read at.read;
         apart = apart;
         earlier = all_append (λ file. file.at < n + 1) files at.found earlier_more
-            (all_weaken (λ file. file.at ≡ n) (λ file. file.at < n + 1) at.found (λ file is. omega arith) at.here);
+            (all_of (λ file. file.at ≡ n) (λ file. file.at < n + 1) at.found (λ file is. omega arith) at.here);
         elsewhere = all_append (λ file. slice_index counts file.at ≡ 0) files at.found found.elsewhere
-            (all_weaken (λ file. file.at ≡ n) (λ file. slice_index counts file.at ≡ 0) at.found
+            (all_of (λ file. file.at ≡ n) (λ file. slice_index counts file.at ≡ 0) at.found
             (λ file is. ap (slice_index counts) is ∙ uncounted) at.here);
         all = all;
       })
@@ -168,9 +158,9 @@ module _ (size layout : ℕ) (contents : Contents) (counts : List ℕ) (files : 
           ∙ times-append m (map (λ (file : SavedFile). file.at) files)
           (map (λ (file : SavedFile). file.at) at.found) in
           ⊎_elim
-          (λ same. let none = none_at m files (all_weaken (λ file. file.at < n) (λ file. file.at ≡ m → ⊥) files
+          (λ same. let none = none_at m files (all_of (λ file. file.at < n) (λ file. file.at ≡ m → ⊥) files
           (λ file less is. omega arith) found.earlier) in let one = at.apart m in omega arith)
-          (λ other. let none = none_at m at.found (all_weaken (λ file. file.at ≡ n) (λ file. file.at ≡ m → ⊥)
+          (λ other. let none = none_at m at.found (all_of (λ file. file.at ≡ n) (λ file. file.at ≡ m → ⊥)
           at.found (λ file here is. other (sym is ∙ here)) at.here) in let one = found.apart m in omega arith)
           (cases_eq m n)
 
@@ -198,7 +188,7 @@ pub all_scanned : (size layout : ℕ) (contents : Contents) (counts : List ℕ) 
 all_scanned size layout contents counts named files counted found = record {
   read = found.read;
   apart = found.apart;
-  elsewhere = all_weaken (λ file. slice_index counts file.at ≡ 0) (λ file. claims named file.at ≡ 0) files
+  elsewhere = all_of (λ file. slice_index counts file.at ≡ 0) (λ file. claims named file.at ≡ 0) files
       (λ file is. let e = counted file.at in omega arith) found.elsewhere;
   all = λ file inside is used none. found.all file inside inside.below is used
       (let e = counted file.at in omega arith);

@@ -1,10 +1,10 @@
 -- What stands in a list of files or findings.
-use Rattle.std.proofs.Common.{◌≡◌, ◌⊎◌, inl, inr, ⊎_elim, ℕ, zero, suc, ◌+◌, ◌<◌, List, [], ◌∷◌, ◌++◌, length, Contains}
-use Rattle.std.proofs.Common.{slice_index_or, map, refl, sym, ap, subst, ◌∙◌, arith, append-nil}
+use Rattle.std.proofs.Common.{◌≡◌, ◌⊎◌, inl, inr, ⊎_elim, ℕ, zero, suc, ◌+◌, ◌<◌, List, [], ◌∷◌, ◌++◌, length}
+use Rattle.std.proofs.Common.{Contains, slice_index_or, map, refl, sym, ap, subst, ◌∙◌, arith, append-nil}
 use Rattle.std.specs.List.{AllByRecursion}
-use Rattle.meaning.specs.Maps.{times}
-use Rattle.meaning.proofs.MapSums.{times-append}
-use Rattle.salvage.specs.Saved.{AreApart}
+use Rattle.spec_image.specs.Common.{times}
+use Rattle.spec_image.proofs.Common.{times-append}
+use Rattle.salvage.specs.Common.{AreApart}
 use Rattle.salvage.specs.declared.saved.SavedFile.{SavedFile}
 
 pub contains_here : {X : Type 0} (x : X) (xs : List X) → Contains (x ∷ xs) x
@@ -37,11 +37,6 @@ pub all_contained : {X : Type 0} (P : X → Type 0) (y : X) (xs : List X) → Al
 all_contained P y [] all there = absurd (contains_none y there)
 all_contained P y (x ∷ xs) all there = ⊎_elim (λ is. subst P is all.0) (λ later. all_contained P y xs all.1 later)
     (contains_first x y xs there)
-
-pub all_weaken : {X : Type 0} (P Q : X → Type 0) (xs : List X) → ((x : X) → P x → Q x) → AllByRecursion P xs
-    → AllByRecursion Q xs
-all_weaken P Q [] weaker all = tt
-all_weaken P Q (x ∷ xs) weaker all = (weaker x all.0, all_weaken P Q xs weaker all.1)
 
 pub all_both : {X : Type 0} (P Q : X → Type 0) (xs : List X) → AllByRecursion P xs → AllByRecursion Q xs
     → AllByRecursion (λ x. P x × Q x) xs

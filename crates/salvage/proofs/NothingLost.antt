@@ -1,51 +1,39 @@
 -- If contents stand for files, no finding costs one of these, and what was saved is the file.
-use Rattle.std.proofs.Common.{◌≡◌, inl, inr, ⊎_elim, ℕ, zero, suc, ◌+◌, ◌<◌, ◌≤◌, List, [], ◌∷◌, ◌++◌, Some, refl, sym}
-use Rattle.std.proofs.Common.{ap, subst, ◌∙◌, arith, nat_cmp, option_map, Result, Ok, Err, IfOk}
+use Rattle.std.proofs.Common.{◌≡◌, inl, inr, ⊎_elim, ℕ, zero, suc, ◌+◌, ◌<◌, ◌≤◌, List, [], ◌∷◌, ◌++◌, Some, refl}
+use Rattle.std.proofs.Common.{sym, ap, subst, ◌∙◌, arith, nat_cmp, option_map, Result, Ok, Err, IfOk}
 use Rattle.std.proofs.lemmas.Bool.{cases_eq}
 use Rattle.std.specs.Cmp.{nat_cmp_total}
 use Rattle.std.specs.FinMap.{nat_cmp-IsAntisymmetric}
 use Rattle.std.specs.List.{AllByRecursion}
 use Rattle.words36.specs.declared.names.FileName.{FileName}
-use Rattle.blockdisk.specs.Disk.{Contents}
-use Rattle.meaning.specs.Blocks.{head_or_zero}
-use Rattle.meaning.specs.Directories.{Node, numbers, first_of, items, IsSpelled, master_words, file_words}
-use Rattle.meaning.specs.Faults.{IsBadRetrieval}
-use Rattle.meaning.specs.Faults as faults
-use Rattle.meaning.specs.Files.{File, Files, Directory, Place, name_cmp}
-use Rattle.meaning.specs.Home.{Home, IsHome}
-use Rattle.meaning.specs.Layouts.{layout_number}
-use Rattle.meaning.specs.Maps.{FinMap, get, times}
-use Rattle.meaning.specs.Retrieval.{prime_of, IsRetrieved, HasBody}
-use Rattle.meaning.specs.Stands.{StoredFile, StoredDirectory, DiskMap, HasMap, SettledStands, directory_of, place_of}
-use Rattle.meaning.specs.Stands.{entry_of, home_of, reaches, reaches_in_directory, reaches_in_file}
-use Rattle.meaning.specs.Walks.{LeadsAlong, IsDirectoryNamed, IsFileNamed}
-use Rattle.meaning.proofs.Chains.{head-numbers}
-use Rattle.meaning.proofs.DiskMaps.{once, directory_part, file_part}
-use Rattle.meaning.proofs.Excluded.{image, zero_free, IsMappedFile, file_named}
-use Rattle.meaning.proofs.ExcludedFiles.{no_fault}
-use Rattle.meaning.proofs.Lists.{not_first, times_here, times-cons}
-use Rattle.meaning.proofs.MapLaws.{some_same}
-use Rattle.meaning.proofs.MapLists.{get-map_values, get-from_entries}
-use Rattle.meaning.proofs.MapSums.{two-le-sum_entries}
-use Rattle.meaning.proofs.Names.{name_total, name_exact}
-use Rattle.meaning.proofs.Versions.{retrieved_same}
-use Rattle.retrieval.specs.Primes.{with_length}
-use Rattle.volume.specs.FileReading.{IsOtherPlace}
+use Rattle.blockdisk.specs.Common.{Contents}
+use Rattle.spec_image.specs.Common.{head_or_zero, Node, numbers, first_of, items, IsSpelled, master_words, file_words}
+use Rattle.spec_image.specs.Common.{IsBadRetrieval, File, Files, Directory, Place, name_cmp, Home, IsHome}
+use Rattle.spec_image.specs.Common.{layout_number, FinMap, get, times, prime_of, IsRetrieved, HasBody, StoredFile}
+use Rattle.spec_image.specs.Common.{StoredDirectory, DiskMap, HasMap, SettledStands, directory_of, place_of, entry_of}
+use Rattle.spec_image.specs.Common.{home_of, reaches, reaches_in_directory, reaches_in_file, LeadsAlong}
+use Rattle.spec_image.specs.Common.{IsDirectoryNamed, IsFileNamed}
+use Rattle.spec_image.proofs.Common.{head-numbers, once, directory_part, file_part, image, zero_free, IsMappedFile}
+use Rattle.spec_image.proofs.Common.{file_named, no_fault, not_first, times_here, times-cons, some_same}
+use Rattle.spec_image.proofs.Common.{get-map_values, get-from_entries, two-le-sum_entries, name_total, name_exact}
+use Rattle.spec_image.proofs.Common.{retrieved_same}
+use Rattle.retrieval.specs.Common.{with_length}
+use Rattle.volume.specs.Common.{IsOtherPlace}
 use Rattle.volume.specs.declared.error.VolumeError.{VolumeError}
-use Rattle.volume.specs.declared.error.VolumeError.TheVariants.{NotVolume, BadHome, BadLog, BadDirectory, BadRetrieval}
-use Rattle.volume.specs.declared.error.VolumeError.TheVariants.{BlockTwice, TableWrong, Device, NoMemory, Failed}
-use Rattle.volume.specs.declared.error.VolumeError.TheVariants.{BadData}
-use Rattle.salvage.specs.Findings.{Concerns, IsFaultAt, IsFaultOf, IsFaultOfChain, IsFaultOfDirectory, IsFaultOfMaster}
-use Rattle.salvage.specs.Findings.{IsFinding}
-use Rattle.salvage.specs.Saved.{AreApart, IsAmong, IsNamedRead, IsWholeFile, blocks_of, claims, place_in}
-use Rattle.salvage.specs.Surveys.{AreAllSaved, IsLostBy, IsNamedLoss, IsSavedAs, IsSurveyed}
+use Rattle.volume.specs.declared.error.VolumeError.TheVariants.{NotVolume, BadHome, BadLog, BadDirectory}
+use Rattle.volume.specs.declared.error.VolumeError.TheVariants.{BadRetrieval, BlockTwice, TableWrong, Device}
+use Rattle.volume.specs.declared.error.VolumeError.TheVariants.{NoMemory, Failed, BadData}
+use Rattle.salvage.specs.Common.{Concerns, IsFaultAt, IsFaultOf, IsFaultOfChain, IsFaultOfDirectory, IsFaultOfMaster}
+use Rattle.salvage.specs.Common.{IsFinding, AreApart, IsAmong, IsNamedRead, IsWholeFile, blocks_of, claims, place_in}
+use Rattle.salvage.specs.Common.{AreAllSaved, IsLostBy, IsNamedLoss, IsSavedAs, IsSurveyed}
 use Rattle.salvage.specs.declared.saved.SavedFile.{SavedFile}
 use Rattle.salvage.specs.declared.survey.Survey.{Survey}
 use Rattle.salvage.specs.declared.finding.Cost.{Cost}
-use Rattle.salvage.specs.declared.finding.Cost.TheVariants as cost
 use Rattle.salvage.specs.declared.finding.Finding.{Finding}
 use Rattle.salvage.proofs.Carrying.{element_has}
 use Rattle.salvage.proofs.SavedFiles.{blocks_at}
+use Rattle.spec_image.specs.Faults as faults
+use Rattle.salvage.specs.declared.finding.Cost.TheVariants as cost
 
 -- What a walk names.
 

@@ -2,20 +2,14 @@
 use Rattle.std.proofs.Common.{◌≡◌, ℕ, List, [], ◌∷◌, ◌++◌, Result, OnOk, None, sym, subst, nat_cmp}
 use Rattle.std.specs.FinMap.Entries.{find}
 use Rattle.std.specs.List.{AllByRecursion}
-use Rattle.blockdisk.specs.Disk.{Contents}
-use Rattle.meaning.specs.Blocks.{head_or_zero}
-use Rattle.meaning.specs.Directories.{MasterEntry, master_words, FileEntry, file_words, IsFileEntry}
-use Rattle.meaning.specs.Faults.{InSpace, IsMasterEntryOf}
-use Rattle.meaning.specs.Files.{name_cmp}
-use Rattle.meaning.specs.Home.{IsHome}
-use Rattle.meaning.specs.Maps.{EachOnce}
-use Rattle.meaning.specs.Regions.{IsVolumeSize}
-use Rattle.meaning.specs.Walks.{IsDirectoryNamed, LeadsAlong}
-use Rattle.meaning.proofs.DiskMaps.{file_apart}
-use Rattle.directory.specs.Chains.{ChainState, nodes_of, IsChain, IsOn}
-use Rattle.volume.specs.Homes.{home_in}
-use Rattle.salvage.specs.Reading.{IsNamedIn, IsReadTo}
-use Rattle.salvage.specs.Trees.{IsTree}
+use Rattle.blockdisk.specs.Common.{Contents}
+use Rattle.spec_image.specs.Common.{head_or_zero, MasterEntry, master_words, FileEntry, file_words, IsFileEntry}
+use Rattle.spec_image.specs.Common.{InSpace, IsMasterEntryOf, name_cmp, IsHome, EachOnce, IsVolumeSize}
+use Rattle.spec_image.specs.Common.{IsDirectoryNamed, LeadsAlong}
+use Rattle.spec_image.proofs.Common.{file_apart}
+use Rattle.directory.specs.Common.{ChainState, nodes_of, IsChain, IsOn}
+use Rattle.volume.specs.Common.{home_in}
+use Rattle.salvage.specs.Common.{IsNamedIn, IsReadTo, IsTree}
 use Rattle.salvage.specs.declared.saved.SavedFile.{SavedFile}
 use Rattle.salvage.specs.declared.finding.Finding.{Finding}
 use Rattle.salvage.proofs.Carrying.{moved, on_ok}

@@ -1,21 +1,16 @@
 -- A loop over the entries of a directory goes on by one entry.
-use Rattle.std.proofs.Common.{◌≡◌, ℕ, ◌+◌, ◌<◌, Bool, true, false, cond, List, [], ◌∷◌, ◌++◌, map, length, get_or, take}
-use Rattle.std.proofs.Common.{drop, Some, None, refl, sym, ap, subst, ◌∙◌, nat_cmp, Ordering}
+use Rattle.std.proofs.Common.{◌≡◌, ℕ, ◌+◌, ◌<◌, Bool, true, false, cond, List, [], ◌∷◌, ◌++◌, map, length, get_or}
+use Rattle.std.proofs.Common.{take, drop, Some, None, refl, sym, ap, subst, ◌∙◌, nat_cmp, Ordering}
 use Rattle.std.specs.Cmp.{IsTotalOrder, nat_cmp_total}
 use Rattle.std.specs.FinMap.{IsAntisymmetric, nat_cmp-IsAntisymmetric}
 use Rattle.std.specs.FinMap.Entries.{find}
 use Rattle.std.specs.List.{AllByRecursion}
 use Rattle.std.specs.Ordering.{eq_by_cmp}
-use Rattle.blockdisk.specs.Disk.{Contents}
-use Rattle.meaning.specs.Directories.{MasterEntry, FileEntry}
-use Rattle.meaning.specs.Files.{name_cmp}
-use Rattle.meaning.specs.Maps.{EachOnce}
-use Rattle.meaning.specs.Walks.{IsDirectoryNamed}
-use Rattle.meaning.proofs.MapLaws.{some_none, tied}
-use Rattle.meaning.proofs.MapLists.{find_first}
-use Rattle.meaning.proofs.Names.{name_total, name_exact}
-use Rattle.volume.proofs.Lookups.{viewed_more, viewed_split, viewed_at}
-use Rattle.salvage.specs.Reading.{IsNamedIn, IsReadTo}
+use Rattle.blockdisk.specs.Common.{Contents}
+use Rattle.spec_image.specs.Common.{MasterEntry, FileEntry, name_cmp, EachOnce, IsDirectoryNamed}
+use Rattle.spec_image.proofs.Common.{some_none, tied, find_first, name_total, name_exact}
+use Rattle.volume.proofs.Shared.Lookups.{viewed_more, viewed_split, viewed_at}
+use Rattle.salvage.specs.Common.{IsNamedIn, IsReadTo}
 use Rattle.salvage.specs.declared.saved.SavedFile.{SavedFile}
 use Rattle.salvage.specs.declared.finding.Finding.{Finding}
 use Rattle.salvage.proofs.Carrying.{moved}

@@ -7,35 +7,22 @@ use Rattle.std.specs.FinMap.Entries.{find}
 use Rattle.std.specs.List.{AllByRecursion}
 use Rattle.std.specs.Ordering.{eq_by_cmp}
 use Rattle.words36.specs.declared.names.FileName.{FileName}
-use Rattle.blockdisk.specs.Disk.{Contents}
-use Rattle.meaning.specs.Directories.{Node, items, MasterEntry, FileEntry, file_words}
-use Rattle.meaning.specs.Faults.{InSpace}
-use Rattle.meaning.specs.Files.{Place, name_cmp}
-use Rattle.meaning.specs.Stands.{place_of}
-use Rattle.meaning.specs.Walks.{LeadsAlong, IsFileNamed}
-use Rattle.meaning.proofs.MapLaws.{some_none}
-use Rattle.meaning.proofs.MapLists.{find_first, found_holds}
-use Rattle.meaning.proofs.Names.{name_total, name_exact}
+use Rattle.blockdisk.specs.Common.{Contents}
+use Rattle.spec_image.specs.Common.{Node, items, MasterEntry, FileEntry, file_words, InSpace, Place, name_cmp}
+use Rattle.spec_image.specs.Common.{place_of, LeadsAlong, IsFileNamed}
+use Rattle.spec_image.proofs.Common.{some_none, find_first, found_holds, name_total, name_exact, none_front}
 use Rattle.volume.specs.declared.error.VolumeError.{VolumeError}
-use Rattle.volume.proofs.Lookups.{all_both, all_each, all_push}
-use Rattle.salvage.specs.Findings.{IsFaultAt, IsFinding}
-use Rattle.salvage.specs.Reading.{IsIn, IsNamedIn, IsNoFault, IsReadTo, IsToldDirectory, IsToldFile, MayRefuse}
-use Rattle.salvage.specs.Saved.{IsNamedRead, IsRead, place_in}
+use Rattle.volume.proofs.Shared.Lookups.{all_both, all_each, all_push}
+use Rattle.salvage.specs.Common.{IsFaultAt, IsFinding, IsIn, IsNamedIn, IsNoFault, IsReadTo, IsToldDirectory}
+use Rattle.salvage.specs.Common.{IsToldFile, MayRefuse, IsNamedRead, IsRead, place_in}
 use Rattle.salvage.specs.declared.saved.SavedFile.{SavedFile}
-use Rattle.salvage.specs.declared.finding.Cost.TheVariants as cost
 use Rattle.salvage.specs.declared.finding.Finding.{Finding}
 use Rattle.salvage.proofs.Carrying.{on_ok, on_ok_both}
 use Rattle.salvage.proofs.Refusals.{fault_stands}
 use Rattle.salvage.proofs.SavedFiles.{Grows, same_place, apart_push, one_file_more, one_finding_more, lost_here}
+use Rattle.salvage.specs.declared.finding.Cost.TheVariants as cost
 
 -- Keys.
-
-none_front : {K V : Type 0} (R : K → K → Ordering) (es fs : List (K × V)) (k : K) → find R k (es ++ fs) ≡ None
-    → find R k es ≡ None
-none_front R [] fs k h = refl
-none_front R (e ∷ es) fs k h =
-    elim (eq_by_cmp R k e.0) as (λ b. cond b (Some e.1) (find R k (es ++ fs)) ≡ None
-    → cond b (Some e.1) (find R k es) ≡ None) [ true ↦ λ n. n | false ↦ λ n. none_front R es fs k n ] h
 
 pub none_back : {K V : Type 0} (R : K → K → Ordering) (es fs : List (K × V)) (k : K) → find R k (es ++ fs) ≡ None
     → find R k fs ≡ None

@@ -1,33 +1,25 @@
 -- A reader that is refused has met a fault that stands, if the disk and memory served it.
-use Rattle.std.proofs.Common.{◌≡◌, ◌⊎◌, inl, inr, ⊎_elim, ℕ, Bool, List, [], Result, Err, IfErr, IsErrOf, refl, sym, ap}
-use Rattle.std.proofs.Common.{subst, ◌∙◌, arith, nat_cmp, zero, suc, false, replicate}
-use Rattle.blockdisk.specs.Disk.{Contents}
-use Rattle.meaning.specs.Directories.{master_words, file_words, IsFileEntry}
-use Rattle.meaning.specs.Faults.{InSpace, IsBadVersion, IsMasterEntryOf, IsNotVolume, IsBadHome}
-use Rattle.meaning.specs.Files.{name_cmp}
-use Rattle.meaning.specs.Home.{Home, IsHome}
-use Rattle.meaning.specs.Layouts.{layout_number}
-use Rattle.meaning.specs.declared.layout.Layout.{Layout}
-use Rattle.meaning.specs.Regions.{IsVolumeSize}
-use Rattle.meaning.specs.Stands.{place_of}
-use Rattle.meaning.specs.Walks.{IsDirectoryNamed, IsFileNamed}
+use Rattle.std.proofs.Common.{◌≡◌, ◌⊎◌, inl, inr, ⊎_elim, ℕ, Bool, List, [], Result, Err, IfErr, IsErrOf, refl, sym}
+use Rattle.std.proofs.Common.{ap, subst, ◌∙◌, arith, nat_cmp, zero, suc, false, replicate}
+use Rattle.blockdisk.specs.Common.{Contents}
+use Rattle.spec_image.specs.Common.{master_words, file_words, IsFileEntry, InSpace, IsBadVersion, IsMasterEntryOf}
+use Rattle.spec_image.specs.Common.{IsNotVolume, IsBadHome, name_cmp, Home, IsHome, layout_number, IsVolumeSize}
+use Rattle.spec_image.specs.Common.{place_of, IsDirectoryNamed, IsFileNamed}
+use Rattle.spec_image.specs.declared.layout.Layout.{Layout}
 use Rattle.words36.specs.declared.names.FileName.{FileName}
-use Rattle.alloctab.specs.Lists.{digit_at}
-use Rattle.directory.specs.Loading.{IsBadChain, IsTwiceInChain}
+use Rattle.alloctab.specs.Common.{digit_at}
+use Rattle.directory.specs.Common.{IsBadChain, IsTwiceInChain}
 use Rattle.directory.specs.declared.error.DirectoryError.{DirectoryError}
-use Rattle.directory.specs.declared.error.DirectoryError.TheVariants as directory
-use Rattle.volume.specs.FaultsFound.{error_of_chain}
-use Rattle.volume.specs.FileReading.{IsOtherPlace, IsVersionRefusal}
-use Rattle.volume.specs.Homes.{home_in}
+use Rattle.volume.specs.Common.{error_of_chain, IsOtherPlace, IsVersionRefusal, home_in}
 use Rattle.volume.specs.declared.error.VolumeError.{VolumeError}
-use Rattle.volume.specs.declared.error.VolumeError.TheVariants.{NotVolume, BadHome, BadLog, BadDirectory, BadRetrieval}
-use Rattle.volume.specs.declared.error.VolumeError.TheVariants.{BlockTwice, TableWrong, Device, NoMemory, Failed}
-use Rattle.volume.specs.declared.error.VolumeError.TheVariants.{BadData}
-use Rattle.volume.proofs.Finding.{refusal}
-use Rattle.volume.proofs.Quotas.{chain_carries}
-use Rattle.salvage.specs.Findings.{IsFaultAt}
-use Rattle.salvage.specs.Reading.{IsChainRefusal, IsNoFault, MayRefuse}
+use Rattle.volume.specs.declared.error.VolumeError.TheVariants.{NotVolume, BadHome, BadLog, BadDirectory}
+use Rattle.volume.specs.declared.error.VolumeError.TheVariants.{BadRetrieval, BlockTwice, TableWrong, Device}
+use Rattle.volume.specs.declared.error.VolumeError.TheVariants.{NoMemory, Failed, BadData}
+use Rattle.volume.proofs.Starting.Finding.{refusal}
+use Rattle.volume.proofs.Starting.Quotas.{chain_carries}
+use Rattle.salvage.specs.Common.{IsFaultAt, IsChainRefusal, IsNoFault, MayRefuse}
 use Rattle.salvage.specs.declared.finding.Cost.{Cost}
+use Rattle.directory.specs.declared.error.DirectoryError.TheVariants as directory
 use Rattle.salvage.specs.declared.finding.Cost.TheVariants as cost
 
 -- A fault that isn't want of memory or of the device stands.

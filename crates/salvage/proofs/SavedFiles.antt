@@ -5,18 +5,12 @@ use Rattle.std.proofs.lemmas.Bool.{cases_eq}
 use Rattle.std.proofs.lemmas.List.{map-append}
 use Rattle.std.proofs.lemmas.List.Elements.{Contains-append_left, Contains-push}
 use Rattle.std.specs.List.{AllByRecursion}
-use Rattle.blockdisk.specs.Disk.{Contents}
-use Rattle.meaning.specs.Files.{Place}
-use Rattle.meaning.specs.Maps.{times}
-use Rattle.meaning.specs.Retrieval.{Prime, prime_block, first_extension}
-use Rattle.meaning.proofs.MapLaws.{some_same}
-use Rattle.meaning.proofs.MapSums.{times-append, times_other}
-use Rattle.meaning.proofs.Versions.{prime_ext_same, prime_same}
-use Rattle.retrieval.specs.Primes.{with_length}
-use Rattle.retrieval.specs.Reading.{IsVersionAt}
+use Rattle.blockdisk.specs.Common.{Contents}
+use Rattle.spec_image.specs.Common.{Place, times, Prime, prime_block, first_extension}
+use Rattle.spec_image.proofs.Common.{some_same, times-append, times_other, prime_ext_same, prime_same}
+use Rattle.retrieval.specs.Common.{with_length, IsVersionAt}
 use Rattle.volume.specs.declared.error.VolumeError.{VolumeError}
-use Rattle.salvage.specs.Saved.{AreApart, IsAmong, IsRead, place_in}
-use Rattle.salvage.specs.Surveys.{IsLostBy}
+use Rattle.salvage.specs.Common.{AreApart, IsAmong, IsRead, place_in, IsLostBy}
 use Rattle.salvage.specs.declared.saved.SavedFile.{SavedFile}
 use Rattle.salvage.specs.declared.finding.Cost.{Cost}
 use Rattle.salvage.specs.declared.finding.Finding.{Finding}

@@ -1,16 +1,12 @@
 -- What a copy is once its log was looked at.
 use Rattle.std.proofs.Common.{◌≡◌, refl, sym, subst, inr, Bool, false, true, List, ℕ}
-use Rattle.blockdisk.specs.Disk.{Contents, DiskState}
-use Rattle.blockdisk.specs.Memory.{Memory, held}
-use Rattle.changeset.specs.Crashes.{ArePending, IsLost, IsRecovered}
-use Rattle.meaning.specs.declared.put.Put.{Put}
-use Rattle.meaning.specs.Files.{File, Files}
-use Rattle.meaning.specs.Layouts.{SettledStandsOn, pack_in}
-use Rattle.meaning.specs.Log.{with_puts}
-use Rattle.meaning.specs.Stands.{SettledStands, Stands}
-use Rattle.meaning.proofs.Settled.{settled_same}
-use Rattle.volume.proofs.Starting.{stands_ignores_gate}
-use Rattle.salvage.specs.Copies.{AreCopies, IsCopyOf}
+use Rattle.blockdisk.specs.Common.{Contents, DiskState, Memory, held}
+use Rattle.changeset.specs.Common.{ArePending, IsLost, IsRecovered}
+use Rattle.spec_image.specs.declared.put.Put.{Put}
+use Rattle.spec_image.specs.Common.{File, Files, SettledStandsOn, pack_in, with_puts, SettledStands, Stands}
+use Rattle.spec_image.proofs.Common.{settled_same}
+use Rattle.volume.proofs.Starting.Starts.{stands_ignores_gate}
+use Rattle.salvage.specs.Common.{AreCopies, IsCopyOf}
 use Rattle.salvage.specs.Copies.IsSettledCopy.{settled, lost}
 use Rattle.salvage.proofs.Agreement.{stands_agree}
 use Rattle.salvage.proofs.Copying.{copies_of_all}

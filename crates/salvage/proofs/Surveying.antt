@@ -3,24 +3,19 @@ use Rattle.std.proofs.Common.{◌≡◌, ◌⊎◌, inl, inr, ⊎_elim, ℕ, zer
 use Rattle.std.proofs.Common.{arith}
 use Rattle.std.specs.List.{AllByRecursion}
 use Rattle.words36.specs.declared.names.FileName.{FileName}
-use Rattle.blockdisk.specs.Disk.{Contents}
-use Rattle.meaning.specs.Faults.{InSpace}
-use Rattle.meaning.specs.Files.{Place}
-use Rattle.meaning.specs.Maps.{times}
-use Rattle.meaning.specs.Stands.{place_of}
-use Rattle.meaning.specs.Walks.{IsFileNamed}
-use Rattle.volume.proofs.FoundDirectories.{all_behind_all}
-use Rattle.volume.proofs.Lookups.{all_each}
-use Rattle.salvage.specs.Findings.{IsFinding}
-use Rattle.salvage.specs.Saved.{AreApart, IsAmong, IsNamedRead, IsRead, blocks_of, claims, place_in}
-use Rattle.salvage.specs.Surveys.{IsLostBy, IsNamedBlock, IsNamedLoss, IsSurveyed, MayBeUsed}
-use Rattle.salvage.specs.Trees.{AreAdded, AreTaken, IsScanned, IsTree}
+use Rattle.blockdisk.specs.Common.{Contents}
+use Rattle.spec_image.specs.Common.{InSpace, Place, times, place_of, IsFileNamed}
+use Rattle.volume.proofs.Shared.Lookups.{all_each}
+use Rattle.salvage.specs.Common.{IsFinding, AreApart, IsAmong, IsNamedRead, IsRead, blocks_of, claims, place_in}
+use Rattle.salvage.specs.Common.{IsLostBy, IsNamedBlock, IsNamedLoss, IsSurveyed, MayBeUsed, AreAdded, AreTaken}
+use Rattle.salvage.specs.Common.{IsScanned, IsTree}
 use Rattle.salvage.specs.declared.saved.SavedFile.{SavedFile}
 use Rattle.salvage.specs.declared.finding.Cost.{Cost}
-use Rattle.salvage.specs.declared.finding.Cost.TheVariants as cost
 use Rattle.salvage.specs.declared.finding.Finding.{Finding}
 use Rattle.salvage.proofs.Carrying.{moved}
 use Rattle.salvage.proofs.SavedFiles.{blocks_at, apart_both, lost_more}
+use Rattle.spec_image.proofs.Common.{all_append}
+use Rattle.salvage.specs.declared.finding.Cost.TheVariants as cost
 
 -- A block that no file claims is at the head of none.
 pub unclaimed : (files : List SavedFile) (n : ℕ) → claims files n ≡ 0 → times n (blocks_at files) ≡ 0
@@ -55,7 +50,7 @@ lost_added size layout contents old new added costs is = subst (λ (l : List Fin
 stand_added : (size layout : ℕ) (contents : Contents) (old new : List Finding) → AreAdded size layout contents old new
     → AllByRecursion (IsFinding size layout contents) old → AllByRecursion (IsFinding size layout contents) new
 stand_added size layout contents old new added stand = subst (AllByRecursion (IsFinding size layout contents))
-    (sym added.new_is) (all_behind_all (IsFinding size layout contents) old added.added stand added.stand)
+    (sym added.new_is) (all_append (IsFinding size layout contents) old added.added stand added.stand)
 
 module _ (size layout : ℕ) (contents : Contents) (named unnamed files : List SavedFile)
     (first second last : List Finding) (tree : IsTree size layout contents named first)

@@ -1,22 +1,18 @@
 -- The files that were taken, first of those that directories name and then of the others.
-use Rattle.std.proofs.Common.{◌≡◌, inl, inr, ⊎_elim, ℕ, ◌≤◌, Bool, true, false, List, [], ◌++◌, Contains}
-use Rattle.std.proofs.Common.{sym, ap, subst, ◌∙◌, arith, append_assoc}
+use Rattle.std.proofs.Common.{◌≡◌, inl, inr, ⊎_elim, ℕ, ◌≤◌, Bool, true, false, List, [], ◌++◌, Contains, sym, ap}
+use Rattle.std.proofs.Common.{subst, ◌∙◌, arith, append_assoc}
 use Rattle.std.specs.List.{AllByRecursion}
-use Rattle.blockdisk.specs.Disk.{Contents}
-use Rattle.meaning.specs.Maps.{times}
-use Rattle.meaning.proofs.MapSums.{total-append}
-use Rattle.meaning.proofs.SlotLaws.{all_append, all_right}
-use Rattle.salvage.specs.Counting.{CountTo}
-use Rattle.salvage.specs.Findings.{IsFinding}
-use Rattle.salvage.specs.Saved.{AreApart, FitsDisk, IsNamedRead, IsRead, IsWholeFile, blocks_of, claims}
-use Rattle.salvage.specs.Surveys.{IsLostBy}
-use Rattle.salvage.specs.Taking.{loss_of, IsSound, Judges}
-use Rattle.salvage.specs.Trees.{AreAdded, AreTaken}
+use Rattle.blockdisk.specs.Common.{Contents}
+use Rattle.spec_image.specs.Common.{times}
+use Rattle.spec_image.proofs.Common.{total-append, all_append, all_right}
+use Rattle.salvage.specs.Common.{CountTo, IsFinding, AreApart, FitsDisk, IsNamedRead, IsRead, IsWholeFile, blocks_of}
+use Rattle.salvage.specs.Common.{claims, IsLostBy, loss_of, IsSound, Judges, AreAdded, AreTaken}
 use Rattle.salvage.specs.declared.saved.SavedFile.{SavedFile}
 use Rattle.salvage.specs.declared.finding.Finding.{Finding}
 use Rattle.salvage.proofs.Faulty.{claims_each, named_fault, unnamed_fault}
 use Rattle.salvage.proofs.Judging.{judged_all, judged_each, judged_few, judged_told, sound_once}
-use Rattle.salvage.proofs.Members.{all_both, all_three, all_weaken, contains_left, contains_right}
+use Rattle.salvage.proofs.Members.{all_both, all_three, contains_left, contains_right}
+use Rattle.directory.proofs.Gathering.{all_of}
 
 module _ (size layout : ℕ) (contents : Contents) (named unnamed files now new : List SavedFile)
     (findings found told : List Finding) (counts counts' : List ℕ)
@@ -47,10 +43,10 @@ module _ (size layout : ℕ) (contents : Contents) (named unnamed files now new 
 
   all_whole : AllByRecursion (IsWholeFile size layout contents) (first.taken ++ second.taken)
   all_whole = all_append (IsWholeFile size layout contents) first.taken second.taken
-      (all_weaken (λ file. IsNamedRead size layout contents file × IsSound contents counts file)
+      (all_of (λ file. IsNamedRead size layout contents file × IsSound contents counts file)
       (IsWholeFile size layout contents) first.taken
       (λ file is. record { read = is.0.read; undamaged = is.1.undamaged }) named_sound)
-      (all_weaken (λ file. IsRead size layout contents file × IsSound contents counts' file)
+      (all_of (λ file. IsRead size layout contents file × IsSound contents counts' file)
       (IsWholeFile size layout contents) second.taken
       (λ file is. record { read = is.0; undamaged = is.1.undamaged }) unnamed_sound)
 
@@ -128,5 +124,5 @@ module _ (size layout : ℕ) (contents : Contents) (named unnamed files now new 
     where
       all_read : AllByRecursion (IsRead size layout contents) (named ++ unnamed)
       all_read = all_append (IsRead size layout contents) named unnamed
-          (all_weaken (IsNamedRead size layout contents) (IsRead size layout contents) named (λ file is. is.read)
+          (all_of (IsNamedRead size layout contents) (IsRead size layout contents) named (λ file is. is.read)
           named_read) unnamed_read

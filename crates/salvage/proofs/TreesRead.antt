@@ -6,30 +6,22 @@ use Rattle.std.specs.FinMap.{nat_cmp-IsAntisymmetric}
 use Rattle.std.specs.FinMap.Entries.{find}
 use Rattle.std.specs.List.{AllByRecursion}
 use Rattle.words36.specs.declared.names.FileName.{FileName}
-use Rattle.blockdisk.specs.Disk.{Contents}
-use Rattle.meaning.specs.Blocks.{head_or_zero}
-use Rattle.meaning.specs.Directories.{MasterEntry, master_words}
-use Rattle.meaning.specs.Faults.{InSpace, IsMasterEntryOf}
-use Rattle.meaning.specs.Home.{IsHome}
-use Rattle.meaning.specs.Stands.{place_of}
-use Rattle.meaning.specs.Walks.{LeadsAlong, IsFileNamed}
-use Rattle.meaning.proofs.DiskMaps.{master_apart, home_same}
-use Rattle.meaning.proofs.MapLists.{found_holds}
-use Rattle.directory.specs.Chains.{ChainState, IsChain, IsOn}
-use Rattle.volume.specs.Homes.{home_in}
+use Rattle.blockdisk.specs.Common.{Contents}
+use Rattle.spec_image.specs.Common.{head_or_zero, MasterEntry, master_words, InSpace, IsMasterEntryOf, IsHome}
+use Rattle.spec_image.specs.Common.{place_of, LeadsAlong, IsFileNamed}
+use Rattle.spec_image.proofs.Common.{master_apart, home_same, found_holds}
+use Rattle.directory.specs.Common.{ChainState, IsChain, IsOn}
+use Rattle.volume.specs.Common.{home_in}
 use Rattle.volume.specs.declared.error.VolumeError.{VolumeError}
-use Rattle.salvage.specs.Findings.{IsFaultAt}
-use Rattle.salvage.specs.Reading.{IsNoFault, IsReadTo, IsToldDirectory, IsToldFile, MayRefuse}
-use Rattle.salvage.specs.Saved.{IsAmong}
-use Rattle.salvage.specs.Surveys.{IsNamedLoss}
-use Rattle.salvage.specs.Trees.{IsTree}
+use Rattle.salvage.specs.Common.{IsFaultAt, IsNoFault, IsReadTo, IsToldDirectory, IsToldFile, MayRefuse, IsAmong}
+use Rattle.salvage.specs.Common.{IsNamedLoss, IsTree}
 use Rattle.salvage.specs.declared.saved.SavedFile.{SavedFile}
-use Rattle.salvage.specs.declared.finding.Cost.TheVariants as cost
 use Rattle.salvage.specs.declared.finding.Finding.{Finding}
 use Rattle.salvage.proofs.Carrying.{on_ok_both}
 use Rattle.salvage.proofs.ChainsRead.{walked_entries}
 use Rattle.salvage.proofs.Refusals.{fault_stands}
 use Rattle.salvage.proofs.SavedFiles.{lost_here}
+use Rattle.salvage.specs.declared.finding.Cost.TheVariants as cost
 
 -- nothing was read yet
 pub nothing_read : (size layout : ℕ) (contents : Contents) → IsReadTo size layout contents [] 0 [] [] []

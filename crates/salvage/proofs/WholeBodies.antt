@@ -3,12 +3,9 @@ use Rattle.std.proofs.Common.{◌≡◌, ℕ, ◌*◌, ◌<◌, List, [], ◌∷
 use Rattle.std.proofs.Common.{subst, ◌∙◌, arith, length-append, length-take}
 use Rattle.std.specs.List.{AllByRecursion, AllZip}
 use Rattle.std.proofs.lemmas.List.{take_all}
-use Rattle.blockdisk.specs.Disk.{Contents, IsWholeBlock}
-use Rattle.meaning.specs.Costs.{blocks_of}
-use Rattle.meaning.specs.Maps.{times}
-use Rattle.meaning.specs.Retrieval.{HasBody}
-use Rattle.meaning.specs.Splices.{words_from}
-use Rattle.volume.proofs.FoundDirectories.{all_times_at}
+use Rattle.blockdisk.specs.Common.{Contents, IsWholeBlock}
+use Rattle.spec_image.specs.Common.{blocks_of, times, HasBody, words_from}
+use Rattle.spec_image.proofs.Common.{each_times}
 
 -- the words of each block
 record WordsOf (contents : Contents) (blocks : List ℕ) : Type 0 where
@@ -56,6 +53,6 @@ read_whole contents blocks items words all counted reads =
 pub never_damaged : (contents : Contents) (blocks : List ℕ) (n : ℕ) → AllByRecursion (IsWholeBlock contents) blocks
     → 0 < times n blocks → contents n ≡ None → ⊥
 never_damaged contents blocks n all among damaged =
-    let whole = all_times_at (IsWholeBlock contents) blocks n all among in
+    let whole = each_times (IsWholeBlock contents) blocks n all among in
     let holds = whole.holds in
     cc

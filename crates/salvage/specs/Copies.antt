@@ -1,10 +1,8 @@
 -- A disk that was copied into memory, and what a start would find there.
 use Rattle.std.specs.Prelude.{◌≡◌, ◌⊎◌, ◌<◌, ℕ, zero, suc, Bool, true, false, List, Contains, length, None}
-use Rattle.blockdisk.specs.Disk.{Contents, DiskState, one_more}
-use Rattle.blockdisk.specs.Memory.{Memory, held}
-use Rattle.changeset.specs.Crashes.{IsLost, IsRecovered}
-use Rattle.meaning.specs.Files.{File, Files}
-use Rattle.meaning.specs.Stands.{SettledStands, Stands}
+use Rattle.blockdisk.specs.Common.{Contents, DiskState, one_more, Memory, held}
+use Rattle.changeset.specs.Common.{IsLost, IsRecovered}
+use Rattle.spec_image.specs.Common.{File, Files, SettledStands, Stands}
 
 -- a count of failures after so many more
 abbrev pub failed_by : ℕ → ℕ → ℕ

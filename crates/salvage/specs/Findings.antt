@@ -1,28 +1,21 @@
 -- What is found wrong with a disk, and which file it costs.
 use Rattle.std.specs.Prelude.{◌≡◌, ℕ, ◌<◌, ◌≤◌, ◌⊎◌, ◌∷◌, ◌++◌, [], List, None}
 use Rattle.std.specs.List.{AllByRecursion}
-use Rattle.blockdisk.specs.Disk.{Contents}
-use Rattle.meaning.specs.Directories.{file_words, master_words}
-use Rattle.meaning.specs.Faults.{InSpace, IsBadHome, IsBadMasterBlock, IsBadVersion, IsNotVolume}
-use Rattle.meaning.specs.Files.{Place}
-use Rattle.meaning.specs.Home.{IsHome}
-use Rattle.meaning.specs.Maps.{times}
-use Rattle.meaning.specs.Retrieval.{Prime, IsRetrieved}
-use Rattle.meaning.specs.Stands.{place_of}
-use Rattle.meaning.specs.Walks.{IsDirectoryNamed, IsFileNamed}
-use Rattle.alloctab.specs.Reading.{IsBadTableBlock}
-use Rattle.directory.specs.Loading.{IsTwiceInChain}
-use Rattle.volume.specs.FaultsFound.{IsBadFileChain}
-use Rattle.volume.specs.FileReading.{IsDamagedData, IsOtherPlace}
-use Rattle.volume.specs.Homes.{home_in}
+use Rattle.blockdisk.specs.Common.{Contents}
+use Rattle.spec_image.specs.Common.{file_words, master_words, InSpace, IsBadHome, IsBadMasterBlock, IsBadVersion}
+use Rattle.spec_image.specs.Common.{IsNotVolume, Place, IsHome, times, Prime, IsRetrieved, place_of, IsDirectoryNamed}
+use Rattle.spec_image.specs.Common.{IsFileNamed}
+use Rattle.alloctab.specs.Common.{IsBadTableBlock}
+use Rattle.directory.specs.Common.{IsTwiceInChain}
+use Rattle.volume.specs.Common.{IsBadFileChain, IsDamagedData, IsOtherPlace, home_in}
 use Rattle.volume.specs.declared.error.VolumeError.{VolumeError}
 use Rattle.volume.specs.declared.error.VolumeError.TheVariants.{NotVolume, BadHome, BadDirectory, BadRetrieval}
 use Rattle.volume.specs.declared.error.VolumeError.TheVariants.{BlockTwice, TableWrong, BadData}
 use Rattle.salvage.specs.Saved.{AreApart, IsNamedRead, IsRead, blocks_of, claims, place_in}
 use Rattle.salvage.specs.declared.saved.SavedFile.{SavedFile}
 use Rattle.salvage.specs.declared.finding.Cost.{Cost}
-use Rattle.salvage.specs.declared.finding.Cost.TheVariants as cost
 use Rattle.salvage.specs.declared.finding.Finding.{Finding}
+use Rattle.salvage.specs.declared.finding.Cost.TheVariants as cost
 
 -- Files that directories name.
 

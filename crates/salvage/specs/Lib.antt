@@ -7,3 +7,4 @@ pub mod Trees
 pub mod Reading
 pub mod Taking
 pub mod Looking
+pub mod Common

@@ -1,10 +1,9 @@
 -- What stands at the blocks that were looked at so far.
 use Rattle.std.specs.Prelude.{◌≡◌, ℕ, ◌<◌, Option, None, Some, List, ◌++◌, replicate, slice_index}
 use Rattle.std.specs.List.{AllByRecursion}
-use Rattle.blockdisk.specs.Disk.{Contents}
-use Rattle.meaning.specs.Faults.{InSpace}
-use Rattle.alloctab.specs.Reading.{IsBadTableBlock, IsTableOf}
-use Rattle.alloctab.specs.TableState.{TableState, IsTable, bit}
+use Rattle.blockdisk.specs.Common.{Contents}
+use Rattle.spec_image.specs.Common.{InSpace}
+use Rattle.alloctab.specs.Common.{IsBadTableBlock, IsTableOf, TableState, IsTable, bit}
 use Rattle.salvage.specs.Saved.{AreApart, IsAmong, IsRead, place_in}
 use Rattle.salvage.specs.Surveys.{MayBeUsed}
 use Rattle.salvage.specs.declared.saved.SavedFile.{SavedFile}

@@ -4,20 +4,18 @@ use Rattle.std.specs.List.{AllByRecursion}
 use Rattle.std.specs.Ordering.{nat_cmp}
 use Rattle.std.specs.FinMap.Entries.{find}
 use Rattle.words36.specs.declared.names.FileName.{FileName}
-use Rattle.blockdisk.specs.Disk.{Contents}
-use Rattle.meaning.specs.Directories.{Node, items, MasterEntry, FileEntry, file_words}
-use Rattle.meaning.specs.Files.{name_cmp}
-use Rattle.meaning.specs.Stands.{place_of}
-use Rattle.meaning.specs.Walks.{LeadsAlong, IsFileNamed}
+use Rattle.blockdisk.specs.Common.{Contents}
+use Rattle.spec_image.specs.Common.{Node, items, MasterEntry, FileEntry, file_words, name_cmp, place_of, LeadsAlong}
+use Rattle.spec_image.specs.Common.{IsFileNamed}
 use Rattle.volume.specs.declared.error.VolumeError.{VolumeError}
-use Rattle.volume.specs.declared.error.VolumeError.TheVariants as volume
 use Rattle.salvage.specs.Findings.{IsFaultAt, IsFinding}
 use Rattle.salvage.specs.Saved.{AreApart, IsAmong, IsNamedRead}
 use Rattle.salvage.specs.Surveys.{IsLostBy}
 use Rattle.salvage.specs.declared.saved.SavedFile.{SavedFile}
 use Rattle.salvage.specs.declared.finding.Cost.{Cost}
-use Rattle.salvage.specs.declared.finding.Cost.TheVariants as cost
 use Rattle.salvage.specs.declared.finding.Finding.{Finding}
+use Rattle.volume.specs.declared.error.VolumeError.TheVariants as volume
+use Rattle.salvage.specs.declared.finding.Cost.TheVariants as cost
 
 -- Refusals.
 

@@ -1,15 +1,10 @@
 -- Files that are taken from a disk, whatever else is wrong with it.
 use Rattle.std.specs.Prelude.{◌≡◌, ℕ, ◌≤◌, List, Contains, length, map}
 use Rattle.std.specs.List.{AllByRecursion}
-use Rattle.blockdisk.specs.Disk.{Contents, IsWholeBlock}
-use Rattle.meaning.specs.Costs.{blocks_of as words_blocks}
-use Rattle.meaning.specs.Faults.{InSpace}
-use Rattle.meaning.specs.Files.{Place}
-use Rattle.meaning.specs.Maps.{times, total}
-use Rattle.meaning.specs.Stands.{place_of}
-use Rattle.meaning.specs.Walks.{IsFileNamed}
-use Rattle.retrieval.specs.Reading.{IsVersionAt}
-use Rattle.volume.specs.Known.{blocks_reached}
+use Rattle.blockdisk.specs.Common.{Contents, IsWholeBlock}
+use Rattle.spec_image.specs.Common.{blocks_of as words_blocks, InSpace, Place, times, total, place_of, IsFileNamed}
+use Rattle.retrieval.specs.Common.{IsVersionAt}
+use Rattle.volume.specs.Common.{blocks_reached}
 use Rattle.salvage.specs.declared.saved.SavedFile.{SavedFile}
 
 -- the blocks of a file: the prime block, the extensions and the data blocks

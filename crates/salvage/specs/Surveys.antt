@@ -2,23 +2,18 @@
 use Rattle.std.specs.Prelude.{◌≡◌, ◌⊎◌, ℕ, ◌<◌, ◌≤◌, List, Contains, Some}
 use Rattle.std.specs.List.{AllByRecursion}
 use Rattle.words36.specs.declared.names.FileName.{FileName}
-use Rattle.blockdisk.specs.Disk.{Contents}
-use Rattle.meaning.specs.Faults.{InSpace}
-use Rattle.meaning.specs.Files.{File, Files, Place, Directory}
-use Rattle.meaning.specs.Maps.{get, times}
-use Rattle.meaning.specs.Retrieval.{HasBody, prime_of}
-use Rattle.meaning.specs.Stands.{place_of}
-use Rattle.meaning.specs.Table.{table_bit}
-use Rattle.meaning.specs.Walks.{IsFileNamed}
-use Rattle.alloctab.specs.Reading.{IsBadTableBlock}
-use Rattle.retrieval.specs.Primes.{with_length}
+use Rattle.blockdisk.specs.Common.{Contents}
+use Rattle.spec_image.specs.Common.{InSpace, File, Files, Place, Directory, get, times, HasBody, prime_of, place_of}
+use Rattle.spec_image.specs.Common.{table_bit, IsFileNamed}
+use Rattle.alloctab.specs.Common.{IsBadTableBlock}
+use Rattle.retrieval.specs.Common.{with_length}
 use Rattle.volume.specs.declared.error.VolumeError.{VolumeError}
 use Rattle.salvage.specs.Findings.{IsFinding}
 use Rattle.salvage.specs.Saved.{IsAmong, IsNamedRead, IsRead, IsWholeFile, blocks_of, claims, place_in}
 use Rattle.salvage.specs.declared.saved.SavedFile.{SavedFile}
 use Rattle.salvage.specs.declared.finding.Cost.{Cost}
-use Rattle.salvage.specs.declared.finding.Cost.TheVariants as cost
 use Rattle.salvage.specs.declared.finding.Finding.{Finding}
+use Rattle.salvage.specs.declared.finding.Cost.TheVariants as cost
 
 -- One of the findings costs this.
 pub record IsLostBy (findings : List Finding) (costs : Cost) : Type 0 where

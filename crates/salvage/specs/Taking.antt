@@ -1,15 +1,15 @@
 -- Which of a list of files are taken, file by file.
 use Rattle.std.specs.Prelude.{◌≡◌, ◌⊎◌, ℕ, ◌<◌, Bool, true, false, List, [], ◌∷◌, ◌++◌, None, slice_index}
 use Rattle.std.specs.List.{AllByRecursion}
-use Rattle.blockdisk.specs.Disk.{Contents, IsWholeBlock}
-use Rattle.meaning.specs.Maps.{times}
+use Rattle.blockdisk.specs.Common.{Contents, IsWholeBlock}
+use Rattle.spec_image.specs.Common.{times}
 use Rattle.volume.specs.declared.error.VolumeError.{VolumeError}
 use Rattle.volume.specs.declared.error.VolumeError.TheVariants.{BadData, BlockTwice}
 use Rattle.salvage.specs.Saved.{blocks_of}
 use Rattle.salvage.specs.declared.saved.SavedFile.{SavedFile}
 use Rattle.salvage.specs.declared.finding.Cost.{Cost}
-use Rattle.salvage.specs.declared.finding.Cost.TheVariants as cost
 use Rattle.salvage.specs.declared.finding.Finding.{Finding}
+use Rattle.salvage.specs.declared.finding.Cost.TheVariants as cost
 
 -- what a file costs that isn't taken, if a directory names it or none does
 abbrev pub loss_of : Bool → SavedFile → Cost

@@ -2,16 +2,14 @@
 use Rattle.std.specs.Prelude.{◌≡◌, ◌⊎◌, ℕ, ◌≤◌, List, ◌++◌, Contains}
 use Rattle.std.specs.List.{AllByRecursion}
 use Rattle.words36.specs.declared.names.FileName.{FileName}
-use Rattle.blockdisk.specs.Disk.{Contents}
-use Rattle.meaning.specs.Faults.{InSpace}
-use Rattle.meaning.specs.Stands.{place_of}
-use Rattle.meaning.specs.Walks.{IsFileNamed}
+use Rattle.blockdisk.specs.Common.{Contents}
+use Rattle.spec_image.specs.Common.{InSpace, place_of, IsFileNamed}
 use Rattle.salvage.specs.Findings.{IsFinding}
 use Rattle.salvage.specs.Saved.{AreApart, IsAmong, IsNamedRead, IsRead, IsWholeFile, claims, place_in}
 use Rattle.salvage.specs.Surveys.{IsLostBy, IsNamedLoss, MayBeUsed}
 use Rattle.salvage.specs.declared.saved.SavedFile.{SavedFile}
-use Rattle.salvage.specs.declared.finding.Cost.TheVariants as cost
 use Rattle.salvage.specs.declared.finding.Finding.{Finding}
+use Rattle.salvage.specs.declared.finding.Cost.TheVariants as cost
 
 -- What directories name: files whose retrieval blocks are whole, and what is wrong with the others.
 pub record IsTree (size layout : ℕ) (contents : Contents) (files : List SavedFile) (findings : List Finding)

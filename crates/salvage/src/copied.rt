@@ -1,15 +1,14 @@
 ghost use Rattle.std.specs.Prelude.{◌≡◌, ◌↔◌, ◌<◌, ◌≤◌, ℕ, IfOk, IsErrOf, IsErr, IsFalse, IsTrue, None, length};
-ghost use Rattle.blockdisk.specs.Disk.{SameDisk, one_more};
-ghost use Rattle.blockdisk.specs.Memory.{held, loaded};
-ghost use Rattle.changeset.specs.Reads.{OnlyReads};
-ghost use Rattle.meaning.specs.Regions.{IsVolumeSize};
+ghost use Rattle.blockdisk.specs.Common.{SameDisk, one_more, held, loaded};
+ghost use Rattle.changeset.specs.Common.{OnlyReads};
+ghost use Rattle.spec_image.specs.Common.{IsVolumeSize};
 ghost use Rattle.salvage.specs.declared.error.SalvageError.TheVariants.{Device, NotVolume};
-ghost use Rattle.salvage.specs.Copies.{AreCopies, IsCopyOf, failed_by};
+ghost use Rattle.salvage.specs.Common.{AreCopies, IsCopyOf, failed_by};
 
 use crate::SalvageError;
 use blockdisk::{Disk, Fault, MemDisk, NoMemory};
 use changeset::{LogError, MAX_PUTS, recover};
-use meaning::layout::is_volume_size;
+use spec_image::layout::is_volume_size;
 use std::alloc::Global;
 
 /// How many writes and syncs a copy lives through: more than a recovery makes.

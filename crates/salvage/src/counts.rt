@@ -1,7 +1,7 @@
 ghost use Rattle.std.specs.Prelude.{◌≡◌, ◌+◌, ◌<◌, ◌∷◌, ℕ, [], length, replicate, slice_index, IfOk, IfErr, IfSome};
 ghost use Rattle.std.specs.Prelude.{IfNone};
 ghost use Rattle.std.specs.List.{AllByRecursion};
-ghost use Rattle.meaning.specs.Maps.{times};
+ghost use Rattle.spec_image.specs.Common.{times};
 ghost use Rattle.salvage.specs.Counting.{CountTo};
 ghost use Rattle.salvage.specs.Saved.{FitsDisk, blocks_of, claims};
 ghost use Rattle.salvage.specs.declared.error.SalvageError.TheVariants.{NoMemory};

@@ -1,13 +1,10 @@
 ghost use Rattle.std.specs.Prelude.{◌≡◌, ◌↔◌, ◌+◌, ◌<◌, ℕ, IfOk, IsErrOf, IsTrue, OnOk, length};
 ghost use Rattle.std.specs.List.{AllByRecursion};
-ghost use Rattle.blockdisk.specs.Disk.{SameDisk, one_more};
-ghost use Rattle.changeset.specs.Reads.{OnlyReads};
-ghost use Rattle.meaning.specs.Faults.{InSpace};
-ghost use Rattle.meaning.specs.Layouts.{layout_number};
-ghost use Rattle.meaning.specs.Regions.{IsVolumeSize};
-ghost use Rattle.salvage.specs.Looking.{AreFound, IsCandidate, IsReadAt, IsTableRead, IsUnheld};
-ghost use Rattle.salvage.specs.Saved.{FitsDisk};
-ghost use Rattle.salvage.specs.Trees.{AreAdded, IsScanned};
+ghost use Rattle.blockdisk.specs.Common.{SameDisk, one_more};
+ghost use Rattle.changeset.specs.Common.{OnlyReads};
+ghost use Rattle.spec_image.specs.Common.{InSpace, layout_number, IsVolumeSize};
+ghost use Rattle.salvage.specs.Common.{AreFound, IsCandidate, IsReadAt, IsTableRead, IsUnheld, FitsDisk, AreAdded};
+ghost use Rattle.salvage.specs.Common.{IsScanned};
 ghost use Rattle.salvage.specs.declared.error.SalvageError.TheVariants.{Device, NotVolume};
 
 use crate::counts::Counts;
@@ -15,8 +12,8 @@ use crate::lists::{push_file, tell};
 use crate::{Cost, Finding, SalvageError, SavedFile};
 use alloctab::{Table, TableError};
 use blockdisk::Disk;
-use meaning::layout::{Layout, space_start};
 use retrieval::{RetrievalError, read_version};
+use spec_image::layout::{Layout, space_start};
 use std::alloc::Global;
 use volume::{StoredVersion, VolumeError};
 

@@ -1,14 +1,9 @@
 ghost use Rattle.std.specs.Prelude.{◌≡◌, ◌↔◌, IfOk, IsErrOf};
 ghost use Rattle.std.specs.List.{AllByRecursion};
-ghost use Rattle.blockdisk.specs.Disk.{SameDisk, one_more};
-ghost use Rattle.changeset.specs.Reads.{OnlyReads};
-ghost use Rattle.meaning.specs.Files.{File, Files};
-ghost use Rattle.meaning.specs.Home.{Home, IsHome};
-ghost use Rattle.meaning.specs.Layouts.{layout_number};
-ghost use Rattle.meaning.specs.Regions.{IsVolumeSize};
-ghost use Rattle.meaning.specs.Stands.{SettledStands};
-ghost use Rattle.salvage.specs.Saved.{FitsDisk};
-ghost use Rattle.salvage.specs.Surveys.{AreAllSaved, IsSurveyed};
+ghost use Rattle.blockdisk.specs.Common.{SameDisk, one_more};
+ghost use Rattle.changeset.specs.Common.{OnlyReads};
+ghost use Rattle.spec_image.specs.Common.{File, Files, Home, IsHome, layout_number, IsVolumeSize, SettledStands};
+ghost use Rattle.salvage.specs.Common.{FitsDisk, AreAllSaved, IsSurveyed};
 ghost use Rattle.salvage.specs.declared.error.SalvageError.TheVariants.{Device, NotVolume};
 
 use crate::scan::scan;
@@ -16,7 +11,7 @@ use crate::take::take;
 use crate::tree::{Tree, read_tree};
 use crate::{Finding, SalvageError, SavedFile};
 use blockdisk::Disk;
-use meaning::layout::{Layout, is_volume_size};
+use spec_image::layout::{Layout, is_volume_size};
 use std::alloc::Global;
 
 /// What a survey of a disk finds.

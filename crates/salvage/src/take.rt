@@ -1,11 +1,10 @@
 ghost use Rattle.std.specs.Prelude.{◌≡◌, ◌++◌, ◌∷◌, ℕ, [], IfOk, IfErr, IfSome, IfNone, IsErrOf, OnOk, length};
 ghost use Rattle.std.specs.List.{AllByRecursion};
-ghost use Rattle.blockdisk.specs.Disk.{SameDisk, one_more};
-ghost use Rattle.changeset.specs.Reads.{OnlyReads};
-ghost use Rattle.meaning.specs.Regions.{IsVolumeSize};
-ghost use Rattle.salvage.specs.Saved.{AreApart, FitsDisk, IsNamedRead, IsRead};
-ghost use Rattle.salvage.specs.Taking.{IsBlamed, IsSound, Judges, loss_of};
-ghost use Rattle.salvage.specs.Trees.{AreAdded, AreTaken};
+ghost use Rattle.blockdisk.specs.Common.{SameDisk, one_more};
+ghost use Rattle.changeset.specs.Common.{OnlyReads};
+ghost use Rattle.spec_image.specs.Common.{IsVolumeSize};
+ghost use Rattle.salvage.specs.Common.{AreApart, FitsDisk, IsNamedRead, IsRead, IsBlamed, IsSound, Judges, loss_of};
+ghost use Rattle.salvage.specs.Common.{AreAdded, AreTaken};
 ghost use Rattle.salvage.specs.declared.error.SalvageError.TheVariants.{Device, NotVolume};
 
 use crate::counts::Counts;

@@ -1,9 +1,9 @@
 ghost use Rattle.std.specs.Prelude.{◌≡◌, IfOk, IsErrOf, IsSomeAnd, length};
 ghost use Rattle.std.specs.List.{AllByRecursion};
-ghost use Rattle.blockdisk.specs.Disk.{IsWholeBlock, SameDisk, one_more};
-ghost use Rattle.changeset.specs.Reads.{OnlyReads};
-ghost use Rattle.meaning.specs.Retrieval.{HasBody};
-ghost use Rattle.salvage.specs.Saved.{FitsDisk};
+ghost use Rattle.blockdisk.specs.Common.{IsWholeBlock, SameDisk, one_more};
+ghost use Rattle.changeset.specs.Common.{OnlyReads};
+ghost use Rattle.spec_image.specs.Common.{HasBody};
+ghost use Rattle.salvage.specs.Common.{FitsDisk};
 ghost use Rattle.salvage.specs.declared.error.SalvageError.TheVariants.{Device, NoMemory, NotVolume};
 
 use crate::{SalvageError, SavedFile};

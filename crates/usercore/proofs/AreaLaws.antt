@@ -1,26 +1,22 @@
 -- What is written lies in the areas that are named.
 use Rattle.std.proofs.Common.{◌≡◌, ◌≢◌, ◌⊎◌, inl, inr, ⊎_elim, ℕ, zero, suc, ◌+◌, ◌-◌, ◌*◌, ◌^◌, ◌<◌, ◌≤◌, Bool, true}
 use Rattle.std.proofs.Common.{false, List, [], ◌∷◌, ◌++◌, length, refl, ap, sym, subst, ◌∙◌, arith, slice_index}
-use Rattle.std.proofs.Common.{slice_set}
-use Rattle.std.proofs.Common.{Option, Some, None, ◌==◌, ◌||◌, ◌&&◌, if◌then◌else◌, replicate, take, drop}
+use Rattle.std.proofs.Common.{slice_set, Option, Some, None, ◌==◌, ◌||◌, ◌&&◌, if◌then◌else◌, replicate, take, drop}
 use Rattle.std.specs.Prelude.{option_map}
 use Rattle.std.specs.List.{AllByRecursion}
 use Rattle.std.proofs.lemmas.Bool.{cases_lt}
 use Rattle.std.proofs.lemmas.Bool.Decides.{nat_tests}
 use Rattle.std.proofs.lemmas.List.{get_or-set_other, length-take, length-replicate}
-use Rattle.words36.specs.Words.{left, right, join}
-use Rattle.meaning.specs.declared.area.Area.{Area}
-use Rattle.meaning.specs.Cores.{after_writes, placed, dealt, lies_outside}
-use Rattle.meaning.specs.Rings.{base, buffer_at, buffer_words, data_words, buffer_writes, ring_writes, setup_writes}
-use Rattle.meaning.specs.Rings.{setup}
-use Rattle.meaning.specs.Rings.{follower, pointer, bytes_in_word, with_ring, kept_if, current, target, next, is_unused}
-use Rattle.meaning.specs.Rings.{is_good, in_is_good}
-use Rattle.meaning.specs.Rings.{out_is_good, last_is_good, in_ready, out_ready, buffer_left, in_writes, put_behind}
-use Rattle.meaning.specs.Rings.{out_writes}
-use Rattle.meaning.proofs.CoreWrites.{writes_length}
-use Rattle.meaning.proofs.SlotLaws.{all_append}
-use Rattle.usercore.specs.Areas.{IsOutside, ChangesWithin, words_at, setup_areas, step_areas}
-use Rattle.usercore.specs.Steps.{after_in, after_out}
+use Rattle.words36.specs.Common.{left, right, join}
+use Rattle.spec_machine.specs.declared.area.Area.{Area}
+use Rattle.spec_machine.specs.Common.{after_writes, placed, dealt, lies_outside, base, buffer_at, buffer_words}
+use Rattle.spec_machine.specs.Common.{data_words, buffer_writes, ring_writes, setup_writes, setup, follower, pointer}
+use Rattle.spec_machine.specs.Common.{bytes_in_word, with_ring, kept_if, current, target, next, is_unused, is_good}
+use Rattle.spec_machine.specs.Common.{in_is_good, out_is_good, last_is_good, in_ready, out_ready, buffer_left}
+use Rattle.spec_machine.specs.Common.{in_writes, put_behind, out_writes}
+use Rattle.spec_machine.proofs.Common.{writes_length, inside}
+use Rattle.spec_image.proofs.Common.{all_append}
+use Rattle.usercore.specs.Common.{IsOutside, ChangesWithin, words_at, setup_areas, step_areas, after_in, after_out}
 use Rattle.usercore.proofs.FirstRings.{ringed, at_header, join_right, is_fresh}
 
 -- Writes of which none names an address leave its word.
@@ -177,9 +173,6 @@ out_stays core h size address out =
     (data_words * bytes_in_word size) (replicate data_words 0) (length-replicate {A = ℕ} data_words 0) out.0 out.1.1.0)
 
 -- The core that it finds: the old one, or one in which a ring of two was set up first.
-
-pub inside : (core : List ℕ) (a n : ℕ) → lies_outside core a n ≡ false → a + n ≤ length core
-inside core a n e = grind (arith, nat_tests)
 
 pub ringed_from : (core ready : List ℕ) (h size : ℕ) → setup core h size 2 ≡ Some ready
     → (ready ≡ ringed core h size) × (base core + 0o406 ≤ length core) × (h + 3 ≤ length core)

@@ -1,22 +1,21 @@
 -- A ring of two that a step sets up first, and what the step then finds.
-use Rattle.std.proofs.Common.{◌≡◌, ◌≢◌, ℕ, ◌+◌, ◌*◌, ◌%◌, ◌^◌, ◌<◌, ◌≤◌, Bool, true, false, List, [], ◌∷◌, length, refl}
-use Rattle.std.proofs.Common.{ap, sym, ◌∙◌, inl, inr, ◌==◌, ◌&&◌, ◌||◌, nat_lt, if◌then◌else◌, Some, None, Option}
-use Rattle.std.proofs.Common.{arith, slice_index}
+use Rattle.std.proofs.Common.{◌≡◌, ◌≢◌, ℕ, ◌+◌, ◌*◌, ◌%◌, ◌^◌, ◌<◌, ◌≤◌, Bool, true, false, List, [], ◌∷◌, length}
+use Rattle.std.proofs.Common.{refl, ap, sym, ◌∙◌, inl, inr, ◌==◌, ◌&&◌, ◌||◌, nat_lt, if◌then◌else◌, Some, None}
+use Rattle.std.proofs.Common.{Option, arith, slice_index}
 use Rattle.std.specs.Prelude.{not, is_some, IsSome, option_map}
 use Rattle.std.proofs.lemmas.Grind.{common_steps, elements}
 use Rattle.std.proofs.lemmas.Nat.{div-mul-add}
 use Rattle.std.proofs.lemmas.Bool.Decides.{nat_tests}
 use Rattle.std.proofs.lemmas.Bool.{cases_lt}
-use Rattle.words36.specs.Words.{left, right, join}
-use Rattle.meaning.specs.Cores.{after_writes, first_free}
-use Rattle.meaning.specs.Rings.{base, buffer_at, ring_writes, setup_writes, unused_header, pointer, setup, with_ring}
-use Rattle.meaning.specs.Rings.{kept_if, current, is_unused, is_marked, target, next, is_good, in_is_good, last_is_good}
-use Rattle.meaning.specs.Rings.{out_is_good, in_ready, out_ready, ring_words, buffer_data}
+use Rattle.words36.specs.Common.{left, right, join}
+use Rattle.spec_machine.specs.Common.{after_writes, first_free, base, buffer_at, ring_writes, setup_writes}
+use Rattle.spec_machine.specs.Common.{unused_header, pointer, setup, with_ring, kept_if, current, is_unused}
+use Rattle.spec_machine.specs.Common.{is_marked, target, next, is_good, in_is_good, last_is_good, out_is_good}
+use Rattle.spec_machine.specs.Common.{in_ready, out_ready, ring_words, buffer_data}
 use Rattle.usercore.specs.declared.byte_size.ByteSize.{ByteSize}
 use Rattle.usercore.specs.declared.byte_size.ByteSize.TheVariants.{Ascii, Whole}
-use Rattle.usercore.specs.ByteSizes.{bits_of}
-use Rattle.usercore.specs.FirstRings.{is_spared, first_is_good}
-use Rattle.meaning.proofs.CoreWrites.{writes_append, writes_length}
+use Rattle.usercore.specs.Common.{bits_of, is_spared, first_is_good}
+use Rattle.spec_machine.proofs.Common.{writes_append, writes_length}
 use Rattle.usercore.proofs.WriteLaws.{read_header}
 
 -- the core that the setup leaves, where the ring fits

@@ -3,10 +3,10 @@ use Rattle.std.proofs.Common.{◌≡◌, ◌≢◌, ℕ, zero, suc, ◌+◌, ◌
 use Rattle.std.proofs.Common.{Some, None, refl, ap, sym, ◌∙◌, arith, append_assoc, append-nil, add-one, slice_index}
 use Rattle.std.specs.Prelude.{option_map}
 use Rattle.std.proofs.lemmas.Bool.Decides.{nat_tests}
-use Rattle.words36.specs.Words.{left, right}
-use Rattle.meaning.specs.declared.area.Area.{Area}
-use Rattle.meaning.specs.CommandLists.{areas_from, dump_list, word_count}
-use Rattle.meaning.proofs.MapSums.{total-append}
+use Rattle.words36.specs.Common.{left, right}
+use Rattle.spec_machine.specs.declared.area.Area.{Area}
+use Rattle.spec_machine.specs.Common.{areas_from, dump_list, word_count}
+use Rattle.spec_image.proofs.Common.{total-append}
 
 -- areas that were found already, and then those that are still to be found
 abbrev pub prepend : List Area → Option (List Area) → Option (List Area)

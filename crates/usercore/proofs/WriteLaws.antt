@@ -1,7 +1,7 @@
 -- Writes into a core.
 use Rattle.std.proofs.Common.{◌≡◌, ◌*◌, ◌||◌, Some, None, ℕ, suc, ◌+◌, ◌<◌, ◌≤◌, ◌==◌, if◌then◌else◌, List, [], ◌∷◌}
-use Rattle.std.proofs.Common.{◌++◌, length, take, drop, refl, ap, sym, ◌∙◌, arith, get_or, drop-cons, min, slice_index}
-use Rattle.std.proofs.Common.{slice_range, slice_set, ◌-◌, inl, inr, ⊎_elim, All, slice_index_or}
+use Rattle.std.proofs.Common.{◌++◌, length, take, drop, refl, ap, sym, ◌∙◌, arith, get_or, drop-cons, min}
+use Rattle.std.proofs.Common.{slice_index, slice_range, slice_set, ◌-◌, inl, inr, ⊎_elim, All, slice_index_or}
 use Rattle.std.proofs.lemmas.Grind.{common_steps, elements}
 use Rattle.std.proofs.lemmas.List.Elements.{All-set}
 use Rattle.std.proofs.lemmas.Bool.Decides.{nat_tests}
@@ -10,15 +10,13 @@ use Rattle.std.proofs.lemmas.Bool.{cases_lt}
 use Rattle.std.proofs.lemmas.List.{take_more, length-take-le, drop_all, ext_get_or, take_at, get_or_default}
 use Rattle.std.proofs.lemmas.List.{take_min as std_take_min}
 use borrow.Rule.Slice.PartMut.{put_mid, Post-is}
-use Rattle.words36.specs.Words.{IsWord, left, join}
-use Rattle.meaning.specs.declared.area.Area.{Area}
-use Rattle.meaning.specs.CommandLists.{word_count}
-use Rattle.meaning.specs.Cores.{after_writes, placed, dealt, joined, lies_outside, first_free}
-use Rattle.meaning.specs.Rings.{base, buffer_at, buffer_words, unused_header, setup, ring_writes, buffer_writes}
-use Rattle.meaning.specs.Rings.{buffer_left, filled, marked, in_writes, put_behind, target, out_writes}
-use Rattle.meaning.proofs.CoreWrites.{writes_append, writes_length, spared, found}
-use Rattle.usercore.specs.CoreWords.{IsCore}
-use Rattle.usercore.specs.Steps.{filled_by, emptied_by, zeroed}
+use Rattle.words36.specs.Common.{IsWord, left, join}
+use Rattle.spec_machine.specs.declared.area.Area.{Area}
+use Rattle.spec_machine.specs.Common.{word_count, after_writes, placed, dealt, joined, lies_outside, first_free, base}
+use Rattle.spec_machine.specs.Common.{buffer_at, buffer_words, unused_header, setup, ring_writes, buffer_writes}
+use Rattle.spec_machine.specs.Common.{buffer_left, filled, marked, in_writes, put_behind, target, out_writes}
+use Rattle.spec_machine.proofs.Common.{writes_append, writes_length, spared, found}
+use Rattle.usercore.specs.Common.{IsCore, filled_by, emptied_by, zeroed}
 
 placed_append : (a : ℕ) (xs ys : List ℕ) → placed a (xs ++ ys) ≡ placed a xs ++ placed (a + length xs) ys
 placed_append a [] ys = grind arith

@@ -1,10 +1,9 @@
 -- Areas of a core, and those that the steps of a ring may change.
-use Rattle.std.specs.Prelude.{◌≡◌, ◌⊎◌, ◌<◌, ◌≤◌, ℕ, ◌+◌, ◌-◌, ◌*◌, ◌==◌, if◌then◌else◌, List, [], ◌∷◌}
-use Rattle.std.specs.Prelude.{length, slice_index}
+use Rattle.std.specs.Prelude.{◌≡◌, ◌⊎◌, ◌<◌, ◌≤◌, ℕ, ◌+◌, ◌-◌, ◌*◌, ◌==◌, if◌then◌else◌, List, [], ◌∷◌, length}
+use Rattle.std.specs.Prelude.{slice_index}
 use Rattle.std.specs.List.{AllByRecursion}
-use Rattle.meaning.specs.declared.area.Area.{Area}
-use Rattle.meaning.specs.Cores.{first_free}
-use Rattle.meaning.specs.Rings.{buffer_words, base, current, target}
+use Rattle.spec_machine.specs.declared.area.Area.{Area}
+use Rattle.spec_machine.specs.Common.{first_free, buffer_words, base, current, target}
 
 -- an address outside an area
 abbrev pub IsOutside : ℕ → Area → Type 0

@@ -1,7 +1,7 @@
 -- What a job's core is: so many words, each of 36 bits.
 use Rattle.std.specs.Prelude.{ℕ, ◌≤◌, List, length}
 use Rattle.std.specs.List.{All}
-use Rattle.words36.specs.Words.{IsWord}
+use Rattle.words36.specs.Common.{IsWord}
 
 pub record IsCore (core : List ℕ) : Type 0 where
   pub least : 0o1000 ≤ length core

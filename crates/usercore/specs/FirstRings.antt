@@ -1,8 +1,7 @@
 -- A ring of two that a step sets up first, seen in the core before it.
 use Rattle.std.specs.Prelude.{ℕ, ◌+◌, ◌^◌, ◌%◌, ◌==◌, ◌&&◌, ◌||◌, not, Bool, List, slice_index}
-use Rattle.words36.specs.Words.{left}
-use Rattle.meaning.specs.Cores.{first_free, lies_outside}
-use Rattle.meaning.specs.Rings.{base}
+use Rattle.words36.specs.Common.{left}
+use Rattle.spec_machine.specs.Common.{first_free, lies_outside, base}
 
 -- The word of its first buffer isn't written over by the header, nor by the job word that says where rings go,
 -- unless that one has the size of a buffer in its left half.

@@ -3,3 +3,4 @@ pub mod ByteSizes
 pub mod Steps
 pub mod FirstRings
 pub mod Areas
+pub mod Common

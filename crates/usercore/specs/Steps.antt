@@ -1,9 +1,8 @@
 -- The steps of a ring as calls of a core: what each puts or leaves. None is AddressCheck.
 use Rattle.std.specs.Prelude.{ℕ, ◌+◌, ◌-◌, ◌*◌, ◌==◌, if◌then◌else◌, List, [], ◌∷◌, ◌++◌, length, replicate, Option}
 use Rattle.std.specs.Prelude.{option_map}
-use Rattle.meaning.specs.Cores.{after_writes, placed}
-use Rattle.meaning.specs.Rings.{pointer, bytes_in_word, data_words, in_ready, in_writes, out_ready, out_writes}
-use Rattle.meaning.specs.Rings.{ring_words, last_words, unused_header}
+use Rattle.spec_machine.specs.Common.{after_writes, placed, pointer, bytes_in_word, data_words, in_ready, in_writes}
+use Rattle.spec_machine.specs.Common.{out_ready, out_writes, ring_words, last_words, unused_header}
 use Rattle.usercore.specs.declared.ring_check.RingStep.{RingStep}
 use Rattle.usercore.specs.declared.ring_check.RingStep.TheVariants.{In, Out, Close}
 

@@ -10,7 +10,7 @@ pub struct Area {
 }
 
 impl Model for Area {
-    ghost use Rattle.meaning.specs.declared.area.Area.{Area as Words};
+    ghost use Rattle.spec_machine.specs.declared.area.Area.{Area as Words};
 
     ghost Value = { Words };
 

@@ -1,6 +1,6 @@
 ghost use Rattle.std.specs.Prelude.{◌≡◌, ◌%◌, ◌^◌};
-ghost use Rattle.words36.specs.Words.{left};
-ghost use Rattle.meaning.specs.Rings.{is_marked, marked, unmarked};
+ghost use Rattle.words36.specs.Common.{left};
+ghost use Rattle.spec_machine.specs.Common.{is_marked, marked, unmarked};
 
 use words36::Word;
 

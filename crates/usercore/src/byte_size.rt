@@ -1,6 +1,6 @@
 ghost use Rattle.std.specs.Prelude.{◌≡◌, ◌<◌, ◌^◌};
-ghost use Rattle.meaning.specs.Rings.{byte_size, bytes_in_word, pointer};
-ghost use Rattle.usercore.specs.ByteSizes.{bits_of};
+ghost use Rattle.spec_machine.specs.Common.{byte_size, bytes_in_word, pointer};
+ghost use Rattle.usercore.specs.Common.{bits_of};
 
 use words36::Word;
 

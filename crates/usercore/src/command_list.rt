@@ -1,7 +1,7 @@
 ghost use Rattle.std.specs.Prelude.{◌≡◌, ◌<◌, ◌≤◌, ◌+◌, ◌-◌, ◌^◌, ◌↔◌, All, [], ◌∷◌, Some, None, IsSome, IfSome};
 ghost use Rattle.std.specs.Prelude.{IfOk, IfErr, OnErr, length, slice_index};
-ghost use Rattle.words36.specs.Words.{left, right};
-ghost use Rattle.meaning.specs.CommandLists.{dump_list, word_count};
+ghost use Rattle.words36.specs.Common.{left, right};
+ghost use Rattle.spec_machine.specs.Common.{dump_list, word_count};
 ghost use Rattle.usercore.specs.declared.error.CoreError.TheVariants.{AddressCheck};
 
 use crate::{Area, Core, CoreError, LARGEST_CORE};

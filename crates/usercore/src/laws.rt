@@ -1,9 +1,7 @@
 ghost use Rattle.std.specs.Prelude.{◌≡◌, ◌≤◌, ℕ, List, Some, length};
-ghost use Rattle.meaning.specs.Cores.{after_writes, dealt};
-ghost use Rattle.meaning.specs.Rings.{data_words, setup};
-ghost use Rattle.meaning.specs.declared.area.Area.{Area as Words};
-ghost use Rattle.usercore.specs.Areas.{ChangesWithin, setup_areas, in_areas, out_areas};
-ghost use Rattle.usercore.specs.Steps.{after_in, after_out};
+ghost use Rattle.spec_machine.specs.Common.{after_writes, dealt, data_words, setup};
+ghost use Rattle.spec_machine.specs.declared.area.Area.{Area as Words};
+ghost use Rattle.usercore.specs.Common.{ChangesWithin, setup_areas, in_areas, out_areas, after_in, after_out};
 
 /// A step changes no words but those of its areas: words that are dealt out, a setup, an IN and an OUT.
 pub fn steps_change_their_areas()

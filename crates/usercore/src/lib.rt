@@ -18,7 +18,7 @@
 //!
 //! Headers, buffers, byte pointers and command words are those of the TOPS-10 Monitor Calls Manual. The sizes of
 //! a core, the order of the writes, how many command words are looked at and how many words they may name are
-//! this project's profile. `Rings`, `CommandLists` and `Cores` among the definitions of `meaning` say all of
+//! this project's profile. `Rings`, `CommandLists` and `Cores` among the definitions of `spec_machine` say all of
 //! it; the clauses here name these.
 #![tactic(auto)]
 

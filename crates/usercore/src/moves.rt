@@ -1,7 +1,6 @@
 ghost use Rattle.std.specs.Prelude.{◌≡◌, ◌<◌, ◌≤◌, ◌+◌, ◌^◌, ◌↔◌, All, IsOk, IfOk, OnOk, OnErr, IfErr, length};
 ghost use Rattle.std.specs.Prelude.{slice_range};
-ghost use Rattle.meaning.specs.Cores.{after_writes, placed, dealt, joined};
-ghost use Rattle.meaning.specs.CommandLists.{word_count};
+ghost use Rattle.spec_machine.specs.Common.{after_writes, placed, dealt, joined, word_count};
 ghost use Rattle.usercore.specs.declared.error.CoreError.TheVariants.{AddressCheck};
 
 use crate::{Area, Core, CoreError};
@@ -87,7 +86,7 @@ impl Core {
     }
 
     /// Puts words from an address on: those outside the core are lost.
-    #[tactic(auto, using(meaning::proofs::CoreWrites::writes_length, crate::proofs::WriteLaws::placed_more))]
+    #[tactic(auto, using(spec_machine::proofs::CoreWrites::writes_length, crate::proofs::WriteLaws::placed_more))]
     pub(crate) fn place(&mut self, first: usize, words: &[Word])
         requires { first + length words.now < 2 ^ 64 }
         ensures placed { self.new ≡ after_writes self.old (placed first words.now) }

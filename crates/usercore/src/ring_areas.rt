@@ -1,6 +1,6 @@
 ghost use Rattle.std.specs.Prelude.{◌≡◌, ◌≤◌};
-ghost use Rattle.meaning.specs.Rings.{buffers_of};
-ghost use Rattle.usercore.specs.Areas.{setup_areas, step_areas, in_areas, out_areas};
+ghost use Rattle.spec_machine.specs.Common.{buffers_of};
+ghost use Rattle.usercore.specs.Common.{setup_areas, step_areas, in_areas, out_areas};
 
 use crate::buffer::BUFFER_WORDS;
 use crate::rings::buffers_of;

@@ -1,10 +1,8 @@
 ghost use Rattle.std.specs.Prelude.{◌≡◌, ◌<◌, ◌≤◌, ◌+◌, ◌^◌, Some, None, IfOk, IfErr, OnErr, IfSome, IfNone, true};
 ghost use Rattle.std.specs.Prelude.{is_some, option_map, length, slice_range};
-ghost use Rattle.meaning.specs.Rings.{current, put_count, last_is_good, in_ready, out_ready, ring_words, last_words};
-ghost use Rattle.meaning.specs.Cores.{first_free};
-ghost use Rattle.usercore.specs.ByteSizes.{bits_of};
-ghost use Rattle.usercore.specs.FirstRings.{first_is_good};
-ghost use Rattle.usercore.specs.Steps.{words_put};
+ghost use Rattle.spec_machine.specs.Common.{current, put_count, last_is_good, in_ready, out_ready, ring_words};
+ghost use Rattle.spec_machine.specs.Common.{last_words, first_free};
+ghost use Rattle.usercore.specs.Common.{bits_of, first_is_good, words_put};
 ghost use Rattle.usercore.specs.declared.error.CoreError.TheVariants.{AddressCheck};
 
 use crate::buffer::{BUFFER_SIZE, BUFFER_WORDS, DATA_WORDS, size_field};
@@ -105,7 +103,7 @@ impl Core {
     }
 
     /// What a CLOSE hands to the file: nothing where there is no last buffer.
-    #[tactic(auto, using(std::proofs::lemmas::Bool::Decides::nat_tests), unfolding(meaning::specs::Rings::last_words))]
+    #[tactic(auto, using(std::proofs::lemmas::Bool::Decides::nat_tests), unfolding(spec_machine::specs::Rings::last_words))]
     fn close_area(&self, header: usize) -> Option<Area>
         requires { header < 2 ^ 32 }
         ensures words { IfSome result (λ area. last_words self.now header

@@ -1,14 +1,13 @@
 ghost use Rattle.std.specs.Prelude.{◌≡◌, ◌<◌, ◌≤◌, ◌+◌, ◌*◌, ◌^◌, Some, IsSome, length};
-ghost use Rattle.meaning.specs.Cores.{after_writes};
-ghost use Rattle.meaning.specs.Rings.{data_words, buffer_words, base, buffer_writes, unused_header, setup, with_ring};
-ghost use Rattle.meaning.specs.Rings.{buffer_left, in_writes, put_behind, out_writes};
-ghost use Rattle.usercore.specs.ByteSizes.{bits_of};
-ghost use Rattle.usercore.specs.Steps.{header_unset, header_words, filled_by, emptied_by, closed_by};
+ghost use Rattle.spec_machine.specs.Common.{after_writes, data_words, buffer_words, base, buffer_writes};
+ghost use Rattle.spec_machine.specs.Common.{unused_header, setup, with_ring, buffer_left, in_writes, put_behind};
+ghost use Rattle.spec_machine.specs.Common.{out_writes};
+ghost use Rattle.usercore.specs.Common.{bits_of, header_unset, header_words, filled_by, emptied_by, closed_by};
 
 use crate::buffer::{BUFFER_SIZE, BUFFER_WORDS, DATA_WORDS, marked, unmarked};
 use crate::user_core::FIRST_FREE;
 use crate::{ByteSize, Core};
-use meaning::IoStatus;
+use spec_machine::IoStatus;
 use words36::{Half, Word};
 
 /// The left half of the first word of a header whose ring isn't in use.
@@ -39,7 +38,7 @@ impl Core {
     }
 
     /// Sets up a ring that fits.
-    #[tactic(auto, using(meaning::proofs::CoreWrites::writes_length, crate::proofs::WriteLaws::ring_more, crate::proofs::WriteLaws::setup_parts))]
+    #[tactic(auto, using(spec_machine::proofs::CoreWrites::writes_length, crate::proofs::WriteLaws::ring_more, crate::proofs::WriteLaws::setup_parts))]
     pub(crate) fn set_up(&mut self, header: usize, bytes: ByteSize, count: usize)
         requires low { header < 2 ^ 32 }
         requires there { header + 3 ≤ length self.old }
@@ -72,7 +71,7 @@ impl Core {
     }
 
     /// Sets up a ring of two where the header names no buffer.
-    #[tactic(auto, using(std::proofs::lemmas::Bool::Decides::nat_tests), unfolding(meaning::specs::Rings::setup))]
+    #[tactic(auto, using(std::proofs::lemmas::Bool::Decides::nat_tests), unfolding(spec_machine::specs::Rings::setup))]
     pub(crate) fn make_ready(&mut self, header: usize, bytes: ByteSize)
         requires low { header < 2 ^ 32 }
         requires fits { IsSome (with_ring self.old header (bits_of bytes)) }
@@ -111,7 +110,7 @@ impl Core {
     }
 
     /// Fills a buffer, whose own word becomes this one, and makes it the current one.
-    #[tactic(auto, using(meaning::proofs::CoreWrites::writes_append))]
+    #[tactic(auto, using(spec_machine::proofs::CoreWrites::writes_append))]
     fn fill_buffer(
         &mut self,
         header: usize,
@@ -167,7 +166,7 @@ impl Core {
     }
 
     /// Empties a buffer, and makes it the current one.
-    #[tactic(auto, using(meaning::proofs::CoreWrites::writes_append), unfolding(crate::specs::Steps::zeroed))]
+    #[tactic(auto, using(spec_machine::proofs::CoreWrites::writes_append), unfolding(crate::specs::Steps::zeroed))]
     fn empty_buffer(&mut self, header: usize, bytes: ByteSize, buffer: usize)
         requires low { header < 2 ^ 32 }
         requires fits { buffer < 2 ^ 18 }

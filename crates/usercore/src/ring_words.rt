@@ -1,6 +1,5 @@
 ghost use Rattle.std.specs.Prelude.{◌≡◌, ◌<◌, ◌^◌, not};
-ghost use Rattle.meaning.specs.Cores.{lies_outside};
-ghost use Rattle.meaning.specs.Rings.{base, current, next, target, is_unused, is_good};
+ghost use Rattle.spec_machine.specs.Common.{lies_outside, base, current, next, target, is_unused, is_good};
 
 use crate::Core;
 use crate::buffer::{BUFFER_SIZE, DATA_WORDS, is_marked, size_field};

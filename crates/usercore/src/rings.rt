@@ -1,14 +1,12 @@
 ghost use Rattle.std.specs.Prelude.{ℕ, ◌≡◌, ◌<◌, ◌^◌, ◌++◌, Some, None, OnOk, OnErr, IfErr, length, take};
-ghost use Rattle.meaning.specs.Cores.{after_writes};
-ghost use Rattle.meaning.specs.Rings.{byte_size, data_words, setup, buffers_of, in_ready, out_ready, closed_header};
-ghost use Rattle.meaning.specs.Opening.{header_opened};
-ghost use Rattle.usercore.specs.ByteSizes.{bits_of};
-ghost use Rattle.usercore.specs.Steps.{after_in, after_out};
+ghost use Rattle.spec_machine.specs.Common.{after_writes, byte_size, data_words, setup, buffers_of, in_ready};
+ghost use Rattle.spec_machine.specs.Common.{out_ready, closed_header, header_opened};
+ghost use Rattle.usercore.specs.Common.{bits_of, after_in, after_out};
 ghost use Rattle.usercore.specs.declared.error.CoreError.TheVariants.{AddressCheck};
 
 use crate::buffer::{BUFFER_WORDS, DATA_WORDS, marked};
 use crate::{ByteSize, Core, CoreError, RingStep};
-use meaning::IoStatus;
+use spec_machine::IoStatus;
 use words36::Word;
 
 impl Core {
@@ -29,7 +27,7 @@ impl Core {
     /// # Errors
     ///
     /// `AddressCheck` where the buffers or the header don't lie in the core, and nothing is changed.
-    #[tactic(auto, using(std::proofs::lemmas::Bool::Decides::nat_tests), unfolding(meaning::specs::Rings::setup))]
+    #[tactic(auto, using(std::proofs::lemmas::Bool::Decides::nat_tests), unfolding(spec_machine::specs::Rings::setup))]
     pub fn ring_setup(
         &mut self,
         header: u32,

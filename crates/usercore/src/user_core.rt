@@ -1,7 +1,7 @@
-ghost use Rattle.std.specs.Prelude.{◌≡◌, ◌<◌, ◌≤◌, ◌+◌, ◌↔◌, ◌⊎◌, IsOk, IfOk, IfErr, OnErr, IsErrOf, length, replicate};
-ghost use Rattle.std.specs.Prelude.{All, slice_index, slice_range, slice_set};
-ghost use Rattle.words36.specs.Words.{IsWord};
-ghost use Rattle.meaning.specs.Cores.{after_writes, placed, first_free, rings_begin, with_right};
+ghost use Rattle.std.specs.Prelude.{◌≡◌, ◌<◌, ◌≤◌, ◌+◌, ◌↔◌, ◌⊎◌, IsOk, IfOk, IfErr, OnErr, IsErrOf, length};
+ghost use Rattle.std.specs.Prelude.{replicate, All, slice_index, slice_range, slice_set};
+ghost use Rattle.words36.specs.Common.{IsWord};
+ghost use Rattle.spec_machine.specs.Common.{after_writes, placed, first_free, rings_begin, with_right};
 ghost use Rattle.usercore.specs.declared.error.CoreError.TheVariants.{AddressCheck};
 
 use crate::CoreError;
@@ -29,7 +29,7 @@ pub struct Core {
 
 impl Model for Core {
     ghost use Rattle.std.specs.Prelude.{ℕ, List};
-    ghost use Rattle.usercore.specs.CoreWords.{IsCore};
+    ghost use Rattle.usercore.specs.Common.{IsCore};
 
     ghost Value = { List ℕ };
 

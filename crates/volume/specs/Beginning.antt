@@ -1,18 +1,15 @@
 -- What the beginning of a version does to core.
-use Rattle.std.specs.Prelude.{◌≡◌, ◌⊎◌, ℕ, ◌+◌, Bool, true, false, if◌then◌else◌, List, [], length, is_none, slice_get}
-use Rattle.std.specs.Prelude.{Option}
-use Rattle.std.specs.Prelude.{Some, None, IfSome, option_map}
+use Rattle.std.specs.Prelude.{◌≡◌, ◌⊎◌, ℕ, ◌+◌, Bool, true, false, if◌then◌else◌, List, [], length, is_none}
+use Rattle.std.specs.Prelude.{slice_get, Option, Some, None, IfSome, option_map}
 use Rattle.std.specs.Ordering.{nat_cmp}
 use Rattle.std.specs.FinMap.Entries.{find}
 use Rattle.words36.specs.declared.names.FileName.{FileName}
-use Rattle.meaning.specs.declared.code.ErrorCode.{ErrorCode}
-use Rattle.meaning.specs.declared.code.ErrorCode.TheVariants.{NoDirectory, NameExists, NotFound, NoRoom}
-use Rattle.meaning.specs.Files.{name_cmp}
-use Rattle.meaning.specs.Maps.{total, times}
-use Rattle.meaning.specs.Room.{growth}
-use Rattle.alloctab.specs.TableState.{holds}
-use Rattle.directory.specs.Edits.{StandsAt}
-use Rattle.retrieval.specs.Versions.{VersionState}
+use Rattle.spec_image.specs.declared.code.ErrorCode.{ErrorCode}
+use Rattle.spec_image.specs.declared.code.ErrorCode.TheVariants.{NoDirectory, NameExists, NotFound, NoRoom}
+use Rattle.spec_image.specs.Common.{name_cmp, total, times, growth}
+use Rattle.alloctab.specs.Common.{holds}
+use Rattle.directory.specs.Common.{StandsAt}
+use Rattle.retrieval.specs.Common.{VersionState}
 use Rattle.retrieval.specs.declared.prime.Prime.{Prime}
 use Rattle.volume.specs.Known.{KnownDirectory, Before, IsNamed, cost_before}
 use Rattle.volume.specs.Live.{VolumeCore, as_known, slot, pending_at, creates, is_create}

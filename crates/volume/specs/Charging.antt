@@ -1,16 +1,12 @@
 -- What a directory in core is charged for, what its quota leaves, and what another quota makes of core.
-use Rattle.std.specs.Prelude.{◌≡◌, ℕ, ◌+◌, ◌-◌, ◌*◌, ◌/◌, ◌%◌, ◌^◌, ◌==◌, ◌<◌, ◌≤◌, if◌then◌else◌}
-use Rattle.std.specs.Prelude.{List, [], length, Option, Some, None, slice_get}
+use Rattle.std.specs.Prelude.{◌≡◌, ℕ, ◌+◌, ◌-◌, ◌*◌, ◌/◌, ◌%◌, ◌^◌, ◌==◌, ◌<◌, ◌≤◌, if◌then◌else◌, List, [], length}
+use Rattle.std.specs.Prelude.{Option, Some, None, slice_get}
 use Rattle.std.specs.Ordering.{nat_cmp}
 use Rattle.std.specs.FinMap.Entries.{find}
-use Rattle.meaning.specs.declared.put.Put.{Put}
-use Rattle.meaning.specs.Costs.{directory_cost, version_cost}
-use Rattle.meaning.specs.Directories.{master_words}
-use Rattle.meaning.specs.Files.{File, Directory}
-use Rattle.meaning.specs.Maps.{size, sum_over, total}
-use Rattle.meaning.specs.Retrieval.{most_blocks}
-use Rattle.meaning.specs.Splices.{length_after}
-use Rattle.directory.specs.Edits.{StandsAt, PutsChain, inserted}
+use Rattle.spec_image.specs.declared.put.Put.{Put}
+use Rattle.spec_image.specs.Common.{directory_cost, version_cost, master_words, File, Directory, size, sum_over}
+use Rattle.spec_image.specs.Common.{total, most_blocks, length_after}
+use Rattle.directory.specs.Common.{StandsAt, PutsChain, inserted}
 use Rattle.volume.specs.Beginning.{entries_with}
 use Rattle.volume.specs.Known.{KnownDirectory, cost_of_version}
 use Rattle.volume.specs.Live.{VolumeCore, pending_cost}

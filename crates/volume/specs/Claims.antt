@@ -1,9 +1,7 @@
 -- A place is claimed where a version is being written for it.
 use Rattle.std.specs.Prelude.{Bool, false, List, Option, None, Some}
 use Rattle.std.specs.List.{list_any}
-use Rattle.meaning.specs.Files.{Place}
-use Rattle.meaning.specs.Published.{same_place}
-use Rattle.meaning.specs.Stands.{place_of}
+use Rattle.spec_image.specs.Common.{Place, same_place, place_of}
 use Rattle.volume.specs.declared.pending.PendingVersion.{PendingVersion}
 
 abbrev pub claims_at : Place → Option PendingVersion → Bool

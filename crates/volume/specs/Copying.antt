@@ -1,7 +1,7 @@
 -- An image that is copied block by block, with zeros in the place of a block that is damaged.
 use Rattle.std.specs.Prelude.{◌≡◌, ◌⊎◌, ◌<◌, ◌≤◌, ℕ, List, Option, Some, None, Result, IfErr, IsErrOf, replicate}
-use Rattle.blockdisk.specs.Disk.{Contents, DiskState, MayLeave, SameDisk, one_more}
-use Rattle.changeset.specs.Reads.{OnlyReads}
+use Rattle.blockdisk.specs.Common.{Contents, DiskState, MayLeave, SameDisk, one_more}
+use Rattle.changeset.specs.Common.{OnlyReads}
 use Rattle.volume.specs.declared.error.CopyError.{CopyError}
 use Rattle.volume.specs.declared.error.CopyError.TheVariants.{Source, Target}
 use Rattle.volume.specs.declared.error.VolumeError.TheVariants.{Device}

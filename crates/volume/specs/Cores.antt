@@ -1,14 +1,14 @@
 -- What is kept in core, as values.
 use Rattle.std.specs.Prelude.{map}
-use Rattle.meaning.specs.Directories.{master_word}
-use Rattle.meaning.specs.Directories as words
+use Rattle.spec_image.specs.Common.{master_word}
 use Rattle.directory.specs.declared.file.FileEntry.{FileEntry}
 use Rattle.directory.specs.declared.master.MasterEntry.{MasterEntry}
-use Rattle.directory.specs.Chains.{viewed}
+use Rattle.directory.specs.Common.{viewed}
 use Rattle.volume.specs.Known.{KnownVersion, KnownDirectory, Known}
 use Rattle.volume.specs.declared.files.StoredVersion.{StoredVersion}
 use Rattle.volume.specs.declared.map.StoredDirectory.{StoredDirectory}
 use Rattle.volume.specs.declared.map.DiskMap.{DiskMap}
+use Rattle.spec_image.specs.Directories as words
 
 -- an entry as a key and what stands there
 abbrev pub file_view : FileEntry → words.FileEntry

@@ -1,8 +1,8 @@
 -- What a call leaves of the disk that it asks, whatever it answers. `device` says that it answered that the device
 -- failed.
 use Rattle.std.specs.Prelude.{◌≡◌}
-use Rattle.blockdisk.specs.Disk.{DiskState, Keeps, SameDisk, one_more}
-use Rattle.changeset.specs.Reads.{OnlyReads}
+use Rattle.blockdisk.specs.Common.{DiskState, Keeps, SameDisk, one_more}
+use Rattle.changeset.specs.Common.{OnlyReads}
 
 -- It is the same disk, and a failure is counted exactly where the device failed.
 pub record DiskAnswer (s s' : DiskState) (device : Type 0) : Type 0 where

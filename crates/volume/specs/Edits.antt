@@ -1,13 +1,10 @@
 -- One change of a volume on its disk: its puts are committed, all or none. What the commit says, and what follows for
 -- files, versions and home copies, whichever call makes the change.
 use Rattle.std.specs.Prelude.{◌≡◌, ◌⊎◌, ℕ, Bool, true, List, Result, OnOk, IfErr, IsErrOf}
-use Rattle.blockdisk.specs.Disk.{DiskState, NoneOpen, SameDisk, SameOutside, Near, Modifies, LeavesOnly, one_more}
-use Rattle.changeset.specs.Crashes.{IsGateOrLog, IsShut, AllOrNone}
-use Rattle.changeset.specs.Puts.{IsPutIn}
-use Rattle.meaning.specs.declared.put.Put.{Put}
-use Rattle.meaning.specs.Files.{File, Files}
-use Rattle.meaning.specs.Layouts.{pack_of}
-use Rattle.meaning.specs.Log.{with_puts}
+use Rattle.blockdisk.specs.Common.{DiskState, NoneOpen, SameDisk, SameOutside, Near, Modifies, LeavesOnly, one_more}
+use Rattle.changeset.specs.Common.{IsGateOrLog, IsShut, AllOrNone, IsPutIn}
+use Rattle.spec_image.specs.declared.put.Put.{Put}
+use Rattle.spec_image.specs.Common.{File, Files, pack_of, with_puts}
 use Rattle.volume.specs.HomeBlocks.{HasHomesFrom, KeepsHomes}
 use Rattle.volume.specs.Live.{VolumeCore}
 use Rattle.volume.specs.Rest.{IsSoundCore, RestsAt, StandsForOneOf, KeepsRead, KeepsEachWritten}

@@ -1,8 +1,7 @@
 -- What is kept in core of a file: all but its words.
 use Rattle.std.specs.Prelude.{ℕ, List, length}
-use Rattle.meaning.specs.Stands.{StoredFile}
-use Rattle.retrieval.specs.Modes.{mode_number}
-use Rattle.retrieval.specs.Versions.{VersionState}
+use Rattle.spec_image.specs.Common.{StoredFile}
+use Rattle.retrieval.specs.Common.{mode_number, VersionState}
 use Rattle.retrieval.specs.declared.prime.Prime.{Prime as PrimeValue}
 
 pub record Facts : Type 0 where

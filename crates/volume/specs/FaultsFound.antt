@@ -5,24 +5,21 @@ use Rattle.std.specs.List.{AllByRecursion}
 use Rattle.std.specs.Ordering.{nat_cmp}
 use Rattle.std.specs.FinMap.Entries.{find}
 use Rattle.words36.specs.declared.names.FileName.{FileName}
-use Rattle.blockdisk.specs.Disk.{Contents}
-use Rattle.meaning.specs.Maps.{EachOnce, total}
-use Rattle.meaning.specs.Files.{Place, name_cmp}
-use Rattle.meaning.specs.Directories.{Node, items, MasterEntry, FileEntry, file_words, IsFileEntry}
-use Rattle.meaning.specs.Stands.{place_of}
-use Rattle.meaning.specs.Walks.{LeadsAlong}
-use Rattle.meaning.specs.Faults.{InSpace, IsBadVersion, ReadFile, ReadDirectory, times_in_file, times_in_directory}
-use Rattle.meaning.specs.Faults.{IsFileRead, IsDirectoryRead, IsSettledFault, HasFault}
-use Rattle.meaning.specs.Faults as faults
-use Rattle.alloctab.specs.Inside.{InTable}
-use Rattle.directory.specs.Loading.{IsBadChain}
+use Rattle.blockdisk.specs.Common.{Contents}
+use Rattle.spec_image.specs.Common.{EachOnce, total, Place, name_cmp, Node, items, MasterEntry, FileEntry, file_words}
+use Rattle.spec_image.specs.Common.{IsFileEntry, place_of, LeadsAlong, InSpace, IsBadVersion, ReadFile, ReadDirectory}
+use Rattle.spec_image.specs.Common.{times_in_file, times_in_directory, IsFileRead, IsDirectoryRead, IsSettledFault}
+use Rattle.spec_image.specs.Common.{HasFault}
+use Rattle.alloctab.specs.Common.{InTable}
+use Rattle.directory.specs.Common.{IsBadChain}
 use Rattle.directory.specs.declared.error.DirectoryError.{DirectoryError}
-use Rattle.directory.specs.declared.error.DirectoryError.TheVariants as directory
 use Rattle.volume.specs.FileReading.{IsOtherPlace, IsReachedTwice, IsDamagedData}
 use Rattle.volume.specs.declared.error.VolumeError.{VolumeError}
-use Rattle.volume.specs.declared.error.VolumeError.TheVariants.{NotVolume, BadHome, BadLog, BadDirectory, BadRetrieval}
-use Rattle.volume.specs.declared.error.VolumeError.TheVariants.{BlockTwice, TableWrong, Device, NoMemory, Failed}
-use Rattle.volume.specs.declared.error.VolumeError.TheVariants.{BadData}
+use Rattle.volume.specs.declared.error.VolumeError.TheVariants.{NotVolume, BadHome, BadLog, BadDirectory}
+use Rattle.volume.specs.declared.error.VolumeError.TheVariants.{BadRetrieval, BlockTwice, TableWrong, Device}
+use Rattle.volume.specs.declared.error.VolumeError.TheVariants.{NoMemory, Failed, BadData}
+use Rattle.spec_image.specs.Faults as faults
+use Rattle.directory.specs.declared.error.DirectoryError.TheVariants as directory
 
 -- A block that a refusal names lies in the free space; that of TableWrong is one of the table. It holds on every
 -- disk, since numbers are checked before a block is read.

@@ -1,10 +1,8 @@
 -- What was found of a file is what the file is, but for its words.
 use Rattle.std.specs.Prelude.{◌≡◌, ℕ, ◌∷◌, ◌++◌}
-use Rattle.blockdisk.specs.Disk.{Contents}
-use Rattle.meaning.specs.Maps.{times}
-use Rattle.meaning.specs.Files.{Place}
-use Rattle.meaning.specs.Stands.{reaches_in_file}
-use Rattle.retrieval.specs.Versions.{VersionState}
+use Rattle.blockdisk.specs.Common.{Contents}
+use Rattle.spec_image.specs.Common.{times, Place, reaches_in_file}
+use Rattle.retrieval.specs.Common.{VersionState}
 use Rattle.retrieval.specs.declared.prime.Prime.{Prime as PrimeValue}
 use Rattle.volume.specs.Facts.{facts_of, known_facts}
 use Rattle.volume.specs.FileReading.{IsFileFound}

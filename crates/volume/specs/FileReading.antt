@@ -1,15 +1,11 @@
 -- What reading one file finds, that a name in a directory leads to.
 use Rattle.std.specs.Prelude.{◌≡◌, ℕ, ◌+◌, ◌<◌, ◌≤◌, Bool, List, length, Some, None}
 use Rattle.std.specs.List.{AllByRecursion}
-use Rattle.blockdisk.specs.Disk.{Contents}
-use Rattle.meaning.specs.Maps.{times}
-use Rattle.meaning.specs.Files.{Place}
-use Rattle.meaning.specs.Retrieval.{Prime, Run, IsRun, prime_of, prime_block, IsPrime, IsRetrieved}
-use Rattle.meaning.specs.Stands.{StoredFile, IsVersion}
-use Rattle.meaning.specs.Faults.{ReadFile, times_in_file}
-use Rattle.alloctab.specs.Lists.{digit_at}
-use Rattle.retrieval.specs.Primes.{with_length}
-use Rattle.retrieval.specs.Versions.{VersionState}
+use Rattle.blockdisk.specs.Common.{Contents}
+use Rattle.spec_image.specs.Common.{times, Place, Prime, Run, IsRun, prime_of, prime_block, IsPrime, IsRetrieved}
+use Rattle.spec_image.specs.Common.{StoredFile, IsVersion, ReadFile, times_in_file}
+use Rattle.alloctab.specs.Common.{digit_at}
+use Rattle.retrieval.specs.Common.{with_length, VersionState}
 use Rattle.retrieval.specs.declared.prime.Prime.{Prime as PrimeValue}
 use Rattle.volume.specs.declared.error.VolumeError.{VolumeError}
 use Rattle.volume.specs.declared.error.VolumeError.TheVariants.{BadRetrieval, BlockTwice, Device, NoMemory, BadData}

@@ -2,24 +2,15 @@
 use Rattle.std.specs.Prelude.{◌≡◌, ◌⊎◌, ℕ, ◌+◌, ◌/◌, ◌<◌, Bool, None, List, [], ◌∷◌, ◌++◌, map}
 use Rattle.std.specs.List.{AllByRecursion, AllZip}
 use Rattle.words36.specs.declared.names.FileName.{FileName}
-use Rattle.blockdisk.specs.Disk.{Contents}
-use Rattle.meaning.specs.Maps.{EachOnce, times, total}
-use Rattle.meaning.specs.Files.{name_cmp}
-use Rattle.meaning.specs.Directories.{items, MasterEntry, master_words, FileEntry, file_words}
-use Rattle.meaning.specs.Stands.{StoredFile, StoredDirectory, place_of, entry_of, reaches_in_file, reaches_in_directory}
-use Rattle.meaning.specs.Stands.{IsVersion, IsWhole}
-use Rattle.meaning.specs.Walks.{LeadsAlong}
-use Rattle.meaning.specs.Faults.{InSpace, IsMasterEntryOf, ReadDirectory, times_in_directory, IsFileRead}
-use Rattle.meaning.specs.Regions.{IsVolumeSize, table_blocks, table_start}
-use Rattle.meaning.specs.Blocks.{head_or_zero}
-use Rattle.meaning.specs.Home.{IsHome}
+use Rattle.blockdisk.specs.Common.{Contents}
+use Rattle.spec_image.specs.Common.{EachOnce, times, total, name_cmp, items, MasterEntry, master_words, FileEntry}
+use Rattle.spec_image.specs.Common.{file_words, StoredFile, StoredDirectory, place_of, entry_of, reaches_in_file}
+use Rattle.spec_image.specs.Common.{reaches_in_directory, IsVersion, IsWhole, LeadsAlong, InSpace, IsMasterEntryOf}
+use Rattle.spec_image.specs.Common.{ReadDirectory, times_in_directory, IsFileRead, IsVolumeSize, table_blocks}
+use Rattle.spec_image.specs.Common.{table_start, head_or_zero, IsHome, table_bit}
 use Rattle.std.specs.Ordering.{nat_cmp}
-use Rattle.meaning.specs.Table.{table_bit}
-use Rattle.alloctab.specs.Lists.{digit_at}
-use Rattle.alloctab.specs.TableState.{TableState, bit}
-use Rattle.alloctab.specs.Reached.{wanted_bit}
-use Rattle.alloctab.specs.Reading.{IsTableOf}
-use Rattle.directory.specs.Chains.{ChainState, IsChain, IsOn}
+use Rattle.alloctab.specs.Common.{digit_at, TableState, bit, wanted_bit, IsTableOf}
+use Rattle.directory.specs.Common.{ChainState, IsChain, IsOn}
 use Rattle.volume.specs.Facts.{facts_of, known_facts}
 use Rattle.volume.specs.Homes.{home_in}
 use Rattle.volume.specs.FileReading.{IsFileFound}

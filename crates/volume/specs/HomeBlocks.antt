@@ -1,6 +1,6 @@
 -- Blocks 0 to 2, the one that is never read and the two home copies, which no call changes.
 use Rattle.std.specs.Prelude.{◌≡◌, ℕ, ◌≤◌}
-use Rattle.blockdisk.specs.Disk.{Contents, DiskState, MayLeave}
+use Rattle.blockdisk.specs.Common.{Contents, DiskState, MayLeave}
 
 -- they hold what they held
 abbrev pub KeepsHomes : Contents → Contents → Type 0

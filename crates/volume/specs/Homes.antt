@@ -1,14 +1,10 @@
 -- What a home copy says, and what a volume holds that was just made.
 use Rattle.std.specs.Prelude.{◌≡◌, ◌⊎◌, ℕ, ◌+◌, ◌-◌, ◌<◌, ◌≤◌, ◌==◌, nat_lt, if◌then◌else◌, List, [], ◌∷◌, replicate}
 use Rattle.std.specs.Prelude.{Some}
-use Rattle.blockdisk.specs.Disk.{Contents}
-use Rattle.meaning.specs.Regions.{table_blocks, table_start, space_start}
-use Rattle.meaning.specs.Home.{Home, home_block, IsHomeCopy}
-use Rattle.meaning.specs.Layouts.{layout_number}
-use Rattle.meaning.specs.Faults.{InSpace, HasName}
-use Rattle.meaning.specs.Readings.{found_map}
-use Rattle.meaning.specs.Stands.{DiskMap}
-use Rattle.alloctab.specs.TableBlocks.{table_words}
+use Rattle.blockdisk.specs.Common.{Contents}
+use Rattle.spec_image.specs.Common.{table_blocks, table_start, space_start, Home, home_block, IsHomeCopy}
+use Rattle.spec_image.specs.Common.{layout_number, InSpace, HasName, found_map, DiskMap}
+use Rattle.alloctab.specs.Common.{table_words}
 use Rattle.volume.specs.declared.home.HomeCopy.{HomeCopy}
 use Rattle.volume.specs.declared.home.HomeCopy.TheVariants.{Valid, Named, Unnamed}
 

@@ -7,21 +7,14 @@ use Rattle.std.specs.List.{AllByRecursion}
 use Rattle.std.specs.Ordering.{nat_cmp, eq_by_cmp}
 use Rattle.std.specs.FinMap.Entries.{find}
 use Rattle.words36.specs.declared.names.FileName.{FileName}
-use Rattle.blockdisk.specs.Disk.{Contents}
-use Rattle.meaning.specs.Maps.{get, map_values, from_entries, total, times}
-use Rattle.meaning.specs.Costs.{blocks_of, cost_of_blocks}
-use Rattle.meaning.specs.Files.{name_cmp}
-use Rattle.meaning.specs.Regions.{IsVolumeSize, table_blocks}
-use Rattle.meaning.specs.Table.{table_bit, fixed}
-use Rattle.meaning.specs.Directories.{MasterEntry, master_words, FileEntry, file_words, IsFileEntry}
-use Rattle.meaning.specs.Retrieval.{most_blocks}
-use Rattle.meaning.specs.Stands.{StoredFile, StoredDirectory, DiskMap, entry_of, HasMap}
-use Rattle.meaning.specs.Faults.{InSpace, IsMasterEntryOf}
-use Rattle.alloctab.specs.TableState.{TableState, bit}
-use Rattle.directory.specs.Chains.{ChainState, IsChain, IsOn}
-use Rattle.directory.specs.Edits.{StandsAt}
-use Rattle.retrieval.specs.Versions.{VersionState}
-use Rattle.retrieval.specs.Writing.{rib_count}
+use Rattle.blockdisk.specs.Common.{Contents}
+use Rattle.spec_image.specs.Common.{get, map_values, from_entries, total, times, blocks_of, cost_of_blocks, name_cmp}
+use Rattle.spec_image.specs.Common.{IsVolumeSize, table_blocks, table_bit, fixed, MasterEntry, master_words}
+use Rattle.spec_image.specs.Common.{FileEntry, file_words, IsFileEntry, most_blocks, StoredFile, StoredDirectory}
+use Rattle.spec_image.specs.Common.{DiskMap, entry_of, HasMap, InSpace, IsMasterEntryOf}
+use Rattle.alloctab.specs.Common.{TableState, bit}
+use Rattle.directory.specs.Common.{ChainState, IsChain, IsOn, StandsAt}
+use Rattle.retrieval.specs.Common.{VersionState, rib_count}
 use Rattle.retrieval.specs.declared.prime.Prime.{Prime}
 use Rattle.volume.specs.Facts.{facts_of, known_facts}
 

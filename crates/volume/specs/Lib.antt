@@ -9,11 +9,11 @@ pub mod Found
 pub mod Cores
 pub mod Rest
 pub mod Queries
-pub mod Making
-pub mod RemovingDirectories
+pub mod MakingDirectory
+pub mod DeletingDirectory
 pub mod Live
 pub mod LiveCores
-pub mod Putting
+pub mod PuttingWords
 pub mod Pins
 pub mod Beginning
 pub mod Publishing
@@ -21,8 +21,8 @@ pub mod Places
 pub mod States
 pub mod Claims
 pub mod Copying
-pub mod Removing
-pub mod Moving
+pub mod Deleting
+pub mod Renaming
 pub mod HomeBlocks
 pub mod PrimeBlocks
 pub mod Quotas
@@ -30,3 +30,4 @@ pub mod Migrating
 pub mod Charging
 pub mod Edits
 pub mod Turns
+pub mod Common

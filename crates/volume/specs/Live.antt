@@ -2,17 +2,13 @@
 -- under their keys. One is current where a file of the disk has it; another is there while readers hold it.
 -- Besides them there are versions that are being written, which nobody else sees.
 use Rattle.std.specs.Prelude.{◌≡◌, ℕ, ◌+◌, ◌-◌, ◌*◌, ◌^◌, ◌<◌, ◌≤◌, ◌==◌, Bool, true, false, if◌then◌else◌, List, []}
-use Rattle.std.specs.Prelude.{◌∷◌, length, Option}
-use Rattle.std.specs.Prelude.{Some, None, IfSome, slice_index_or}
+use Rattle.std.specs.Prelude.{◌∷◌, length, Option, Some, None, IfSome, slice_index_or}
 use Rattle.std.specs.List.{AllByRecursion, AllZip}
 use Rattle.std.specs.Ordering.{nat_cmp}
 use Rattle.std.specs.FinMap.Entries.{find}
 use Rattle.words36.specs.declared.names.FileName.{FileName}
-use Rattle.meaning.specs.Maps.{total, times}
-use Rattle.meaning.specs.Costs.{cost_of_blocks, directory_cost}
-use Rattle.meaning.specs.Directories.{MasterEntry}
-use Rattle.meaning.specs.Faults.{InSpace}
-use Rattle.alloctab.specs.TableState.{bit, holds, space}
+use Rattle.spec_image.specs.Common.{total, times, cost_of_blocks, directory_cost, MasterEntry, InSpace}
+use Rattle.alloctab.specs.Common.{bit, holds, space}
 use Rattle.volume.specs.declared.live.LiveVersion.{LiveVersion}
 use Rattle.volume.specs.declared.pending.Kind.{Kind}
 use Rattle.volume.specs.declared.pending.Kind.TheVariants.{Create, Supersede, Update, Append}

@@ -1,6 +1,6 @@
 -- What a volume keeps in core, as values.
 use Rattle.std.specs.Prelude.{ℕ, List, Option, map, filter_map, option_map}
-use Rattle.directory.specs.Chains.{viewed}
+use Rattle.directory.specs.Common.{viewed}
 use Rattle.volume.specs.Cores.{file_view, master_view}
 use Rattle.volume.specs.Known.{KnownVersion, KnownDirectory}
 use Rattle.volume.specs.Live.{VolumeCore, slot, as_known}

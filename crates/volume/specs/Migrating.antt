@@ -1,12 +1,9 @@
 -- The migration to layout 2: what a crash leaves of it, and what it makes of a disk.
 use Rattle.std.specs.Prelude.{◌≡◌, ◌⊎◌, ℕ, List, [], ◌∷◌, Some}
-use Rattle.blockdisk.specs.Disk.{Contents, DiskState, MayLeave, SameOutside}
-use Rattle.changeset.specs.Crashes.{IsGateOrLog}
-use Rattle.meaning.specs.declared.put.Put.{Put}
-use Rattle.meaning.specs.Files.{File, Files}
-use Rattle.meaning.specs.Home.{home_block, IsHome}
-use Rattle.meaning.specs.Layouts.{pack_in, StandsOn}
-use Rattle.meaning.specs.Log.{IsGateOpen, IsSettled}
+use Rattle.blockdisk.specs.Common.{Contents, DiskState, MayLeave, SameOutside}
+use Rattle.changeset.specs.Common.{IsGateOrLog}
+use Rattle.spec_image.specs.declared.put.Put.{Put}
+use Rattle.spec_image.specs.Common.{File, Files, home_block, IsHome, pack_in, StandsOn, IsGateOpen, IsSettled}
 use Rattle.volume.specs.Homes.{home_in}
 use Rattle.volume.specs.declared.migrate.Migrated.{Migrated}
 use Rattle.volume.specs.declared.migrate.Migrated.TheVariants.{Done, Already}

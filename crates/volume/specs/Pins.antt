@@ -4,14 +4,11 @@ use Rattle.std.specs.Prelude.{Ok, Err}
 use Rattle.std.specs.Ordering.{nat_cmp}
 use Rattle.std.specs.FinMap.Entries.{find}
 use Rattle.words36.specs.declared.names.FileName.{FileName}
-use Rattle.blockdisk.specs.Disk.{Contents}
-use Rattle.meaning.specs.declared.code.ErrorCode.TheVariants.{NoDirectory, NotFound}
-use Rattle.meaning.specs.Files.{File, Directory, name_cmp}
-use Rattle.meaning.specs.Maps.{get}
-use Rattle.meaning.specs.Retrieval.{HasBody}
-use Rattle.directory.specs.Edits.{StandsAt}
-use Rattle.retrieval.specs.Modes.{mode_number}
-use Rattle.retrieval.specs.Versions.{VersionState}
+use Rattle.blockdisk.specs.Common.{Contents}
+use Rattle.spec_image.specs.declared.code.ErrorCode.TheVariants.{NoDirectory, NotFound}
+use Rattle.spec_image.specs.Common.{File, Directory, name_cmp, get, HasBody}
+use Rattle.directory.specs.Common.{StandsAt}
+use Rattle.retrieval.specs.Common.{mode_number, VersionState}
 use Rattle.volume.specs.declared.error.CallError.{CallError}
 use Rattle.volume.specs.declared.error.CallError.TheVariants.{Refused}
 use Rattle.volume.specs.declared.live.LiveVersion.{LiveVersion}

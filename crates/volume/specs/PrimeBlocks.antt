@@ -1,11 +1,8 @@
 -- The prime block of a file that gets another place.
 use Rattle.std.specs.Prelude.{ℕ, List}
 use Rattle.words36.specs.declared.names.FileName.{FileName}
-use Rattle.meaning.specs.Blocks.{head_or_zero}
-use Rattle.meaning.specs.Retrieval.{Prime, Run}
-use Rattle.meaning.specs.Stands.{place_of}
-use Rattle.retrieval.specs.Primes.{with_length}
-use Rattle.retrieval.specs.Spelling.{SpellsPrime}
+use Rattle.spec_image.specs.Common.{head_or_zero, Prime, Run, place_of}
+use Rattle.retrieval.specs.Common.{with_length, SpellsPrime}
 use Rattle.volume.specs.declared.live.LiveVersion.{LiveVersion}
 
 -- what the prime block of a version says that a file of this place has

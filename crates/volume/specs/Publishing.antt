@@ -6,28 +6,19 @@ use Rattle.std.specs.List.{AllByRecursion, AllZip}
 use Rattle.std.specs.Ordering.{nat_cmp}
 use Rattle.std.specs.FinMap.Entries.{find}
 use Rattle.words36.specs.declared.names.FileName.{FileName}
-use Rattle.meaning.specs.declared.put.Put.{Put}
-use Rattle.meaning.specs.Changes.{file_put}
-use Rattle.meaning.specs.Costs.{cost_of_blocks}
-use Rattle.meaning.specs.Directories.{FileEntry, file_words, IsFileEntry}
-use Rattle.meaning.specs.Faults.{InSpace}
-use Rattle.meaning.specs.Files.{File, Files, Directory, name_cmp}
-use Rattle.meaning.specs.Maps.{get, insert, from_entries, total, times}
-use Rattle.alloctab.specs.TableState.{TableState, IsTable, IsChanged, IsFree, bit, holds}
-use Rattle.directory.specs.Chains.{IsChain}
-use Rattle.directory.specs.Edits.{StandsAt, Places, IsReserve, PutsChain}
-use Rattle.directory.specs.Spares.{IsSpareFor}
-use Rattle.meaning.specs.Regions.{table_blocks}
-use Rattle.meaning.specs.Retrieval.{most_blocks}
-use Rattle.retrieval.specs.Modes.{mode_number}
-use Rattle.retrieval.specs.Versions.{VersionState}
-use Rattle.retrieval.specs.Runs.{ribs_of}
+use Rattle.spec_image.specs.declared.put.Put.{Put}
+use Rattle.spec_image.specs.Common.{file_put, cost_of_blocks, FileEntry, file_words, IsFileEntry, InSpace, File}
+use Rattle.spec_image.specs.Common.{Files, Directory, name_cmp, get, insert, from_entries, total, times, table_blocks}
+use Rattle.spec_image.specs.Common.{most_blocks}
+use Rattle.alloctab.specs.Common.{TableState, IsTable, IsChanged, IsFree, bit, holds}
+use Rattle.directory.specs.Common.{IsChain, StandsAt, Places, IsReserve, PutsChain, IsSpareFor}
+use Rattle.retrieval.specs.Common.{mode_number, VersionState, ribs_of}
 use Rattle.retrieval.specs.declared.prime.Prime.{Prime}
 use Rattle.volume.specs.Beginning.{is_absent, IsDirectoryOf}
 use Rattle.volume.specs.Known.{Before, IsNamed, KnownVersion, KnownDirectory, Known, blocks_reached, given_up}
 use Rattle.volume.specs.Known.{reaches_in_entries, cost_of_version, cost_before}
 use Rattle.volume.specs.Live.{is_creation, VolumeCore, as_known, slot, pending_at, IsKeyed, held_reaches, held_cost}
-use Rattle.volume.specs.Making.{PutsTable}
+use Rattle.volume.specs.MakingDirectory.{PutsTable}
 use Rattle.volume.specs.declared.live.LiveVersion.{LiveVersion}
 use Rattle.volume.specs.declared.pending.PendingVersion.{PendingVersion}
 

@@ -1,14 +1,11 @@
 -- What the calls answer that only look at the files.
 use Rattle.std.specs.Prelude.{◌≡◌, ℕ, ◌+◌, ◌-◌, length, ℤ, pos, ◌-ℤ◌, slice_get, Option, None, Some, Result, Ok, Err}
 use Rattle.words36.specs.declared.names.FileName.{FileName}
-use Rattle.meaning.specs.Costs.{blocks_of, cost_of_files}
-use Rattle.meaning.specs.declared.entry.Entry.{Entry}
-use Rattle.meaning.specs.declared.code.ErrorCode.TheVariants.{NoDirectory, NotFound}
-use Rattle.meaning.specs.Files.{File, Files, Directory, name_cmp}
-use Rattle.meaning.specs.Maps.{get}
-use Rattle.meaning.specs.Regions.{space_start}
-use Rattle.retrieval.specs.Modes.{mode_number}
-use Rattle.directory.specs.Edits.{StandsAt}
+use Rattle.spec_image.specs.Common.{blocks_of, cost_of_files, File, Files, Directory, name_cmp, get, space_start}
+use Rattle.spec_image.specs.declared.entry.Entry.{Entry}
+use Rattle.spec_image.specs.declared.code.ErrorCode.TheVariants.{NoDirectory, NotFound}
+use Rattle.retrieval.specs.Common.{mode_number}
+use Rattle.directory.specs.Common.{StandsAt}
 use Rattle.volume.specs.Known.{KnownVersion, KnownDirectory}
 use Rattle.volume.specs.declared.error.CallError.{CallError}
 use Rattle.volume.specs.declared.file_facts.FileFacts.{FileFacts}

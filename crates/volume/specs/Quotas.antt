@@ -1,7 +1,7 @@
 -- Quotas in the entries of the master directory, which layout 1 doesn't have.
 use Rattle.std.specs.Prelude.{◌≡◌, ℕ, ◌/◌, ◌<◌, List, Some, slice_get, get_or, take}
 use Rattle.std.specs.List.{AllByRecursion}
-use Rattle.directory.specs.Chains.{ChainState}
+use Rattle.directory.specs.Common.{ChainState}
 use Rattle.directory.specs.declared.master.MasterEntry.{MasterEntry}
 
 abbrev pub HasNoQuota : MasterEntry → Type 0

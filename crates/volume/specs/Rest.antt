@@ -1,19 +1,15 @@
 -- What holds of a volume between two calls.
 use Rattle.std.specs.Prelude.{◌≡◌, ◌⊎◌, ◌<◌, ℕ, Bool, false, List, length, Some}
-use Rattle.blockdisk.specs.Disk.{Contents, DiskState, MayLeave}
-use Rattle.meaning.specs.Files.{File, Files}
-use Rattle.meaning.specs.Maps.{times}
-use Rattle.meaning.specs.Layouts.{layout_number, pack_of, pack_in, SettledStandsOn, StandsOn}
-use Rattle.meaning.specs.Room.{Pack}
-use Rattle.meaning.specs.Stands.{DiskMap}
-use Rattle.meaning.specs.declared.layout.Layout.{Layout}
-use Rattle.changeset.specs.Rest.{AtRest}
+use Rattle.blockdisk.specs.Common.{Contents, DiskState, MayLeave}
+use Rattle.spec_image.specs.Common.{File, Files, times, layout_number, pack_of, pack_in, SettledStandsOn, StandsOn}
+use Rattle.spec_image.specs.Common.{Pack, DiskMap, HasBody, date_limit}
+use Rattle.spec_image.specs.declared.layout.Layout.{Layout}
+use Rattle.changeset.specs.Common.{AtRest}
 use Rattle.volume.specs.Known.{Known, IsHeld}
 use Rattle.volume.specs.Live.{VolumeCore, slot, pending_at, IsWholeCore}
 use Rattle.volume.specs.declared.live.LiveVersion.{LiveVersion}
 use Rattle.volume.specs.declared.pending.PendingVersion.{PendingVersion}
-use Rattle.meaning.specs.Retrieval.{HasBody, date_limit}
-use Rattle.retrieval.specs.Versions.{VersionState}
+use Rattle.retrieval.specs.Common.{VersionState}
 
 -- One map for all that a crash may leave, and the one in core.
 pub record IsAtRest (s : DiskState) (k : Known) : Type 0 where

@@ -1,6 +1,6 @@
 -- A volume as a value: its disk, what it knows of it, whether it has failed, and the layout of the disk.
 use Rattle.std.specs.Prelude.{Bool}
-use Rattle.meaning.specs.declared.layout.Layout.{Layout}
+use Rattle.spec_image.specs.declared.layout.Layout.{Layout}
 use Rattle.volume.specs.Live.{VolumeCore}
 
 pub record VolumeState (D : Type 0) : Type 0 where

@@ -1,6 +1,6 @@
 -- The turns in which the files of a directory are read, and what was read in them.
 use Rattle.std.specs.Prelude.{ℕ}
-use Rattle.meaning.specs.Directories.{FileEntry}
+use Rattle.spec_image.specs.Common.{FileEntry}
 use Rattle.directory.specs.declared.file.FileEntry.{FileEntry as EntryValue}
 use Rattle.volume.specs.declared.files.StoredVersion.{StoredVersion}
 use Rattle.volume.specs.declared.turns.Turn.{Turn}

@@ -1,7 +1,7 @@
 ghost use Rattle.std.specs.Prelude.{◌≡◌, ◌+◌, ◌<◌, ◌≤◌, ◌^◌, ℕ};
-ghost use Rattle.meaning.specs.Maps.{times};
-ghost use Rattle.alloctab.specs.TableState.{IsTable, bit, holds};
-ghost use Rattle.volume.specs.Publishing.{SetsBits, ClearsBits, PutsInUse};
+ghost use Rattle.spec_image.specs.Common.{times};
+ghost use Rattle.alloctab.specs.Common.{IsTable, bit, holds};
+ghost use Rattle.volume.specs.Common.{SetsBits, ClearsBits, PutsInUse};
 
 use crate::live::{unhold_all, unhold_blocks};
 use alloctab::Table;

@@ -2,19 +2,12 @@ ghost use Rattle.std.specs.Prelude.{◌≡◌, ◌↔◌, ◌<◌, ◌≤◌, �
 ghost use Rattle.std.specs.Prelude.{filter_map, length, slice_get};
 ghost use Rattle.std.specs.Ordering.{nat_cmp};
 ghost use Rattle.std.specs.FinMap.Entries.{find};
-ghost use Rattle.meaning.specs.Costs.{directory_cost};
-ghost use Rattle.meaning.specs.Files.{File, Files};
-ghost use Rattle.meaning.specs.Maps.{get, total};
-ghost use Rattle.meaning.specs.Retrieval.{most_blocks};
-ghost use Rattle.meaning.specs.Room.{growth};
-ghost use Rattle.volume.specs.Beginning.{begin_cost, entries_with, IsDirectoryOf};
-ghost use Rattle.volume.specs.Charging.{charge_answer, quota_in_core, quota_in_files, used_by, writes_in, IsCharged};
-ghost use Rattle.volume.specs.Charging.{IsOver, IsTooLong, Outgrows};
-ghost use Rattle.volume.specs.Known.{Before, KnownDirectory, IsNamed, IsWholeVersion, cost_before, cost_of_version};
-ghost use Rattle.volume.specs.Live.{as_written, creates, pending_at, pending_cost, AreStanding, AreWaiting};
-ghost use Rattle.volume.specs.Live.{IsWholeCore};
-ghost use Rattle.volume.specs.LiveCores.{core_of, known_at};
-ghost use Rattle.volume.specs.Rest.{RestsAt};
+ghost use Rattle.spec_image.specs.Common.{directory_cost, File, Files, get, total, most_blocks, growth};
+ghost use Rattle.volume.specs.Common.{begin_cost, entries_with, IsDirectoryOf, charge_answer, quota_in_core};
+ghost use Rattle.volume.specs.Common.{quota_in_files, used_by, writes_in, IsCharged, IsOver, IsTooLong, Outgrows};
+ghost use Rattle.volume.specs.Common.{Before, KnownDirectory, IsNamed, IsWholeVersion, cost_before, cost_of_version};
+ghost use Rattle.volume.specs.Common.{as_written, creates, pending_at, pending_cost, AreStanding, AreWaiting};
+ghost use Rattle.volume.specs.Common.{IsWholeCore, core_of, known_at, RestsAt};
 ghost use Rattle.volume.specs.declared.pending.PendingVersion.{PendingVersion};
 
 use crate::begin::{begin_cost, cost_before, creations, find_before, growth_at};
@@ -23,12 +16,12 @@ use crate::handles::Pending;
 use crate::live::{LiveMap, LiveVersion};
 use crate::map::Volume;
 use crate::pending::{Kind, PendingVersion};
-use crate::put::growth;
+use crate::put_words::growth;
 use crate::query::directory_place;
 use blockdisk::Disk;
 use directory::Keys;
-use meaning::layout::BLOCK_ENTRIES;
 use slab::Slab;
+use spec_image::layout::BLOCK_ENTRIES;
 use words36::{FileName, Ppn};
 
 /// What a directory is charged for, beside its quota.

@@ -1,7 +1,6 @@
 ghost use Rattle.std.specs.Prelude.{◌≡◌, ◌↔◌, ◌==◌, ◌&&◌, Some, IsSome, IsTrue, option_map};
-ghost use Rattle.meaning.specs.Stands.{place_of};
-ghost use Rattle.volume.specs.Claims.{claims_at, claims};
-ghost use Rattle.volume.specs.Live.{pending_at};
+ghost use Rattle.spec_image.specs.Common.{place_of};
+ghost use Rattle.volume.specs.Common.{claims_at, claims, pending_at};
 ghost use Rattle.volume.specs.declared.pending.PendingVersion.{PendingVersion};
 
 use crate::handles::Pending;

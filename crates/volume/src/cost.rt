@@ -1,16 +1,12 @@
 ghost use Rattle.std.specs.Prelude.{◌≡◌, ℕ, ◌+◌, ◌<◌, ◌≤◌, ◌^◌, length, map};
 ghost use Rattle.std.specs.List.{AllByRecursion};
 ghost use Rattle.std.specs.Ordering.{nat_cmp};
-ghost use Rattle.meaning.specs.Costs.{cost_of_blocks, cost_of_files};
-ghost use Rattle.meaning.specs.Faults.{InSpace, IsMasterEntryOf};
-ghost use Rattle.meaning.specs.Regions.{IsVolumeSize};
-ghost use Rattle.meaning.specs.Retrieval.{most_blocks};
-ghost use Rattle.meaning.specs.Stands.{DiskMap, files_of};
-ghost use Rattle.alloctab.specs.TableState.{used_in_space};
-ghost use Rattle.directory.specs.Chains.{IsChain, viewed};
-ghost use Rattle.volume.specs.Cores.{master_view, known_directory};
-ghost use Rattle.volume.specs.Known.{Known, IsKnownMap, IsWholeDirectory, cost_of_directory, cost_of_known};
-ghost use Rattle.volume.specs.Live.{VolumeCore, IsWholeCore};
+ghost use Rattle.spec_image.specs.Common.{cost_of_blocks, cost_of_files, InSpace, IsMasterEntryOf, IsVolumeSize};
+ghost use Rattle.spec_image.specs.Common.{most_blocks, DiskMap, files_of};
+ghost use Rattle.alloctab.specs.Common.{used_in_space};
+ghost use Rattle.directory.specs.Common.{IsChain, viewed};
+ghost use Rattle.volume.specs.Common.{master_view, known_directory, Known, IsKnownMap, IsWholeDirectory};
+ghost use Rattle.volume.specs.Common.{cost_of_directory, cost_of_known, VolumeCore, IsWholeCore};
 
 use crate::map::StoredDirectory;
 use alloctab::Table;

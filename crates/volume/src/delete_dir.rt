@@ -1,19 +1,13 @@
-ghost use Rattle.std.specs.Prelude.{◌≡◌, ◌↔◌, ◌⊎◌, ◌<◌, ◌≤◌, [], ℕ, true, false, None, Some, IfOk, OnOk, OnErr, IfErr};
-ghost use Rattle.std.specs.Prelude.{IsErrOf};
+ghost use Rattle.std.specs.Prelude.{◌≡◌, ◌↔◌, ◌⊎◌, ◌<◌, ◌≤◌, [], ℕ, true, false, None, Some, IfOk, OnOk, OnErr};
+ghost use Rattle.std.specs.Prelude.{IfErr, IsErrOf};
 ghost use Rattle.std.specs.Ordering.{nat_cmp};
 ghost use Rattle.std.specs.FinMap.Entries.{find};
 ghost use Rattle.words36.specs.declared.names.FileName.{FileName};
-ghost use Rattle.meaning.specs.declared.code.ErrorCode.{ErrorCode};
-ghost use Rattle.meaning.specs.declared.code.ErrorCode.TheVariants.{NoDirectory, NotEmpty};
-ghost use Rattle.meaning.specs.Maps.{times};
-ghost use Rattle.meaning.specs.Regions.{space_start};
-ghost use Rattle.volume.specs.Beginning.{IsDirectoryOf};
-ghost use Rattle.volume.specs.Edits.{ChangesFiles, DeviceAnswer};
-ghost use Rattle.volume.specs.Known.{KnownDirectory};
-ghost use Rattle.volume.specs.Live.{IsWholeCore};
-ghost use Rattle.volume.specs.LiveCores.{core_of};
-ghost use Rattle.volume.specs.Places.{prime_at};
-ghost use Rattle.volume.specs.RemovingDirectories.{directory_removed, IsEmptyAt, HasEntries, RemovesDirectory};
+ghost use Rattle.spec_image.specs.declared.code.ErrorCode.{ErrorCode};
+ghost use Rattle.spec_image.specs.declared.code.ErrorCode.TheVariants.{NoDirectory, NotEmpty};
+ghost use Rattle.spec_image.specs.Common.{times, space_start};
+ghost use Rattle.volume.specs.Common.{IsDirectoryOf, ChangesFiles, DeviceAnswer, KnownDirectory, IsWholeCore};
+ghost use Rattle.volume.specs.Common.{core_of, prime_at, directory_removed, IsEmptyAt, HasEntries, RemovesDirectory};
 ghost use Rattle.volume.specs.declared.error.CallError.TheVariants.{Refused, Device, Failed, NoMemory};
 
 use crate::CallError;
@@ -26,7 +20,7 @@ use crate::query::directory_place;
 use crate::transaction::commit_edit;
 use blockdisk::Disk;
 use changeset::ChangeSet;
-use meaning::ErrorCode;
+use spec_image::ErrorCode;
 use words36::Ppn;
 
 /// The place of an empty directory in the master directory, counted from 0.

@@ -1,13 +1,10 @@
 ghost use Rattle.std.specs.Prelude.{◌≡◌, ◌+◌, ◌<◌, ◌^◌, ℕ, true, false, None, Some, IsSome, slice_get, length};
 ghost use Rattle.std.specs.Ordering.{nat_cmp};
 ghost use Rattle.std.specs.FinMap.Entries.{find};
-ghost use Rattle.meaning.specs.Maps.{times};
-ghost use Rattle.meaning.specs.Room.{growth};
-ghost use Rattle.alloctab.specs.TableState.{holds};
-ghost use Rattle.volume.specs.Beginning.{entries_with, IsDirectoryOf};
-ghost use Rattle.volume.specs.Known.{KnownDirectory};
-ghost use Rattle.volume.specs.Live.{pending_at, is_creation, IsWholeCore};
-ghost use Rattle.volume.specs.LiveCores.{core_of};
+ghost use Rattle.spec_image.specs.Common.{times, growth};
+ghost use Rattle.alloctab.specs.Common.{holds};
+ghost use Rattle.volume.specs.Common.{entries_with, IsDirectoryOf, KnownDirectory, pending_at, is_creation};
+ghost use Rattle.volume.specs.Common.{IsWholeCore, core_of};
 ghost use Rattle.volume.specs.declared.pending.PendingVersion.{PendingVersion};
 
 use crate::begin::growth_at;

@@ -2,7 +2,7 @@ ghost use Rattle.std.specs.Prelude.{◌≡◌};
 
 use blockdisk::NoMemory;
 use directory::DirectoryError;
-use meaning::ErrorCode;
+use spec_image::ErrorCode;
 use thiserror::Error;
 
 /// Why a call of a volume failed.
@@ -54,7 +54,7 @@ impl From<NoMemory> for VolumeError {
 }
 
 impl From<DirectoryError> for VolumeError {
-    ghost use Rattle.volume.specs.FaultsFound.{error_of_chain};
+    ghost use Rattle.volume.specs.Common.{error_of_chain};
 
     ghost from_gives = { λ refused error. error ≡ error_of_chain refused };
 

@@ -1,21 +1,13 @@
 ghost use Rattle.std.specs.Prelude.{◌≡◌, ◌+◌, ◌*◌, ◌<◌, ◌≤◌, ◌⊎◌, ◌∷◌, ◌++◌, ℕ, None, IfOk, IfErr, OnOk, IsErrOf};
 ghost use Rattle.std.specs.Prelude.{length};
 ghost use Rattle.std.specs.List.{AllByRecursion};
-ghost use Rattle.blockdisk.specs.Disk.{IsWholeBlock};
-ghost use Rattle.meaning.specs.Maps.{times};
-ghost use Rattle.meaning.specs.Costs.{blocks_of};
-ghost use Rattle.meaning.specs.Regions.{IsVolumeSize};
-ghost use Rattle.meaning.specs.Layouts.{layout_number};
-ghost use Rattle.meaning.specs.Retrieval.{most_blocks};
-ghost use Rattle.meaning.specs.Stands.{place_of};
-ghost use Rattle.meaning.specs.Faults.{InSpace, IsBadVersion};
-ghost use Rattle.alloctab.specs.Lists.{digit_at};
-ghost use Rattle.retrieval.specs.Reading.{IsVersionAt};
-ghost use Rattle.retrieval.specs.Writing.{rib_count};
-ghost use Rattle.volume.specs.DiskAnswers.{KeepsDisk};
-ghost use Rattle.volume.specs.FileReading.{IsFileFound, IsOtherPlace, IsReachedTwice, IsDamagedData};
-ghost use Rattle.volume.specs.FileReading.{IsVersionRefusal, IsDataRefusal, IsFileRefusal};
-ghost use Rattle.volume.specs.FaultsFound.{NamesInSpace};
+ghost use Rattle.blockdisk.specs.Common.{IsWholeBlock};
+ghost use Rattle.spec_image.specs.Common.{times, blocks_of, IsVolumeSize, layout_number, most_blocks, place_of};
+ghost use Rattle.spec_image.specs.Common.{InSpace, IsBadVersion};
+ghost use Rattle.alloctab.specs.Common.{digit_at};
+ghost use Rattle.retrieval.specs.Common.{IsVersionAt, rib_count};
+ghost use Rattle.volume.specs.Common.{KeepsDisk, IsFileFound, IsOtherPlace, IsReachedTwice, IsDamagedData};
+ghost use Rattle.volume.specs.Common.{IsVersionRefusal, IsDataRefusal, IsFileRefusal, NamesInSpace};
 ghost use Rattle.volume.specs.declared.error.VolumeError.TheVariants.{BadRetrieval, BlockTwice, Device, NoMemory};
 ghost use Rattle.volume.specs.declared.error.VolumeError.TheVariants.{BadData};
 
@@ -23,8 +15,8 @@ use crate::VolumeError;
 use crate::marks::mark_version;
 use alloctab::Reached;
 use blockdisk::Disk;
-use meaning::layout::Layout;
 use retrieval::{Prime, RetrievalError, Run, Version, read_version};
+use spec_image::layout::Layout;
 use std::alloc::Global;
 use words36::{FileName, Ppn};
 

@@ -1,22 +1,17 @@
 ghost use Rattle.std.specs.Prelude.{◌≡◌, ◌⊎◌, ◌<◌, ◌≤◌, ◌+◌, ◌↔◌, ◌^◌, ℕ, Some, OnOk, IsErrOf};
-ghost use Rattle.blockdisk.specs.Disk.{LeavesOnly, Near, Modifies, NoneOpen};
+ghost use Rattle.blockdisk.specs.Common.{LeavesOnly, Near, Modifies, NoneOpen};
 ghost use Rattle.blockdisk.specs.declared.fault.Fault.TheVariants.{Device as Failed, Damaged};
-ghost use Rattle.alloctab.specs.TableBlocks.{number_of, table_words};
-ghost use Rattle.changeset.specs.Rest.{AtRest};
-ghost use Rattle.meaning.specs.Layouts.{StandsOn, layout_number, pack_in};
-ghost use Rattle.meaning.specs.Maps.{empty};
-ghost use Rattle.meaning.specs.Regions.{IsVolumeSize};
-ghost use Rattle.meaning.specs.Log.{IsGateOpen};
-ghost use Rattle.meaning.specs.Stands.{HasMap};
-ghost use Rattle.volume.specs.DiskAnswers.{DiskAnswer};
-ghost use Rattle.volume.specs.Homes.{IsInitBlock, IsBare, bare_map, bit_below, fresh_words};
+ghost use Rattle.alloctab.specs.Common.{number_of, table_words};
+ghost use Rattle.changeset.specs.Common.{AtRest};
+ghost use Rattle.spec_image.specs.Common.{StandsOn, layout_number, pack_in, empty, IsVolumeSize, IsGateOpen, HasMap};
+ghost use Rattle.volume.specs.Common.{DiskAnswer, IsInitBlock, IsBare, bare_map, bit_below, fresh_words};
 ghost use Rattle.volume.specs.declared.error.VolumeError.{VolumeError};
 ghost use Rattle.volume.specs.declared.error.VolumeError.TheVariants.{NotVolume, Device};
 
 use crate::VolumeError;
 use crate::home::{Home, home_block};
 use blockdisk::{Disk, Fault};
-use meaning::layout::{
+use spec_image::layout::{
     HOME_COPIES, LOG_START, Layout, TABLE_BLOCK_BITS, WORD_BITS, is_volume_size, space_start,
     table_start,
 };

@@ -1,17 +1,15 @@
 ghost use Rattle.std.specs.Prelude.{◌≡◌, ◌⊎◌, ◌<◌, ◌≤◌, ℕ, IfOk, IfSome, IfNone, IsErrOf, slice_index};
-ghost use Rattle.meaning.specs.Regions.{IsVolumeSize};
-ghost use Rattle.meaning.specs.Home.{home_block, IsHome};
-ghost use Rattle.meaning.specs.Faults.{InSpace, IsNotVolume, IsBadHome};
-ghost use Rattle.meaning.specs.Home.{IsLayout};
-ghost use Rattle.meaning.specs.Layouts.{layout_number};
-ghost use Rattle.volume.specs.DiskAnswers.{ReadsDisk};
-ghost use Rattle.volume.specs.Homes.{home_in, IsFound, IsFoundInSpace, holds_words};
+ghost use Rattle.spec_image.specs.Common.{IsVolumeSize, home_block, IsHome, InSpace, IsNotVolume, IsBadHome};
+ghost use Rattle.spec_image.specs.Common.{IsLayout, layout_number};
+ghost use Rattle.volume.specs.Common.{ReadsDisk, home_in, IsFound, IsFoundInSpace, holds_words};
 ghost use Rattle.volume.specs.declared.error.VolumeError.{VolumeError};
 ghost use Rattle.volume.specs.declared.error.VolumeError.TheVariants.{NotVolume, BadHome, Device};
 
 use crate::VolumeError;
 use blockdisk::{Disk, Fault};
-use meaning::layout::{HOME_COPIES, Layout, is_in_space, is_volume_size, log_images, table_blocks};
+use spec_image::layout::{
+    HOME_COPIES, Layout, is_in_space, is_volume_size, log_images, table_blocks,
+};
 use words36::{BLOCK_WORDS, Block, Word};
 
 /// FILSER in SIXBIT, the first word of a home copy.

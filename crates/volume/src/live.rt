@@ -1,15 +1,13 @@
 ghost use Rattle.std.specs.Prelude.{◌≡◌, ◌<◌, ◌≤◌, ◌+◌, ◌-◌, ◌^◌, ◌↔◌, ◌⊎◌, [], ℕ, None, Some, true, false, map};
 ghost use Rattle.std.specs.Prelude.{filter_map, length, IfOk, OnOk, IfSome, IsSome, IsTrue};
 ghost use Rattle.std.specs.List.{AllByRecursion, AllZip};
-ghost use Rattle.meaning.specs.Costs.{cost_of_blocks};
-ghost use Rattle.meaning.specs.Maps.{times, total};
-ghost use Rattle.meaning.specs.Retrieval.{most_blocks};
-ghost use Rattle.alloctab.specs.TableState.{holds};
+ghost use Rattle.spec_image.specs.Common.{cost_of_blocks, times, total, most_blocks};
+ghost use Rattle.alloctab.specs.Common.{holds};
 ghost use Rattle.slab.specs.Slab.{Updates};
-ghost use Rattle.volume.specs.Cores.{file_view, known_of, known_version, known_directory};
-ghost use Rattle.volume.specs.Known.{blocks_reached, reaches_in_entries, IsWholeVersion, IsWholeMap};
-ghost use Rattle.volume.specs.Live.{IsCurrent, IsKeyed, IsFirstRead, IsWholeCore, slot, current_reaches, entry_reaches};
-ghost use Rattle.volume.specs.LiveCores.{core_of, known_at, live_directory};
+ghost use Rattle.volume.specs.Common.{file_view, known_of, known_version, known_directory, blocks_reached};
+ghost use Rattle.volume.specs.Common.{reaches_in_entries, IsWholeVersion, IsWholeMap, IsCurrent, IsKeyed};
+ghost use Rattle.volume.specs.Common.{IsFirstRead, IsWholeCore, slot, current_reaches, entry_reaches, core_of};
+ghost use Rattle.volume.specs.Common.{known_at, live_directory};
 ghost use Rattle.volume.specs.declared.live.LiveVersion.{LiveVersion};
 
 use crate::cost::version_cost;

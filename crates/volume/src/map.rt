@@ -1,12 +1,12 @@
 ghost use Rattle.std.specs.Prelude.{◌≡◌, false};
-ghost use Rattle.meaning.specs.Layouts.{layout_number, pack_of};
+ghost use Rattle.spec_image.specs.Common.{layout_number, pack_of};
 
 use crate::files::StoredVersion;
 use crate::live::LiveMap;
 use alloctab::Table;
 use blockdisk::Disk;
 use directory::{Chain, FileEntry, MasterEntry};
-use meaning::layout::Layout;
+use spec_image::layout::Layout;
 use std::marker::Model;
 
 /// A directory that was read: its chain, and for each entry, in their order, the version of its file.
@@ -44,9 +44,9 @@ pub struct Volume<D: Disk> {
 }
 
 impl<D: Disk> Model for Volume<D> {
-    ghost use Rattle.volume.specs.LiveCores.{core_of};
-    ghost use Rattle.volume.specs.Rest.{IsSoundVolume};
-    ghost use Rattle.volume.specs.States.{VolumeState};
+    ghost use Rattle.volume.specs.Common.{core_of};
+    ghost use Rattle.volume.specs.Common.{IsSoundVolume};
+    ghost use Rattle.volume.specs.Common.{VolumeState};
 
     ghost Value = { VolumeState D };
 

@@ -1,7 +1,7 @@
 ghost use Rattle.std.specs.Prelude.{◌≡◌, ◌+◌, ◌<◌, ◌≤◌, ◌∷◌, ◌++◌, ℕ, OnOk, OnErr, IsErrOf, length};
 ghost use Rattle.std.specs.List.{AllByRecursion};
-ghost use Rattle.meaning.specs.Maps.{times};
-ghost use Rattle.alloctab.specs.Lists.{digit_at};
+ghost use Rattle.spec_image.specs.Common.{times};
+ghost use Rattle.alloctab.specs.Common.{digit_at};
 
 use alloctab::Reached;
 use retrieval::Version;

@@ -1,26 +1,14 @@
 ghost use Rattle.std.specs.Prelude.{◌≡◌, ◌+◌, ◌<◌, ℕ, false, map, length, replicate, IfOk, IfErr, IsErrOf};
 ghost use Rattle.std.specs.List.{AllByRecursion};
 ghost use Rattle.std.specs.Ordering.{nat_cmp};
-ghost use Rattle.meaning.specs.Blocks.{head_or_zero};
-ghost use Rattle.meaning.specs.Directories.{master_words};
-ghost use Rattle.meaning.specs.Home.{IsHome, IsLayout};
-ghost use Rattle.meaning.specs.Layouts.{layout_number};
-ghost use Rattle.meaning.specs.Maps.{times};
-ghost use Rattle.meaning.specs.Regions.{IsVolumeSize, table_blocks};
-ghost use Rattle.meaning.specs.Stands.{DiskMap as MapValue};
-ghost use Rattle.meaning.specs.Walks.{LeadsAlong};
-ghost use Rattle.meaning.specs.Faults.{InSpace, IsMasterEntryOf};
-ghost use Rattle.alloctab.specs.Inside.{InTable};
-ghost use Rattle.alloctab.specs.Lists.{digit_at};
-ghost use Rattle.alloctab.specs.Reached.{wanted_bit};
-ghost use Rattle.alloctab.specs.TableState.{bit};
-ghost use Rattle.directory.specs.Chains.{nodes_of, IsChain, IsOn, viewed};
-ghost use Rattle.volume.specs.Cores.{master_view, known_directory, known_of};
-ghost use Rattle.volume.specs.DiskAnswers.{ReadsDisk};
-ghost use Rattle.volume.specs.Homes.{home_in};
-ghost use Rattle.volume.specs.Known.{known_reaches, IsWholeDirectory, IsWholeMap, IsBooked, IsHeld};
-ghost use Rattle.volume.specs.Found.{IsOnlySpace, IsMapFound, IsRightFor, IsWrongFor};
-ghost use Rattle.volume.specs.FaultsFound.{NamesInSpace, SettledRefuses, IsTableRefusal};
+ghost use Rattle.spec_image.specs.Common.{head_or_zero, master_words, IsHome, IsLayout, layout_number, times};
+ghost use Rattle.spec_image.specs.Common.{IsVolumeSize, table_blocks, DiskMap as MapValue, LeadsAlong, InSpace};
+ghost use Rattle.spec_image.specs.Common.{IsMasterEntryOf};
+ghost use Rattle.alloctab.specs.Common.{InTable, digit_at, wanted_bit, bit};
+ghost use Rattle.directory.specs.Common.{nodes_of, IsChain, IsOn, viewed};
+ghost use Rattle.volume.specs.Common.{master_view, known_directory, known_of, ReadsDisk, home_in, known_reaches};
+ghost use Rattle.volume.specs.Common.{IsWholeDirectory, IsWholeMap, IsBooked, IsHeld, IsOnlySpace, IsMapFound};
+ghost use Rattle.volume.specs.Common.{IsRightFor, IsWrongFor, NamesInSpace, SettledRefuses, IsTableRefusal};
 ghost use Rattle.volume.specs.declared.error.VolumeError.TheVariants.{Device, TableWrong};
 
 use crate::VolumeError;
@@ -32,7 +20,7 @@ use crate::read::read_directories;
 use alloctab::{Reached, Table, TableError};
 use blockdisk::Disk;
 use directory::{Chain, MasterEntry};
-use meaning::layout::Layout;
+use spec_image::layout::Layout;
 use std::alloc::Global;
 
 /// Reads the chain of the master directory that begins in block `first`, in a layout.

@@ -1,6 +1,5 @@
 ghost use Rattle.std.specs.Prelude.{◌≡◌};
-ghost use Rattle.volume.specs.Beginning.{is_update};
-ghost use Rattle.volume.specs.Live.{is_create};
+ghost use Rattle.volume.specs.Common.{is_update, is_create};
 
 use retrieval::{Prime, Version};
 

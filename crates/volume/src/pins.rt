@@ -1,17 +1,10 @@
-ghost use Rattle.std.specs.Prelude.{◌≡◌, ◌↔◌, ◌⊎◌, ◌+◌, ◌-◌, ◌<◌, ◌^◌, ℕ, true, false, None, Some, IfOk, IfErr, IsErr};
-ghost use Rattle.std.specs.Prelude.{IsErrOf, IsSome, IfSome, IsTrue, length};
-ghost use Rattle.meaning.specs.declared.code.ErrorCode.TheVariants.{NoDirectory, NotFound};
-ghost use Rattle.meaning.specs.Files.{File, Files};
-ghost use Rattle.meaning.specs.Maps.{get, times};
-ghost use Rattle.meaning.specs.Costs.{cost_of_blocks};
-ghost use Rattle.alloctab.specs.TableState.{holds};
-ghost use Rattle.volume.specs.Known.{blocks_reached};
-ghost use Rattle.volume.specs.Live.{slot, IsWholeCore};
-ghost use Rattle.volume.specs.LiveCores.{core_of};
-ghost use Rattle.volume.specs.Pins.{IsKeyOf, IsNoFile, IsPinAnswer};
-ghost use Rattle.volume.specs.Places.{prime_at};
-ghost use Rattle.volume.specs.Queries.{IsPlainRefusal};
-ghost use Rattle.volume.specs.Rest.{RestsAt};
+ghost use Rattle.std.specs.Prelude.{◌≡◌, ◌↔◌, ◌⊎◌, ◌+◌, ◌-◌, ◌<◌, ◌^◌, ℕ, true, false, None, Some, IfOk, IfErr};
+ghost use Rattle.std.specs.Prelude.{IsErr, IsErrOf, IsSome, IfSome, IsTrue, length};
+ghost use Rattle.spec_image.specs.declared.code.ErrorCode.TheVariants.{NoDirectory, NotFound};
+ghost use Rattle.spec_image.specs.Common.{File, Files, get, times, cost_of_blocks};
+ghost use Rattle.alloctab.specs.Common.{holds};
+ghost use Rattle.volume.specs.Common.{blocks_reached, slot, IsWholeCore, core_of, IsKeyOf, IsNoFile, IsPinAnswer};
+ghost use Rattle.volume.specs.Common.{prime_at, IsPlainRefusal, RestsAt};
 ghost use Rattle.volume.specs.declared.error.CallError.TheVariants.{Refused, Failed};
 ghost use Rattle.volume.specs.declared.live.LiveVersion.{LiveVersion};
 
@@ -21,8 +14,8 @@ use crate::live::{LiveMap, LiveVersion, pin_version, unpin_version};
 use crate::map::Volume;
 use crate::query::directory_place;
 use blockdisk::Disk;
-use meaning::ErrorCode;
 use slab::Slab;
+use spec_image::ErrorCode;
 use words36::{FileName, Ppn};
 
 /// The key of the version that the file of a place has.

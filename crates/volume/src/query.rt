@@ -3,15 +3,12 @@ ghost use Rattle.std.specs.Prelude.{IsErr, IsErrOf, IsTrue};
 ghost use Rattle.std.specs.List.{AllByRecursion};
 ghost use Rattle.std.specs.Ordering.{nat_cmp};
 ghost use Rattle.std.specs.FinMap.Entries.{find};
-ghost use Rattle.meaning.specs.declared.code.ErrorCode.TheVariants.{NoDirectory, NotFound};
-ghost use Rattle.meaning.specs.Files.{File, Files, name_cmp};
-ghost use Rattle.meaning.specs.Maps.{get};
-ghost use Rattle.directory.specs.Edits.{StandsAt};
-ghost use Rattle.volume.specs.Cores.{file_view, master_view};
-ghost use Rattle.volume.specs.Live.{IsKeyed, AreStanding, cost_beyond};
-ghost use Rattle.volume.specs.LiveCores.{live_directory};
-ghost use Rattle.volume.specs.Queries.{room_of, protection_answer, IsPlainRefusal, IsNamedVersion, IsLookAnswer};
-ghost use Rattle.volume.specs.Rest.{IsSoundCore, RestsAt};
+ghost use Rattle.spec_image.specs.declared.code.ErrorCode.TheVariants.{NoDirectory, NotFound};
+ghost use Rattle.spec_image.specs.Common.{File, Files, name_cmp, get};
+ghost use Rattle.directory.specs.Common.{StandsAt};
+ghost use Rattle.volume.specs.Common.{file_view, master_view, IsKeyed, AreStanding, cost_beyond, live_directory};
+ghost use Rattle.volume.specs.Common.{room_of, protection_answer, IsPlainRefusal, IsNamedVersion, IsLookAnswer};
+ghost use Rattle.volume.specs.Common.{IsSoundCore, RestsAt};
 ghost use Rattle.volume.specs.declared.error.CallError.TheVariants.{Refused, Failed};
 
 use crate::CallError;
@@ -20,9 +17,9 @@ use crate::live::{LiveDirectory, LiveVersion};
 use crate::map::Volume;
 use blockdisk::Disk;
 use directory::{Chain, MasterEntry};
-use meaning::ErrorCode;
-use meaning::layout::space_start;
 use slab::Slab;
+use spec_image::ErrorCode;
+use spec_image::layout::space_start;
 use words36::{FileName, Ppn};
 
 /// The place of a directory's entry in the master directory, counted from 0.

@@ -1,21 +1,15 @@
 ghost use Rattle.std.specs.Prelude.{◌≡◌, ◌<◌, ℕ, map, OnOk, IfErr, IfSome, IfNone, IsErrOf};
 ghost use Rattle.std.specs.List.{AllByRecursion};
 ghost use Rattle.std.specs.Ordering.{nat_cmp};
-ghost use Rattle.blockdisk.specs.Disk.{Contents};
-ghost use Rattle.meaning.specs.Directories.{master_words};
-ghost use Rattle.meaning.specs.Faults.{InSpace, IsMasterEntryOf};
-ghost use Rattle.meaning.specs.Layouts.{layout_number};
-ghost use Rattle.meaning.specs.Maps.{times};
-ghost use Rattle.meaning.specs.Walks.{LeadsAlong};
-ghost use Rattle.directory.specs.Chains.{nodes_of};
-ghost use Rattle.directory.specs.Loading.{IsBadChain};
-ghost use Rattle.volume.specs.Cores.{master_view};
-ghost use Rattle.volume.specs.Quotas.{HasNoQuota, IsFirstQuota, IsFirstQuotaBlock};
+ghost use Rattle.blockdisk.specs.Common.{Contents};
+ghost use Rattle.spec_image.specs.Common.{master_words, InSpace, IsMasterEntryOf, layout_number, times, LeadsAlong};
+ghost use Rattle.directory.specs.Common.{nodes_of, IsBadChain};
+ghost use Rattle.volume.specs.Common.{master_view, HasNoQuota, IsFirstQuota, IsFirstQuotaBlock};
 ghost use Rattle.volume.specs.declared.error.VolumeError.TheVariants.{BadDirectory};
 
 use crate::VolumeError;
 use directory::{Chain, MasterEntry};
-use meaning::layout::{BLOCK_ENTRIES, Layout};
+use spec_image::layout::{BLOCK_ENTRIES, Layout};
 
 /// The place of the first entry with a quota, counted from 0.
 fn first_quota(entries: &[MasterEntry]) -> Option<usize>

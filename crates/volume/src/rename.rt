@@ -2,20 +2,14 @@ ghost use Rattle.std.specs.Prelude.{◌≡◌, ◌↔◌, ◌⊎◌, ◌<◌, �
 ghost use Rattle.std.specs.Ordering.{nat_cmp};
 ghost use Rattle.std.specs.FinMap.Entries.{find};
 ghost use Rattle.words36.specs.declared.names.FileName.{FileName};
-ghost use Rattle.meaning.specs.declared.code.ErrorCode.{ErrorCode};
-ghost use Rattle.meaning.specs.declared.code.ErrorCode.TheVariants.{NameExists, NoDirectory, NoRoom, NotFound};
-ghost use Rattle.meaning.specs.declared.put.Put.{Put};
-ghost use Rattle.meaning.specs.Files.{name_cmp};
-ghost use Rattle.meaning.specs.Stands.{place_of};
+ghost use Rattle.spec_image.specs.declared.code.ErrorCode.{ErrorCode};
+ghost use Rattle.spec_image.specs.declared.code.ErrorCode.TheVariants.{NameExists, NoDirectory, NoRoom, NotFound};
+ghost use Rattle.spec_image.specs.declared.put.Put.{Put};
+ghost use Rattle.spec_image.specs.Common.{name_cmp, place_of};
 ghost use Rattle.retrieval.specs.declared.prime.Prime.{Prime as PrimeValue};
-ghost use Rattle.volume.specs.Beginning.{IsDirectoryOf};
-ghost use Rattle.volume.specs.Claims.{claims};
-ghost use Rattle.volume.specs.Edits.{ChangesFiles, DeviceAnswer};
-ghost use Rattle.volume.specs.Known.{KnownDirectory};
-ghost use Rattle.volume.specs.Live.{slot};
-ghost use Rattle.volume.specs.Moving.{files_moved, HasFile, HasNoRoom, MovesWithin, MovesAcross};
-ghost use Rattle.volume.specs.Places.{prime_at};
-ghost use Rattle.volume.specs.PrimeBlocks.{IsFilePrime};
+ghost use Rattle.volume.specs.Common.{IsDirectoryOf, claims, ChangesFiles, DeviceAnswer, KnownDirectory, slot};
+ghost use Rattle.volume.specs.Common.{files_moved, HasFile, HasNoRoom, MovesWithin, MovesAcross, prime_at};
+ghost use Rattle.volume.specs.Common.{IsFilePrime};
 ghost use Rattle.volume.specs.declared.error.CallError.TheVariants.{Refused, Device, Failed, NoMemory};
 ghost use Rattle.volume.specs.declared.live.LiveVersion.{LiveVersion};
 

@@ -2,21 +2,13 @@ ghost use Rattle.std.specs.Prelude.{◌≡◌, ◌↔◌, ◌<◌, ◌≤◌, []
 ghost use Rattle.std.specs.Ordering.{nat_cmp};
 ghost use Rattle.std.specs.FinMap.Entries.{find};
 ghost use Rattle.words36.specs.declared.names.FileName.{FileName};
-ghost use Rattle.meaning.specs.declared.code.ErrorCode.{ErrorCode};
-ghost use Rattle.meaning.specs.declared.code.ErrorCode.TheVariants.{NoDirectory};
-ghost use Rattle.meaning.specs.Files.{File, Files};
-ghost use Rattle.meaning.specs.Layouts.{layout_number, pack_of};
-ghost use Rattle.meaning.specs.Making.{files_limited};
-ghost use Rattle.meaning.specs.Maps.{times};
-ghost use Rattle.meaning.specs.Regions.{space_start};
-ghost use Rattle.meaning.specs.Stands.{quota_limit};
-ghost use Rattle.directory.specs.Edits.{StandsAt};
-ghost use Rattle.volume.specs.Beginning.{IsDirectoryOf};
-ghost use Rattle.volume.specs.Charging.{IsLimited, LimitsDirectory};
-ghost use Rattle.volume.specs.Edits.{ChangesFiles, DeviceAnswer};
-ghost use Rattle.volume.specs.Known.{KnownDirectory};
-ghost use Rattle.volume.specs.LiveCores.{core_of};
-ghost use Rattle.volume.specs.Places.{prime_at};
+ghost use Rattle.spec_image.specs.declared.code.ErrorCode.{ErrorCode};
+ghost use Rattle.spec_image.specs.declared.code.ErrorCode.TheVariants.{NoDirectory};
+ghost use Rattle.spec_image.specs.Common.{File, Files, layout_number, pack_of, files_limited, times, space_start};
+ghost use Rattle.spec_image.specs.Common.{quota_limit};
+ghost use Rattle.directory.specs.Common.{StandsAt};
+ghost use Rattle.volume.specs.Common.{IsDirectoryOf, IsLimited, LimitsDirectory, ChangesFiles, DeviceAnswer};
+ghost use Rattle.volume.specs.Common.{KnownDirectory, core_of, prime_at};
 ghost use Rattle.volume.specs.declared.error.CallError.TheVariants.{Refused, Device, Failed, NoMemory};
 
 use crate::CallError;

@@ -1,21 +1,11 @@
 ghost use Rattle.std.specs.Prelude.{◌≡◌, ◌⊎◌, ◌↔◌, ℕ, [], false, OnOk, IfOk, IfErr, IfSome, IsErrOf};
 ghost use Rattle.std.specs.List.{AllByRecursion};
-ghost use Rattle.blockdisk.specs.Disk.{Near, NoneOpen, Still, Modifies, LeavesOnly};
-ghost use Rattle.changeset.specs.Crashes.{IsRecovered, SyncsFirst};
-ghost use Rattle.changeset.specs.Rest.{AtRest};
-ghost use Rattle.meaning.specs.Files.{File, Files};
-ghost use Rattle.meaning.specs.Layouts.{StandsOn, layout_number, pack_in, pack_of};
-ghost use Rattle.meaning.specs.Log.{IsGateOpen};
-ghost use Rattle.meaning.specs.Maps.{empty};
-ghost use Rattle.meaning.specs.Regions.{IsVolumeSize};
-ghost use Rattle.meaning.specs.Stands.{Stands};
-ghost use Rattle.volume.specs.Cores.{known_of};
-ghost use Rattle.volume.specs.DiskAnswers.{DiskAnswer};
-ghost use Rattle.volume.specs.Homes.{IsBare, IsInitBlock};
-ghost use Rattle.volume.specs.Known.{IsWholeMap, IsBooked};
-ghost use Rattle.volume.specs.Live.{IsFirstRead};
-ghost use Rattle.volume.specs.FaultsFound.{NamesInSpace, Refuses};
-ghost use Rattle.volume.specs.Rest.{IsAtRest, RestsAt, StandsLike, StandsLikeBefore};
+ghost use Rattle.blockdisk.specs.Common.{Near, NoneOpen, Still, Modifies, LeavesOnly};
+ghost use Rattle.changeset.specs.Common.{IsRecovered, SyncsFirst, AtRest};
+ghost use Rattle.spec_image.specs.Common.{File, Files, StandsOn, layout_number, pack_in, pack_of, IsGateOpen, empty};
+ghost use Rattle.spec_image.specs.Common.{IsVolumeSize, Stands};
+ghost use Rattle.volume.specs.Common.{known_of, DiskAnswer, IsBare, IsInitBlock, IsWholeMap, IsBooked, IsFirstRead};
+ghost use Rattle.volume.specs.Common.{NamesInSpace, Refuses, IsAtRest, RestsAt, StandsLike, StandsLikeBefore};
 ghost use Rattle.volume.specs.declared.error.VolumeError.TheVariants.{NotVolume, Device};
 
 use crate::VolumeError;
@@ -25,7 +15,7 @@ use crate::map::{DiskMap, Volume};
 use crate::open::read_map;
 use blockdisk::{Disk, NoMemory};
 use changeset::{LogError, recover};
-use meaning::layout::Layout;
+use spec_image::layout::Layout;
 use std::alloc::Global;
 
 /// Recovers a disk and reads all that it reaches, each block once, and its allocation table.

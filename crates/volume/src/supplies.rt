@@ -1,14 +1,9 @@
 ghost use Rattle.std.specs.Prelude.{◌≡◌, ◌<◌, ◌++◌, ◌∷◌, [], length, slice_get, Some, IfOk, IsSome};
-ghost use Rattle.meaning.specs.Files.{name_cmp};
-ghost use Rattle.retrieval.specs.Writing.{rib_count};
+ghost use Rattle.spec_image.specs.Common.{name_cmp};
+ghost use Rattle.retrieval.specs.Common.{rib_count};
 ghost use Rattle.slab.specs.Slab.{HasRoomFor};
-ghost use Rattle.directory.specs.Chains.{viewed};
-ghost use Rattle.directory.specs.Edits.{IsReserve};
-ghost use Rattle.directory.specs.Spares.{IsSpareFor};
-ghost use Rattle.volume.specs.Cores.{file_view};
-ghost use Rattle.volume.specs.Live.{pending_at, IsWholeCore};
-ghost use Rattle.volume.specs.LiveCores.{core_of};
-ghost use Rattle.volume.specs.Publishing.{IsPlaced, IsSupplied};
+ghost use Rattle.directory.specs.Common.{viewed, IsReserve, IsSpareFor};
+ghost use Rattle.volume.specs.Common.{file_view, pending_at, IsWholeCore, core_of, IsPlaced, IsSupplied};
 ghost use Rattle.volume.specs.declared.live.LiveDirectory.{LiveDirectory};
 ghost use Rattle.volume.specs.declared.pending.PendingVersion.{PendingVersion};
 

@@ -1,8 +1,7 @@
 ghost use Rattle.std.specs.Prelude.{◌≤◌, length};
 ghost use Rattle.std.specs.List.{AllByRecursion};
-ghost use Rattle.meaning.specs.Log.{IsTarget, targets};
-ghost use Rattle.meaning.specs.Regions.{IsVolumeSize, log_images};
-ghost use Rattle.volume.specs.Edits.{IsCommitted};
+ghost use Rattle.spec_image.specs.Common.{IsTarget, targets, IsVolumeSize, log_images};
+ghost use Rattle.volume.specs.Common.{IsCommitted};
 
 use crate::CallError;
 use blockdisk::Disk;

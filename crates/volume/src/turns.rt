@@ -1,7 +1,7 @@
 ghost use Rattle.std.specs.Prelude.{◌≡◌, ℕ, map, length, IfOk};
 ghost use Rattle.std.specs.List.{enumerate_from, range_with_len};
 ghost use Rattle.std.specs.List.Sorted.{IsPermutation, IsNonDecreasingBy};
-ghost use Rattle.volume.specs.Turns.{numbered_entry, numbered_version};
+ghost use Rattle.volume.specs.Common.{numbered_entry, numbered_version};
 
 use crate::files::StoredVersion;
 use blockdisk::NoMemory;

@@ -1,6 +1,6 @@
 -- A moment is its date and its minute.
-use Rattle.std.proofs.Common.{◌≡◌, ℕ, ◌+◌, ◌*◌, ◌/◌, ◌%◌, ◌^◌, ◌≤◌, sym, ap, subst, ◌∙◌, arith}
-use Rattle.std.proofs.Common.{◌↔◌, Some, Result, Ok, Err, IfOk, IsOk}
+use Rattle.std.proofs.Common.{◌≡◌, ℕ, ◌+◌, ◌*◌, ◌/◌, ◌%◌, ◌^◌, ◌≤◌, sym, ap, subst, ◌∙◌, arith, ◌↔◌, Some, Result, Ok}
+use Rattle.std.proofs.Common.{Err, IfOk, IsOk}
 use Rattle.std.specs.Result.{result_ok}
 use Rattle.std.proofs.Math.Bridge.{le_prop}
 use Rattle.words36.specs.declared.moment.Moment.{Moment}

@@ -1,10 +1,9 @@
 -- What a record says of the order that it spells.
 use Rattle.std.proofs.Common.{◌≡◌, ◌+◌, ◌≤◌, ◌*◌, ◌/◌, ◌<◌, ℕ, List, [], ◌∷◌, length, All, sym, ap, refl, ◌∙◌, subst}
 use Rattle.std.proofs.Common.{zero, suc, ⊎_elim, get_or, arith}
-use Rattle.words36.specs.Words.{IsWord, IsPpn}
-use Rattle.words36.specs.Blocks.{number_at, block_bytes, IsFirstBadWord}
+use Rattle.words36.specs.Common.{IsWord, IsPpn, number_at, block_bytes, IsFirstBadWord}
 use Rattle.words36.specs.declared.moment.Moment.{Moment}
-use Rattle.meaning.specs.declared.call.Call.{Call}
+use Rattle.spec_machine.specs.declared.call.Call.{Call}
 use Rattle.wire.specs.Records.{IsOrder, most_words, record_of, opcode, channel_named, number_named, moment_number}
 use Rattle.wire.proofs.Words.{words_in, words_read, good_or_bad, numbers_of, no_bad}
 use Rattle.wire.specs.declared.header.Header.{Header}

@@ -1,13 +1,13 @@
 -- What is written has one reading.
-use Rattle.std.proofs.Common.{◌≡◌, ◌==◌, ◌<◌, ℕ, List, [], ◌∷◌, length, All, Option, Some, None}
-use Rattle.std.proofs.Common.{if◌then◌else◌, refl, sym, ap, subst, ◌∙◌, arith}
+use Rattle.std.proofs.Common.{◌≡◌, ◌==◌, ◌<◌, ℕ, List, [], ◌∷◌, length, All, Option, Some, None, if◌then◌else◌, refl}
+use Rattle.std.proofs.Common.{sym, ap, subst, ◌∙◌, arith}
 use Rattle.std.proofs.lemmas.List.{ext_get_or}
-use Rattle.words36.specs.Words.{IsWord}
-use Rattle.words36.specs.Blocks.{block_bytes}
+use Rattle.words36.specs.Common.{IsWord, block_bytes}
 use Rattle.words36.specs.declared.moment.Moment.{Moment}
-use Rattle.meaning.specs.declared.call.Call.{Call}
-use Rattle.meaning.specs.declared.call.Call.TheVariants.{Open, Inbuf, Outbuf, Lookup, Enter, Rename, In, Out, Useti}
-use Rattle.meaning.specs.declared.call.Call.TheVariants.{Useto, Close, Releas, Getsts, Reset, MakeDir, DeleteDir, Quota}
+use Rattle.spec_machine.specs.declared.call.Call.{Call}
+use Rattle.spec_machine.specs.declared.call.Call.TheVariants.{Open, Inbuf, Outbuf, Lookup, Enter, Rename, In, Out}
+use Rattle.spec_machine.specs.declared.call.Call.TheVariants.{Useti, Useto, Close, Releas, Getsts, Reset, MakeDir}
+use Rattle.spec_machine.specs.declared.call.Call.TheVariants.{DeleteDir, Quota}
 use Rattle.wire.specs.Records.{IsOrder, HasWords, record_of, opcode, channel_named, number_named, moment_number}
 use Rattle.wire.specs.declared.header.Header.{Header}
 use Rattle.wire.specs.declared.order.Order.{Order}

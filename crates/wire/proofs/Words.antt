@@ -5,9 +5,8 @@ use Rattle.std.proofs.lemmas.Bool.Decides.{nat_tests}
 use Rattle.std.proofs.lemmas.List.FromFn.{length-map-range_with_len, get_or-map-range_with_len}
 use Rattle.std.proofs.lemmas.Bool.{cases_lt}
 use Rattle.std.specs.List.{range_with_len}
-use Rattle.words36.specs.Words.{IsWord}
-use Rattle.words36.specs.Blocks.{number_at, block_bytes, IsFirstBadWord}
-use Rattle.words36.proofs.BlockLaws.{block_bytes-read, number_at-block_bytes}
+use Rattle.words36.specs.Common.{IsWord, number_at, block_bytes, IsFirstBadWord}
+use Rattle.words36.proofs.BlockLaws.{block_bytes-read, number_at-block_bytes, length-block_bytes}
 
 -- so many numbers in bytes
 unfoldable pub words_in : List ℕ → ℕ → List ℕ
@@ -64,10 +63,6 @@ good_or_bad bytes (suc n) = elim (good_or_bad bytes n) [
         same : (k : ℕ) → k < suc n → n ≤ k → n ≡ k
         same k h q = omega (arith, h, q)
 
-length_spelled : (words : List ℕ) → length (block_bytes words) ≡ 8 * length words
-length_spelled [] = refl
-length_spelled (w ∷ words) = omega (arith, length_spelled words)
-
 -- bytes that are words have as many numbers, each a word
 pub record AreNumbers (bytes words : List ℕ) : Type 0 where
   pub long : length bytes ≡ 8 * length words
@@ -76,7 +71,7 @@ pub record AreNumbers (bytes words : List ℕ) : Type 0 where
 
 pub numbers_of : (bytes words : List ℕ) → All IsWord words → block_bytes words ≡ bytes → AreNumbers bytes words
 numbers_of bytes words each is = record {
-  long = ap length (sym is) ∙ length_spelled words;
+  long = ap length (sym is) ∙ length-block_bytes words;
   at = at;
   fits = λ k h. subst IsWord (sym (at k h)) (each k 0 h);
 }

@@ -1,9 +1,9 @@
 ghost use Rattle.std.specs.Prelude.{◌≡◌, ◌+◌, ◌*◌, ◌^◌, ◌<◌, ◌≤◌, ◌++◌, IsOk, OnOk, length, vec_len, vec_capacity};
-ghost use Rattle.words36.specs.Blocks.{block_bytes};
+ghost use Rattle.words36.specs.Common.{block_bytes};
 ghost use Rattle.wire.specs.Records.{answer_record, answer_kind, answer_value, record_bytes};
 
 use crate::Header;
-use meaning::Reply;
+use spec_machine::Reply;
 use std::alloc::AllocError;
 
 /// What a program is answered.

@@ -1,8 +1,8 @@
 ghost use Rattle.std.specs.Prelude.{◌≡◌, ◌<◌, Some, IfSome};
-ghost use Rattle.meaning.specs.declared.call.Call as calls;
 ghost use Rattle.wire.specs.Records.{opcode, channel_named, number_named};
+ghost use Rattle.spec_machine.specs.declared.call.Call as calls;
 
-use meaning::Call;
+use spec_machine::Call;
 
 /// Gives the call on a channel with this operation code.
 fn channel_call(code: u8, channel: u32, number: u32) -> Option<Call>

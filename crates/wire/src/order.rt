@@ -1,12 +1,12 @@
-ghost use Rattle.std.specs.Prelude.{◌≡◌, ◌+◌, ◌*◌, ◌<◌, ◌≤◌, ◌^◌, ◌↔◌, ℕ, List, IfSome, IsSome, Some, Bool, IsTrue, length, All, []};
-ghost use Rattle.words36.specs.Words.{IsWord};
-ghost use Rattle.words36.specs.Blocks.{number_at, block_bytes};
+ghost use Rattle.std.specs.Prelude.{◌≡◌, ◌+◌, ◌*◌, ◌<◌, ◌≤◌, ◌^◌, ◌↔◌, ℕ, List, IfSome, IsSome, Some, Bool, IsTrue};
+ghost use Rattle.std.specs.Prelude.{length, All, []};
+ghost use Rattle.words36.specs.Common.{IsWord, number_at, block_bytes};
 ghost use Rattle.wire.specs.Records.{IsOrder, record_of, HasWords, moment_number, most_words};
 ghost use Rattle.wire.specs.declared.order.Order as orders;
 
 use crate::Header;
 use crate::calls::call_of;
-use meaning::Call;
+use spec_machine::Call;
 use words36::{Moment, Ppn, Word, first_bad_word};
 
 /// An order of a program.

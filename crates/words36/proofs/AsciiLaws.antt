@@ -1,13 +1,13 @@
 -- ASCII texts and their words.
-use Rattle.std.proofs.Common.{ℕ, ◌≡◌, ◌∙◌, ◌+◌, ◌-◌, ◌*◌, ◌%◌, ◌^◌, ◌<◌, ◌≤◌, List, [], ◌∷◌, ◌++◌, length, get_or, take}
-use Rattle.std.proofs.Common.{drop, map, min, arith, refl, ap, sym, inl, inr, bit_or, lit<, slice_index}
+use Rattle.std.proofs.Common.{ℕ, ◌≡◌, ◌∙◌, ◌+◌, ◌-◌, ◌*◌, ◌%◌, ◌^◌, ◌<◌, ◌≤◌, List, [], ◌∷◌, ◌++◌, length, get_or}
+use Rattle.std.proofs.Common.{take, drop, map, min, arith, refl, ap, sym, inl, inr, bit_or, lit<, slice_index}
 use Rattle.std.proofs.Math.Nat.{pow-le-pow_right}
 use Rattle.std.proofs.lemmas.Grind.{common_steps}
 use Rattle.std.proofs.lemmas.Bool.{cases_lt}
 use Rattle.std.proofs.lemmas.List.{get_or_past}
 use Rattle.std.specs.List.{All}
 use Rattle.std.proofs.lemmas.List.Elements.{All-tail, All-drop}
-use Rattle.words36.specs.Ascii.{ascii_word_of, five_characters, packed, unpacked, null_padded, without_last_bit}
+use Rattle.words36.specs.Common.{ascii_word_of, five_characters, packed, unpacked, null_padded, without_last_bit}
 use Rattle.words36.proofs.Digits.{leading, leading-lt}
 
 abbrev pub IsAscii : ℕ → Type 0
@@ -28,7 +28,7 @@ front-lt text n few h =
 pub put_character : (bits c : ℕ) → bits < 2 ^ 35 → c < 128 → bit_or (bits * 128 % 2 ^ 64) c ≡ bits * 128 + c
 put_character bits c b q = grind (arith, common_steps)
 
-five-ascii : (a b c d e : ℕ) → a ≤ 127 → b ≤ 127 → c ≤ 127 → d ≤ 127 → e ≤ 127
+pub five-ascii : (a b c d e : ℕ) → a ≤ 127 → b ≤ 127 → c ≤ 127 → d ≤ 127 → e ≤ 127
     → five_characters (ascii_word_of (a ∷ b ∷ c ∷ d ∷ e ∷ [])) ≡ a ∷ b ∷ c ∷ d ∷ e ∷ []
 five-ascii a b c d e p q r s t = grind arith
 

@@ -8,8 +8,7 @@ use Rattle.std.proofs.lemmas.List.{append_assoc, append-nil, length-append, leng
 use Rattle.std.proofs.lemmas.List.{take_more, drop_more, ext_get_or}
 use Rattle.std.proofs.Math.Seq.{take-add}
 use Rattle.std.proofs.lemmas.List.Concat.{flat_map-append, get_or-flat_map}
-use Rattle.words36.specs.Words.{IsWord}
-use Rattle.words36.specs.Blocks.{IsBlock, block_bytes, word_bytes, number_at}
+use Rattle.words36.specs.Common.{IsWord, IsBlock, block_bytes, word_bytes, number_at}
 
 group_at : (bytes group : List ℕ) (at i : ℕ) → i < 8 → group ≡ between at (at + 8) bytes
     → get_or group i 0 ≡ get_or bytes (at + i) 0
@@ -93,7 +92,7 @@ unfolding number_at
 word_bytes-number_at bytes i h = digits_8 _ _ _ _ _ _ _ _ (h (8 * i)) (h (8 * i + 1)) (h (8 * i + 2))
     (h (8 * i + 3)) (h (8 * i + 4)) (h (8 * i + 5)) (h (8 * i + 6)) (h (8 * i + 7))
 
-length-block_bytes : (words : List ℕ) → length (block_bytes words) ≡ 8 * length words
+pub length-block_bytes : (words : List ℕ) → length (block_bytes words) ≡ 8 * length words
 length-block_bytes [] = refl
 length-block_bytes (w ∷ words) = omega (arith, length-block_bytes words)
 

@@ -1,8 +1,8 @@
-mod AsciiLaws
+pub mod AsciiLaws
 pub mod BlockLaws
 mod Digits
 pub mod NineLaws
 pub mod OctetLaws
-mod OctetReaderLaws
+pub mod OctetReaderLaws
 mod OctetRows
 mod SixbitLaws

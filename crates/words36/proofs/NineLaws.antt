@@ -1,17 +1,14 @@
 -- Blocks and their packed bytes.
-use Rattle.std.proofs.Common.{ℕ, zero, suc, ◌≡◌, ◌∙◌, ◌+◌, ◌-◌, ◌*◌, ◌/◌, ◌%◌, ◌^◌, ◌<◌, ◌≤◌, List, [], ◌∷◌, ◌++◌, All}
-use Rattle.std.proofs.Common.{length, length-drop, get_or, take, drop, set, arith, refl, ap, sym}
+use Rattle.std.proofs.Common.{ℕ, zero, suc, ◌≡◌, ◌∙◌, ◌+◌, ◌-◌, ◌*◌, ◌/◌, ◌%◌, ◌^◌, ◌<◌, ◌≤◌, List, [], ◌∷◌, ◌++◌}
+use Rattle.std.proofs.Common.{All, length, length-drop, get_or, take, drop, set, arith, refl, ap, sym}
 use Rattle.std.specs.List.{between}
 use Rattle.std.proofs.lemmas.List.{append_assoc, append-nil, length-append, length-take-le, length-set, take_at}
-use Rattle.std.proofs.lemmas.List.{take_all}
-use Rattle.std.proofs.lemmas.List.{take_more_set, take-append-drop, drop_more, get_or-drop}
+use Rattle.std.proofs.lemmas.List.{take_all, take_more_set, take-append-drop, drop_more, get_or-drop}
 use Rattle.std.proofs.lemmas.List.Elements.{All-nil, All-cons, All-drop}
 use Rattle.std.proofs.Math.Seq.{drop-drop, drop-length}
 use Rattle.byteorder.specs.Endian.{big_bytes, big_number}
 use Rattle.byteorder.specs.Numbers.{big_from-append, big_from-lt, big_number-reads_back, length-bytes_high_first}
-use Rattle.words36.specs.Words.{IsWord}
-use Rattle.words36.specs.Blocks.{IsBlock}
-use Rattle.words36.specs.Nines.{nine_bytes, pairs_in, nine_words}
+use Rattle.words36.specs.Common.{IsWord, IsBlock, nine_bytes, pairs_in, nine_words}
 
 abbrev pub AreBytes : List ℕ → Type 0
 AreBytes bytes = (j : ℕ) → get_or bytes j 0 < 256

@@ -1,17 +1,15 @@
 -- Bytes of eight bits and their words.
-use Rattle.std.proofs.Common.{ℕ, zero, suc, Bool, true, false, ◌≡◌, ◌∙◌, ◌+◌, ◌-◌, ◌*◌, ◌/◌, ◌%◌, ◌^◌, ◌<◌, ◌≤◌}
-use Rattle.std.proofs.Common.{List, [], ◌∷◌, ◌++◌, length, take, arith, refl, ap, sym, subst}
-use Rattle.std.proofs.Common.{bit_and, nat_eq}
+use Rattle.std.proofs.Common.{ℕ, zero, suc, Bool, true, false, ◌≡◌, ◌∙◌, ◌+◌, ◌-◌, ◌*◌, ◌/◌, ◌%◌, ◌^◌, ◌<◌, ◌≤◌, List}
+use Rattle.std.proofs.Common.{[], ◌∷◌, ◌++◌, length, take, arith, refl, ap, sym, subst, bit_and, nat_eq, Option, Some}
+use Rattle.std.proofs.Common.{None, if◌then◌else◌}
 use Rattle.std.proofs.lemmas.Grind.{common_steps}
 use Rattle.std.specs.List.{All}
 use Rattle.std.proofs.lemmas.List.Elements.{All-drop, All-take, All-append}
-use Rattle.words36.specs.Words.{IsWord}
-use Rattle.words36.specs.Octets.{octet_word, full_word_mark, octets_packed, IsOctet, AreOctets, four_octets}
-use Rattle.words36.specs.Octets.{CountsOctets, octets_in, octets_unpacked}
+use Rattle.words36.specs.Common.{IsWord, octet_word, full_word_mark, octets_packed, IsOctet, AreOctets, four_octets}
+use Rattle.words36.specs.Common.{CountsOctets, octets_in, octets_unpacked}
 use Rattle.std.specs.Str.{bytes_eq}
 use Rattle.std.proofs.lemmas.Option.{cond_some}
 use Rattle.std.proofs.lemmas.Slice.Eq.{bytes_eq-Decides}
-use Rattle.std.proofs.Common.{Option, Some, None, if◌then◌else◌}
 
 -- masks
 

@@ -1,20 +1,16 @@
 -- The bytes of words that come one after the other.
 use Rattle.std.proofs.Common.{ℕ, ◌≡◌, ◌∙◌, ◌%◌, ◌==◌, ◌&&◌, ◌<◌, ◌^◌, Bool, true, false, List, [], ◌∷◌, ◌++◌, take}
-use Rattle.std.proofs.Common.{Option, Some, None, arith, refl, ap, sym, subst, append-nil, true≢false}
-use Rattle.std.proofs.Common.{All}
+use Rattle.std.proofs.Common.{Option, Some, None, arith, refl, ap, sym, subst, append-nil, true≢false, All}
 use Rattle.std.specs.Prelude.{flat_map, unwrap_or, IfOk, IfSome, IfNone, Result, Ok, Err}
 use Rattle.std.proofs.lemmas.Bool.Decides.{nat_tests}
 use Rattle.std.proofs.lemmas.Grind.{flat_map-append}
 use Rattle.std.proofs.lemmas.List.Elements.{All-tail, All-append}
-use Rattle.std.proofs.lemmas.Option.{none-some}
-use Rattle.words36.specs.Words.{IsWord}
-use Rattle.words36.specs.Octets.{four_octets, octets_unpacked, AreOctets, CountsOctets}
-use Rattle.words36.specs.OctetReading.{HasRead, words_before_last, last_word, are_full}
+use Rattle.std.proofs.lemmas.Option.{none-some, same_Some}
+use Rattle.words36.specs.Common.{IsWord, four_octets, octets_unpacked, AreOctets, CountsOctets, octets_packed}
+use Rattle.words36.specs.Common.{IsOctet, HasRead, words_before_last, last_word, are_full}
 use Rattle.words36.specs.declared.octets.OctetReader.{OctetReader}
-use Rattle.words36.proofs.OctetLaws.{octets, AreSpelled, packed-octets, are_octets}
-use Rattle.words36.proofs.OctetLaws.{octets-found, found-right, none-found, spelled-of}
-use Rattle.words36.specs.Octets.{octets_packed, IsOctet}
-use Rattle.std.proofs.lemmas.Option.{same_Some}
+use Rattle.words36.proofs.OctetLaws.{octets, AreSpelled, packed-octets, are_octets, octets-found, found-right}
+use Rattle.words36.proofs.OctetLaws.{none-found, spelled-of}
 
 -- One more word.
 
@@ -94,11 +90,11 @@ has_more old new words v w read some last full whole bytes fits =
 
 -- The end.
 
-both-true : (a b : Bool) → (a && b) ≡ true → (a ≡ true) × (b ≡ true)
+pub both-true : (a b : Bool) → (a && b) ≡ true → (a ≡ true) × (b ≡ true)
 both-true true b e = (refl, e)
 both-true false b e = absurd (true≢false (sym e))
 
-is_zero : (n : ℕ) → (n == 0) ≡ true → n ≡ 0
+pub is_zero : (n : ℕ) → (n == 0) ≡ true → n ≡ 0
 is_zero n e = grind (arith, nat_tests)
 
 spelled_by : (words : List ℕ) (w count : ℕ) → All IsWord words → last_word words ≡ Some w

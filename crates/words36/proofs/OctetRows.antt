@@ -3,7 +3,7 @@
 -- 010 000 010 100 001 001 000 011 010 001 000 100 for "ABCD", with the count 0100 at its end.
 use Rattle.std.proofs.Common.{◌≡◌, [], ◌∷◌, refl}
 use Rattle.std.specs.Prelude.{codes}
-use Rattle.words36.specs.Octets.{octets_packed}
+use Rattle.words36.specs.Common.{octets_packed}
 
 no_bytes : octets_packed [] ≡ []
 no_bytes = refl

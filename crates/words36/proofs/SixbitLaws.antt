@@ -5,7 +5,7 @@ use Rattle.std.proofs.Math.Nat.{pow-le-pow_right}
 use Rattle.std.proofs.lemmas.Grind.{common_steps}
 use Rattle.std.proofs.lemmas.Bool.{cases_lt}
 use Rattle.std.proofs.lemmas.List.{get_or_past, get_or_default}
-use Rattle.words36.specs.Sixbit.{IsSixbitCharacter, IsSixbitText, code, sixbit, characters, six_characters}
+use Rattle.words36.specs.Common.{IsSixbitCharacter, IsSixbitText, code, sixbit, characters, six_characters}
 use Rattle.words36.proofs.Digits.{leading, leading-lt}
 
 -- the first n characters of a text, as far as it has them, are SIXBIT

@@ -6,3 +6,4 @@ pub mod OctetReading
 pub mod Octets
 pub mod Sixbit
 pub mod Words
+pub mod Common

@@ -1,8 +1,8 @@
 -- Bytes of eight bits, four in a word from the left, which is the industry's own form. Bits 0 to 31 of a word are its
 -- bytes. Bits 32 to 35, the low four bits, are 0 in each word except the last. In the last word they hold how many of
 -- its bytes count, 1 to 4, and the bytes that don't count are 0. No bytes are no words.
-use Rattle.std.specs.Prelude.{ℕ, ◌+◌, ◌-◌, ◌*◌, ◌/◌, ◌%◌, ◌^◌, ◌<◌, ◌≤◌, ◌≡◌, List, [], ◌∷◌, All}
-use Rattle.std.specs.Prelude.{◌++◌, take, Option, Some, None, if◌then◌else◌}
+use Rattle.std.specs.Prelude.{ℕ, ◌+◌, ◌-◌, ◌*◌, ◌/◌, ◌%◌, ◌^◌, ◌<◌, ◌≤◌, ◌≡◌, List, [], ◌∷◌, All, ◌++◌, take, Option}
+use Rattle.std.specs.Prelude.{Some, None, if◌then◌else◌}
 use Rattle.std.specs.Str.{bytes_eq}
 
 -- the word of four bytes and the low four bits

@@ -1,6 +1,7 @@
 ghost use Rattle.std.specs.Prelude.{◌≡◌, ◌%◌, ◌≤◌, ◌<◌, ◌^◌, ◌⊎◌, ◌↔◌, IfOk, IfErr, OnOk, IsErrOf, All, Any, length};
 ghost use Rattle.std.specs.Prelude.{map};
-ghost use Rattle.words36.specs.Ascii.{ascii_word_of, five_characters, packed, unpacked, null_padded, without_last_bit};
+ghost use Rattle.words36.specs.Common.{ascii_word_of, five_characters, packed, unpacked, null_padded};
+ghost use Rattle.words36.specs.Common.{without_last_bit};
 
 use crate::{Word, WordError};
 use std::alloc::Global;

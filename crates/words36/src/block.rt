@@ -1,7 +1,6 @@
 ghost use Rattle.std.specs.Prelude.{◌≡◌, ◌+◌, ◌*◌, ◌/◌, ◌<◌, ◌≤◌, ◌^◌, ◌↔◌, ◌++◌, ℕ, List, Ok, IfOk, IfErr, IfSome};
 ghost use Rattle.std.specs.Prelude.{Some, IsSome, IsErrOf, length, take, drop};
-ghost use Rattle.words36.specs.Words.{IsWord};
-ghost use Rattle.words36.specs.Blocks.{IsBlock, IsFirstBadWord, block_bytes, word_bytes, number_at};
+ghost use Rattle.words36.specs.Common.{IsWord, IsBlock, IsFirstBadWord, block_bytes, word_bytes, number_at};
 
 use crate::{BLOCK_WORDS, Block, Word, WordError};
 use byteorder::{BigEndian, ByteOrder};

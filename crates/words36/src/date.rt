@@ -1,5 +1,5 @@
 ghost use Rattle.std.specs.Prelude.{◌≡◌, ◌≤◌, ◌↔◌, IfOk, IfErr, IsOk};
-ghost use Rattle.words36.specs.Dates.{date_number, IsDate, IsDayOf};
+ghost use Rattle.words36.specs.Common.{date_number, IsDate, IsDayOf};
 
 use crate::WordError;
 

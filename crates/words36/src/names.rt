@@ -1,5 +1,5 @@
 ghost use Rattle.std.specs.Prelude.{◌≡◌, ◌<◌, ◌^◌, ◌↔◌, Some, IsSome, IfSome};
-ghost use Rattle.words36.specs.Words.{left, right, join, IsPpn, ppn_text};
+ghost use Rattle.words36.specs.Common.{left, right, join, IsPpn, ppn_text};
 
 use crate::{Half, Word};
 use std::fmt;
@@ -14,7 +14,7 @@ pub struct Ppn {
 
 impl Model for Ppn {
     ghost use Rattle.std.specs.Prelude.{ℕ};
-    ghost use Rattle.words36.specs.Words.{IsPpn};
+    ghost use Rattle.words36.specs.Common.{IsPpn};
 
     ghost Value = { ℕ };
 

@@ -1,8 +1,6 @@
 ghost use Rattle.std.specs.Prelude.{◌≡◌, ◌+◌, ◌*◌, ◌/◌, ◌%◌, ◌<◌, ◌≤◌, ◌^◌, ◌++◌, length, take, drop};
 ghost use Rattle.byteorder.specs.Endian.{big_bytes, big_number};
-ghost use Rattle.words36.specs.Words.{IsWord};
-ghost use Rattle.words36.specs.Blocks.{IsBlock};
-ghost use Rattle.words36.specs.Nines.{nine_bytes, nine_words};
+ghost use Rattle.words36.specs.Common.{IsWord, IsBlock, nine_bytes, nine_words};
 
 use crate::{BLOCK_WORDS, Block, Word};
 use byteorder::{BigEndian, ByteOrder};

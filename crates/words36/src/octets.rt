@@ -1,8 +1,7 @@
-ghost use Rattle.std.specs.Prelude.{◌%◌, ◌==◌, ◌&&◌, ◌∷◌, ◌++◌, [], OnErr};
-ghost use Rattle.std.specs.Prelude.{◌≡◌, ◌<◌, ◌≤◌, ◌^◌, ℕ, List, true, false, Some, None, IfOk, IfSome, IfNone, length, slice_index};
-ghost use Rattle.words36.specs.Octets.{octets_packed, octets_unpacked, octet_word, four_octets, AreOctets};
-ghost use Rattle.words36.specs.OctetReading.{HasRead};
-ghost use Rattle.words36.specs.Octets.{CountsOctets, OctetsAreOne, OctetsAreFound, FoundOctetsAreRight};
+ghost use Rattle.std.specs.Prelude.{◌%◌, ◌==◌, ◌&&◌, ◌∷◌, ◌++◌, [], OnErr, ◌≡◌, ◌<◌, ◌≤◌, ◌^◌, ℕ, List, true, false};
+ghost use Rattle.std.specs.Prelude.{Some, None, IfOk, IfSome, IfNone, length, slice_index};
+ghost use Rattle.words36.specs.Common.{octets_packed, octets_unpacked, octet_word, four_octets, AreOctets};
+ghost use Rattle.words36.specs.Common.{CountsOctets, OctetsAreOne, OctetsAreFound, FoundOctetsAreRight, HasRead};
 
 use crate::Word;
 use std::alloc::{AllocError, Global};

@@ -1,5 +1,5 @@
 ghost use Rattle.std.specs.Prelude.{◌≡◌, ◌%◌, ◌+◌, ◌*◌, ◌<◌, ◌^◌, ◌↔◌, IfOk, IfErr, IsOk, length, slice_index};
-ghost use Rattle.words36.specs.Sixbit.{IsSixbitText, IsSixbitCharacter, sixbit, characters, six_characters, code};
+ghost use Rattle.words36.specs.Common.{IsSixbitText, IsSixbitCharacter, sixbit, characters, six_characters, code};
 
 use crate::{Word, WordError};
 

@@ -1,5 +1,5 @@
 ghost use Rattle.std.specs.Prelude.{◌≡◌, ◌<◌, ◌^◌, ◌↔◌, IsSome, IfSome};
-ghost use Rattle.words36.specs.Words.{left, right, join};
+ghost use Rattle.words36.specs.Common.{left, right, join};
 
 use std::marker::Model;
 

@@ -1,5 +1,5 @@
 use Rattle.std.proofs.Common.{◌≡◌, ◌<◌, ◌≤◌, ◌/◌, ℕ}
-use Rattle.meaning.specs.Table.{bit_of}
+use Rattle.spec_image.specs.Common.{bit_of}
 use Rattle.alloctab.proofs.bits.has_bit_past.Given as goal
 
 abbrev pub invariant-loop-n : goal.invariant-loop-n

@@ -1,8 +1,6 @@
 use Rattle.std.proofs.Common.{◌≡◌, ◌<◌, List, length, ap, arith}
-use Rattle.meaning.specs.declared.put.Put.{Put}
-use Rattle.alloctab.specs.Lists.{flag_at}
-use Rattle.alloctab.specs.Words.{word_bit}
-use Rattle.alloctab.specs.Changes.{with_changed}
+use Rattle.spec_image.specs.declared.put.Put.{Put}
+use Rattle.alloctab.specs.Common.{flag_at, word_bit, with_changed}
 use Rattle.alloctab.proofs.ChangeLaws.{room_left}
 use Rattle.alloctab.proofs.blocks.put_changed.Goals as goal
 

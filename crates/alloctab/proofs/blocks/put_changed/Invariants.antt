@@ -1,7 +1,5 @@
 use Rattle.std.proofs.Common.{◌≡◌}
-use Rattle.alloctab.specs.Lists.{flag_at}
-use Rattle.alloctab.specs.Words.{word_bit}
-use Rattle.alloctab.specs.Changes.{with_changed}
+use Rattle.alloctab.specs.Common.{flag_at, word_bit, with_changed}
 use Rattle.alloctab.proofs.blocks.put_changed.Given as goal
 
 abbrev pub invariant-loop-i : goal.invariant-loop-i

@@ -1,8 +1,8 @@
-use Rattle.std.proofs.Common.{◌≡◌, ℕ, ◌+◌, ◌*◌, ◌<◌, ◌^◌, List, [], ◌∷◌, ◌++◌, get_or, refl, sym, ◌∙◌, ap, subst, arith}
+use Rattle.std.proofs.Common.{◌≡◌, ℕ, ◌+◌, ◌*◌, ◌<◌, ◌^◌, List, [], ◌∷◌, ◌++◌, get_or, refl, sym, ◌∙◌, ap, subst}
+use Rattle.std.proofs.Common.{arith}
 use Rattle.std.proofs.lemmas.List.{take_more_set, take_all, get_or_read}
 use Rattle.std.proofs.Math.ListN.{length-set}
-use Rattle.alloctab.specs.Words.{word_bit}
-use Rattle.alloctab.specs.TableBlocks.{words_of}
+use Rattle.alloctab.specs.Common.{word_bit, words_of}
 use Rattle.alloctab.proofs.WordLaws.{words_none, words_more, table_words_are, number_of_word}
 use Rattle.alloctab.proofs.blocks.table_block.Goals as goal
 

@@ -1,6 +1,5 @@
 use Rattle.std.proofs.Common.{◌≡◌, ◌*◌, length, take}
-use Rattle.alloctab.specs.Words.{word_bit}
-use Rattle.alloctab.specs.TableBlocks.{words_of}
+use Rattle.alloctab.specs.Common.{word_bit, words_of}
 use Rattle.alloctab.proofs.blocks.table_block.Given as goal
 
 abbrev pub invariant-loop-place : goal.invariant-loop-place

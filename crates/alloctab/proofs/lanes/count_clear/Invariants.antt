@@ -1,6 +1,6 @@
 use Rattle.std.proofs.Common.{◌≡◌, ◌≤◌, ◌*◌}
-use Rattle.meaning.specs.Counts.{sum_below}
-use Rattle.alloctab.specs.Clear.{clear_bit}
+use Rattle.spec_image.specs.Common.{sum_below}
+use Rattle.alloctab.specs.Common.{clear_bit}
 use Rattle.alloctab.proofs.lanes.count_clear.Given as goal
 
 abbrev pub invariant-loop-chunk : goal.invariant-loop-chunk

@@ -1,7 +1,7 @@
 use Rattle.std.proofs.Common.{ℕ, ◌+◌, ◌*◌, ◌<◌, ◌≤◌, ◌^◌, length, get_or, refl, sym, ◌∙◌, ap, subst, arith}
 use Rattle.std.proofs.Common.{mod-eq_of_lt}
-use Rattle.meaning.specs.Counts.{sum_below}
-use Rattle.alloctab.specs.Clear.{clear_bit}
+use Rattle.spec_image.specs.Common.{sum_below}
+use Rattle.alloctab.specs.Common.{clear_bit}
 use Rattle.alloctab.proofs.LaneLaws.{words_counted, sum_few, sum_fits}
 use Rattle.alloctab.proofs.lanes.count_in_lanes.Goals as goal
 

@@ -1,5 +1,5 @@
 use Rattle.std.proofs.Common.{◌*◌, length, sym, arith}
-use Rattle.alloctab.specs.Clear.{clear_bit}
+use Rattle.alloctab.specs.Common.{clear_bit}
 use Rattle.alloctab.proofs.LowestLaws.{lowest_none, none_in_words, first_in_words}
 use Rattle.alloctab.proofs.lanes.first_clear.Goals as goal
 

@@ -1,5 +1,5 @@
 use Rattle.std.proofs.Common.{◌≡◌, ◌<◌, ◌≤◌, ℕ}
-use Rattle.alloctab.specs.Clear.{clear_at}
+use Rattle.alloctab.specs.Common.{clear_at}
 use Rattle.alloctab.proofs.lanes.full_in_rest.Given as goal
 
 abbrev pub invariant-loop-place : goal.invariant-loop-place

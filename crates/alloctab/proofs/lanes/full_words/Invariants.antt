@@ -1,5 +1,5 @@
 use Rattle.std.proofs.Common.{◌≡◌, ◌<◌, ◌*◌, ℕ}
-use Rattle.alloctab.specs.Clear.{clear_at}
+use Rattle.alloctab.specs.Common.{clear_at}
 use Rattle.alloctab.proofs.lanes.full_words.Given as goal
 
 abbrev pub invariant-loop-chunk : goal.invariant-loop-chunk

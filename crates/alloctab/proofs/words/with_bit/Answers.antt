@@ -1,7 +1,7 @@
 use Rattle.std.proofs.Common.{ℕ, ◌-◌, sym, ◌∙◌, ap, arith, w64}
 use Rattle.std.specs.Int.{bit_at}
 use Rattle.std.proofs.lemmas.Nat.Bits.{bit_at_set_same, bit_at_set_other, bit_at_clear_same, bit_at_clear_other}
-use Rattle.alloctab.specs.Lists.{digit}
+use Rattle.alloctab.specs.Common.{digit}
 use Rattle.alloctab.proofs.BitPuts.{with_mask_fits}
 use Rattle.alloctab.proofs.words.with_bit.Goals as goal
 

@@ -1,7 +1,6 @@
 use Rattle.std.proofs.Common.{◌≡◌, refl}
 use Rattle.std.proofs.lemmas.Result.{on_ok_weaker}
-use Rattle.blockdisk.specs.Disk.{Syncs}
-use Rattle.blockdisk.specs.Laws.{writes_modifies, modifies_still, syncs_still, modifies_near, near_sync}
+use Rattle.blockdisk.specs.Common.{Syncs, writes_modifies, modifies_still, syncs_still, modifies_near, near_sync}
 use Rattle.blockdisk.proofs.copies.write_through.Goals as goal
 
 pub returns-in_err-write-clause-near : goal.returns-in_err-write-clause-near

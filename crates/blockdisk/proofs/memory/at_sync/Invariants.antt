@@ -1,5 +1,5 @@
 use Rattle.std.proofs.Common.{◌≡◌, drop}
-use Rattle.blockdisk.specs.Crashing.{at_sync}
+use Rattle.blockdisk.specs.Common.{at_sync}
 use Rattle.blockdisk.proofs.memory.at_sync.Given as goal
 
 abbrev pub invariant-loop-call : goal.invariant-loop-call

@@ -1,6 +1,5 @@
 use Rattle.std.proofs.Common.{◌≡◌, ◌<◌, ◌≤◌, ℕ, length}
-use Rattle.blockdisk.specs.Crashing.{left_in}
-use Rattle.blockdisk.specs.Memory.{held}
+use Rattle.blockdisk.specs.Common.{left_in, held}
 use Rattle.blockdisk.proofs.memory.crash_blocks.Given as goal
 
 abbrev pub invariant-loop-n : goal.invariant-loop-n

@@ -1,5 +1,5 @@
 use Rattle.std.proofs.Common.{subst}
-use Rattle.changeset.specs.Puts.{IsPutIn}
+use Rattle.changeset.specs.Common.{IsPutIn}
 use Rattle.changeset.proofs.PutLists.{none_more, put_in}
 use Rattle.changeset.proofs.change_set.place_of.Goals as goal
 

@@ -1,6 +1,5 @@
 use Rattle.std.proofs.Common.{◌≡◌, take}
-use Rattle.meaning.specs.Maps.{times}
-use Rattle.meaning.specs.Log.{targets}
+use Rattle.spec_image.specs.Common.{times, targets}
 use Rattle.changeset.proofs.change_set.place_of.Given as goal
 
 abbrev pub invariant-loop-i : goal.invariant-loop-i

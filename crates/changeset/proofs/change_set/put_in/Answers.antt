@@ -1,9 +1,8 @@
 use Rattle.std.proofs.Common.{◌≡◌, List, [], ◌∷◌, ◌++◌, length, drop, slice_set, sym, ◌∙◌, ap}
 use Rattle.std.proofs.lemmas.List.{take_at}
 use Rattle.std.proofs.Math.ListN.{length-set}
-use Rattle.meaning.specs.declared.put.Put.{Put}
-use Rattle.changeset.specs.Puts.{replaced}
-use Rattle.changeset.specs.PutLaws.{replaced-new}
+use Rattle.spec_image.specs.declared.put.Put.{Put}
+use Rattle.changeset.specs.Common.{replaced, replaced-new}
 use Rattle.changeset.proofs.PutLists.{set_there}
 use Rattle.changeset.proofs.change_set.put_in.Goals as goal
 

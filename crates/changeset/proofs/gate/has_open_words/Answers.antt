@@ -2,8 +2,8 @@ use Rattle.std.proofs.Common.{◌≡◌, ℕ, Some, ◌==◌, replicate, sym, �
 use Rattle.std.specs.Bool.{Decides}
 use Rattle.std.proofs.lemmas.Bool.Decides.{Decides-eqb}
 use Rattle.std.proofs.lemmas.Slice.Eq.{slice_eq-Decides}
-use Rattle.meaning.specs.Log.{open_gate}
-use Rattle.meaning.proofs.MapLaws.{some_same}
+use Rattle.spec_image.specs.Common.{open_gate}
+use Rattle.spec_image.proofs.Common.{some_same}
 use Rattle.changeset.proofs.gate.has_open_words.Goals as goal
 
 pub returns-in-Ok-clause-answer : goal.returns-in-Ok-clause-answer

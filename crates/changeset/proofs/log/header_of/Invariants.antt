@@ -1,5 +1,5 @@
 use Rattle.std.proofs.Common.{◌≡◌, ◌-◌, ◌∷◌, ◌++◌, length, take, replicate}
-use Rattle.meaning.specs.Log.{targets, log_word}
+use Rattle.spec_image.specs.Common.{targets, log_word}
 use Rattle.changeset.proofs.log.header_of.Given as goal
 
 abbrev pub invariant-loop-i : goal.invariant-loop-i

@@ -1,14 +1,11 @@
 use Rattle.std.proofs.Common.{◌≡◌, List, ◌+◌, ◌<◌, length, Some, sym, ◌∙◌, ap, subst, arith}
 use Rattle.std.specs.List.{AllByRecursion}
 use Rattle.std.proofs.lemmas.Result.{err_from_is_err_and}
-use Rattle.blockdisk.specs.Laws.{same_disk_on}
-use Rattle.meaning.specs.declared.put.Put.{Put}
-use Rattle.meaning.specs.Log.{IsTarget, targets, log_header}
-use Rattle.meaning.specs.Regions.{log_start}
+use Rattle.blockdisk.specs.Common.{same_disk_on}
+use Rattle.spec_image.specs.declared.put.Put.{Put}
+use Rattle.spec_image.specs.Common.{IsTarget, targets, log_header, log_start}
 use Rattle.changeset.specs.declared.error.LogError.TheVariants.{BadLog}
-use Rattle.changeset.specs.Reads.{IsNextTarget}
-use Rattle.changeset.specs.Puts.{AreDistinct}
-use Rattle.changeset.specs.PutLaws.{all_behind, targets-behind, distinct_behind}
+use Rattle.changeset.specs.Common.{IsNextTarget, AreDistinct, all_behind, targets-behind, distinct_behind}
 use Rattle.changeset.proofs.Reading.{IsFront, only_reads_on, count_is, next_put_at, all_read, front_more, different}
 use Rattle.changeset.proofs.Reading.{not_different, passed_on}
 use Rattle.changeset.proofs.log.read_log.Goals as goal

@@ -1,9 +1,8 @@
 use Rattle.std.proofs.Common.{◌≡◌, length, Some}
 use Rattle.std.specs.List.{AllByRecursion}
-use Rattle.blockdisk.specs.Disk.{SameDisk}
-use Rattle.meaning.specs.Log.{IsTarget, targets}
-use Rattle.changeset.specs.Puts.{AreDistinct}
-use Rattle.changeset.specs.Reads.{OnlyReads}
+use Rattle.blockdisk.specs.Common.{SameDisk}
+use Rattle.spec_image.specs.Common.{IsTarget, targets}
+use Rattle.changeset.specs.Common.{AreDistinct, OnlyReads}
 use Rattle.changeset.proofs.Reading.{IsFront}
 use Rattle.changeset.proofs.log.read_log.Given as goal
 

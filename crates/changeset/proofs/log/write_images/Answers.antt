@@ -1,6 +1,6 @@
 use Rattle.std.proofs.Common.{◌+◌, ◌<◌, ◌≤◌, length, refl, ◌∙◌, arith}
-use Rattle.blockdisk.specs.Laws.{same_disk_start, same_disk_on, modifies_start, modifies_write}
-use Rattle.meaning.specs.Regions.{log_start}
+use Rattle.blockdisk.specs.Common.{same_disk_start, same_disk_on, modifies_start, modifies_write}
+use Rattle.spec_image.specs.Common.{log_start}
 use Rattle.changeset.proofs.PutLists.{images_more}
 use Rattle.changeset.proofs.log.write_images.Goals as goal
 

@@ -1,7 +1,6 @@
 use Rattle.std.proofs.Common.{◌≡◌, ◌+◌, ◌<◌, ◌≤◌, length, take}
-use Rattle.blockdisk.specs.Disk.{Modifies, SameDisk}
-use Rattle.meaning.specs.Log.{AreImages}
-use Rattle.meaning.specs.Regions.{log_start}
+use Rattle.blockdisk.specs.Common.{Modifies, SameDisk}
+use Rattle.spec_image.specs.Common.{AreImages, log_start}
 use Rattle.changeset.proofs.log.write_images.Given as goal
 
 abbrev pub invariant-loop-i : goal.invariant-loop-i

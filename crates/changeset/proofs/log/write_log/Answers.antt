@@ -1,9 +1,9 @@
 use Rattle.std.proofs.Common.{ℕ, ◌+◌, ◌<◌, ◌≤◌, length, Some, ◌∙◌, ap, arith}
 use Rattle.std.proofs.lemmas.Result.{on_ok_weaker}
-use Rattle.blockdisk.specs.Disk.{DiskState, Modifies, Syncs}
-use Rattle.blockdisk.specs.Laws.{modifies_wider, modifies_write, modifies_still, syncs_still, modifies_near, near_sync}
-use Rattle.meaning.specs.Regions.{log_start, log_images}
-use Rattle.changeset.specs.Crashes.{IsInLog}
+use Rattle.blockdisk.specs.Common.{DiskState, Modifies, Syncs, modifies_wider, modifies_write, modifies_still}
+use Rattle.blockdisk.specs.Common.{syncs_still, modifies_near, near_sync}
+use Rattle.spec_image.specs.Common.{log_start, log_images}
+use Rattle.changeset.specs.Common.{IsInLog}
 use Rattle.changeset.proofs.PutLists.{images_same}
 use Rattle.changeset.proofs.log.write_log.Goals as goal
 

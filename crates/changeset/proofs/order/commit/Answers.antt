@@ -1,9 +1,8 @@
 use Rattle.std.proofs.Common.{◌⊎◌, ℕ, List, subst}
-use Rattle.blockdisk.specs.Disk.{MayLeave, Near, Modifies, LeavesOnly}
-use Rattle.blockdisk.specs.Laws.{syncs_still, still_modifies, near_self, leaves_start, leaves_weaker, sync_leaves}
-use Rattle.meaning.specs.declared.put.Put.{Put}
-use Rattle.changeset.specs.Crashes.{IsGateOrLog}
-use Rattle.changeset.specs.Puts.{IsPutIn}
+use Rattle.blockdisk.specs.Common.{MayLeave, Near, Modifies, LeavesOnly, syncs_still, still_modifies, near_self}
+use Rattle.blockdisk.specs.Common.{leaves_start, leaves_weaker, sync_leaves}
+use Rattle.spec_image.specs.declared.put.Put.{Put}
+use Rattle.changeset.specs.Common.{IsGateOrLog, IsPutIn}
 use Rattle.changeset.proofs.Moments.{still_leaves}
 use Rattle.changeset.proofs.order.commit.Goals as goal
 

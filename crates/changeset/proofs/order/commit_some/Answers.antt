@@ -1,10 +1,8 @@
 use Rattle.std.proofs.Common.{◌⊎◌, inl, inr, ⊎_elim, ℕ, ◌∙◌, arith}
 use Rattle.std.proofs.lemmas.Result.{on_ok_weaker}
-use Rattle.blockdisk.specs.Disk.{SameOutside, Modifies}
-use Rattle.blockdisk.specs.Laws.{modifies_on, modifies_wider, near_then, leaves_wider}
-use Rattle.meaning.specs.Log.{with_puts}
-use Rattle.changeset.specs.Crashes.{IsGate, IsInLog, IsGateOrLog}
-use Rattle.changeset.specs.Puts.{IsPutIn}
+use Rattle.blockdisk.specs.Common.{SameOutside, Modifies, modifies_on, modifies_wider, near_then, leaves_wider}
+use Rattle.spec_image.specs.Common.{with_puts}
+use Rattle.changeset.specs.Common.{IsGate, IsInLog, IsGateOrLog, IsPutIn}
 use Rattle.changeset.proofs.Moments.{opened_pending, logging_leaves, opening_leaves, opening_modifies, commit_leaves}
 use Rattle.changeset.proofs.Moments.{all_outside}
 use Rattle.changeset.proofs.order.commit_some.Goals as goal

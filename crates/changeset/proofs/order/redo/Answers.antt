@@ -1,9 +1,7 @@
 use Rattle.std.proofs.Common.{◌⊎◌, inl, inr, ℕ}
 use Rattle.std.proofs.lemmas.Result.{on_ok_weaker}
-use Rattle.blockdisk.specs.Disk.{Modifies}
-use Rattle.blockdisk.specs.Laws.{modifies_on, modifies_wider, near_then, leaves_wider}
-use Rattle.changeset.specs.Crashes.{IsGate}
-use Rattle.changeset.specs.Puts.{IsPutIn}
+use Rattle.blockdisk.specs.Common.{Modifies, modifies_on, modifies_wider, near_then, leaves_wider}
+use Rattle.changeset.specs.Common.{IsGate, IsPutIn}
 use Rattle.changeset.proofs.Moments.{placing_leaves, redo_leaves}
 use Rattle.changeset.proofs.order.redo.Goals as goal
 

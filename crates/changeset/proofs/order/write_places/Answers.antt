@@ -1,9 +1,8 @@
 use Rattle.std.proofs.Common.{◌<◌, refl, ◌∙◌, arith}
 use Rattle.std.proofs.lemmas.Result.{on_ok_weaker}
-use Rattle.blockdisk.specs.Disk.{Syncs}
-use Rattle.blockdisk.specs.Laws.{same_disk_start, same_disk_on, modifies_start, modifies_write, modifies_still}
-use Rattle.blockdisk.specs.Laws.{syncs_still, modifies_near, near_sync}
-use Rattle.changeset.specs.Puts.{IsPutIn}
+use Rattle.blockdisk.specs.Common.{Syncs, same_disk_start, same_disk_on, modifies_start, modifies_write}
+use Rattle.blockdisk.specs.Common.{modifies_still, syncs_still, modifies_near, near_sync}
+use Rattle.changeset.specs.Common.{IsPutIn}
 use Rattle.changeset.proofs.PutLists.{all_at, placed_more, put_in}
 use Rattle.changeset.proofs.order.write_places.Goals as goal
 

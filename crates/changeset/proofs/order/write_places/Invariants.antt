@@ -1,7 +1,7 @@
 use Rattle.std.proofs.Common.{◌≡◌, ℕ, take}
-use Rattle.blockdisk.specs.Disk.{Modifies, SameDisk}
-use Rattle.meaning.specs.Log.{with_puts}
-use Rattle.changeset.specs.Puts.{IsPutIn}
+use Rattle.blockdisk.specs.Common.{Modifies, SameDisk}
+use Rattle.spec_image.specs.Common.{with_puts}
+use Rattle.changeset.specs.Common.{IsPutIn}
 use Rattle.changeset.proofs.order.write_places.Given as goal
 
 abbrev pub invariant-loop-put : goal.invariant-loop-put

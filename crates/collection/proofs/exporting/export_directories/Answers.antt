@@ -1,7 +1,7 @@
 use Rattle.std.proofs.Common.{arith, sym, subst, ◌+◌}
 use Rattle.std.proofs.lemmas.Result.{err_from_is_err_and}
-use Rattle.commands.specs.Monitors.{machine_of}
-use Rattle.collection.specs.Exporting.{IsOwnerDone}
+use Rattle.commands.specs.Common.{machine_of}
+use Rattle.collection.specs.Common.{IsOwnerDone}
 use Rattle.collection.proofs.EachLaws.{Done, done_none, done_more, done_cut, done_all}
 use Rattle.collection.proofs.exporting.export_directories.Goals as goal
 

@@ -1,5 +1,5 @@
-use Rattle.commands.specs.Monitors.{machine_of}
-use Rattle.collection.specs.Exporting.{IsOwnerDone}
+use Rattle.commands.specs.Common.{machine_of}
+use Rattle.collection.specs.Common.{IsOwnerDone}
 use Rattle.collection.proofs.EachLaws.{Done}
 use Rattle.collection.proofs.exporting.export_directories.Given as goal
 

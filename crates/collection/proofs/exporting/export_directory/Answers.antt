@@ -1,6 +1,6 @@
 use Rattle.std.proofs.Common.{Ok, Err, inl, refl, subst, ◌∙◌}
-use Rattle.commands.specs.Monitors.{machine_of}
-use Rattle.collection.specs.Exporting.{AreEntriesDone}
+use Rattle.commands.specs.Common.{machine_of}
+use Rattle.collection.specs.Common.{AreEntriesDone}
 use Rattle.collection.proofs.Moving.{entries_as, no_entries, refused_as}
 use Rattle.collection.proofs.exporting.export_directory.Goals as goal
 

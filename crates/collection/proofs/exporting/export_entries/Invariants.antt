@@ -1,5 +1,5 @@
-use Rattle.commands.specs.Monitors.{machine_of}
-use Rattle.collection.specs.Exporting.{IsEntryDone}
+use Rattle.commands.specs.Common.{machine_of}
+use Rattle.collection.specs.Common.{IsEntryDone}
 use Rattle.collection.proofs.EachLaws.{Done}
 use Rattle.collection.proofs.exporting.export_entries.Given as goal
 

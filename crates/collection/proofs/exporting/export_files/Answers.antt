@@ -1,8 +1,7 @@
 use Rattle.std.proofs.Common.{[], ◌∷◌, Ok, Err, refl, sym, subst}
-use Rattle.commands.specs.Errands.{AreAsked}
-use Rattle.commands.specs.Monitors.{machine_of}
+use Rattle.commands.specs.Common.{AreAsked, machine_of}
 use Rattle.commands.proofs.ErrandLaws.{none_there, not_asked}
-use Rattle.collection.specs.Exporting.{AreOwnersDone}
+use Rattle.collection.specs.Common.{AreOwnersDone}
 use Rattle.collection.proofs.Going.{exports_go, monitors_stand}
 use Rattle.collection.proofs.Moving.{refused_as}
 use Rattle.collection.proofs.exporting.export_files.Goals as goal

@@ -1,6 +1,6 @@
 use Rattle.std.proofs.Common.{map}
-use Rattle.commands.specs.Monitors.{machine_of}
-use Rattle.collection.specs.Importing.{IsDoneWith}
+use Rattle.commands.specs.Common.{machine_of}
+use Rattle.collection.specs.Common.{IsDoneWith}
 use Rattle.collection.proofs.EachLaws.{Done}
 use Rattle.collection.proofs.importing.import_all.Given as goal
 

@@ -1,5 +1,5 @@
 use Rattle.std.proofs.Common.{map}
-use Rattle.commands.specs.Monitors.{machine_of}
+use Rattle.commands.specs.Common.{machine_of}
 use Rattle.collection.proofs.Going.{import_run_goes, monitors_stand}
 use Rattle.collection.proofs.Moving.{let_in, shut_out}
 use Rattle.collection.proofs.importing.import_files.Goals as goal

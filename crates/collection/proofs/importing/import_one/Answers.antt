@@ -1,5 +1,5 @@
 use Rattle.std.proofs.Common.{◌≡◌, IfSome, inl, inr, refl, sym, subst}
-use Rattle.collection.specs.Naming.{IsNameFor}
+use Rattle.collection.specs.Common.{IsNameFor}
 use Rattle.collection.proofs.importing.import_one.Goals as goal
 
 pub returns-in-Ok-read : goal.returns-in-Ok-read

@@ -1,5 +1,5 @@
 use Rattle.std.proofs.Common.{inl, inr, refl, sym, ap, ◌∙◌}
-use Rattle.collection.specs.Lines.{label_of}
+use Rattle.collection.specs.Common.{label_of}
 use Rattle.collection.proofs.Moving.{imported_as}
 use Rattle.collection.proofs.importing.put_source.Goals as goal
 

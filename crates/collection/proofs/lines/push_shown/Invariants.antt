@@ -1,5 +1,5 @@
 use Rattle.std.proofs.Common.{◌≡◌, ◌++◌, take, map}
-use Rattle.collection.specs.Naming.{shown_byte}
+use Rattle.collection.specs.Common.{shown_byte}
 use Rattle.collection.proofs.lines.push_shown.Given as goal
 
 abbrev pub invariant-loop-byte : goal.invariant-loop-byte

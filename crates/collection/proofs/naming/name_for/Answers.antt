@@ -1,9 +1,10 @@
 use Rattle.std.proofs.Common.{ℕ, List, Some, IfNone, map, subst, sym, ◌∙◌}
 use Rattle.words36.specs.declared.names.FileName.{FileName}
-use Rattle.meaning.specs.Lines.{upper}
-use Rattle.commands.specs.Files.{IsFileName}
-use Rattle.collection.specs.Naming.{IsOwnText}
-use Rattle.collection.proofs.NamingLaws.{apart, no_name, ok_none_then}
+use Rattle.spec_language.specs.Common.{upper}
+use Rattle.commands.specs.Common.{IsFileName}
+use Rattle.collection.specs.Common.{IsOwnText}
+use Rattle.collection.proofs.NamingLaws.{no_name, ok_none_then}
+use Rattle.directory.proofs.Finding.{true_false}
 use Rattle.collection.proofs.naming.name_for.Goals as goal
 
 pub returns-in-None-clause-none : goal.returns-in-None-clause-none
@@ -17,4 +18,4 @@ pub returns-in-None-2-clause-none : goal.returns-in-None-2-clause-none
 returns-in-None-2-clause-none c = no_name c.args.shortens c.args.path.now
     (subst (λ o. IfNone o ((text : List ℕ) (file : FileName) → IsOwnText c.args.path.now (Some text)
     → IsFileName (map upper text) file.name file.ext → ⊥)) c.in-None.is c.in_ok-named.ensures.none)
-    (λ wanted. absurd (apart (sym wanted ∙ c.if-shortens.false)))
+    (λ wanted. absurd (true_false (sym wanted ∙ c.if-shortens.false)))

@@ -1,5 +1,5 @@
 use Rattle.std.proofs.Common.{◌≡◌, ◌++◌, drop}
-use Rattle.collection.specs.Naming.{plain}
+use Rattle.collection.specs.Common.{plain}
 use Rattle.collection.proofs.naming.push_plain.Given as goal
 
 abbrev pub invariant-loop-byte : goal.invariant-loop-byte

@@ -1,5 +1,5 @@
 use Rattle.std.proofs.Common.{◌≡◌, ◌++◌, take, map}
-use Rattle.meaning.specs.Lines.{upper}
+use Rattle.spec_language.specs.Common.{upper}
 use Rattle.collection.proofs.naming.push_upper.Given as goal
 
 abbrev pub invariant-loop-byte : goal.invariant-loop-byte

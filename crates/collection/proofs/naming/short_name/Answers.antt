@@ -1,7 +1,7 @@
 use Rattle.std.proofs.Common.{map, option_map, subst}
-use Rattle.meaning.specs.Lines.{upper}
-use Rattle.commands.specs.Files.{IsFileName}
-use Rattle.collection.specs.Naming.{IsShortText}
+use Rattle.spec_language.specs.Common.{upper}
+use Rattle.commands.specs.Common.{IsFileName}
+use Rattle.collection.specs.Common.{IsShortText}
 use Rattle.collection.proofs.NamingLaws.{none_then, one_text}
 use Rattle.collection.proofs.naming.short_name.Goals as goal
 

@@ -1,5 +1,5 @@
 use Rattle.std.proofs.Common.{◌≡◌, ◌++◌, take, flat_map, string_bytes}
-use Rattle.collection.specs.Naming.{escaped}
+use Rattle.collection.specs.Common.{escaped}
 use Rattle.collection.proofs.paths.push_part.Given as goal
 
 abbrev pub invariant-loop-character : goal.invariant-loop-character

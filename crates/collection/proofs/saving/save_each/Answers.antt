@@ -1,8 +1,9 @@
 use Rattle.std.proofs.Common.{arith, refl, sym, subst, ◌+◌, ◌∙◌}
 use Rattle.std.proofs.lemmas.Result.{err_from_is_err_and}
-use Rattle.collection.specs.Saving.{IsFileDone}
+use Rattle.collection.specs.Common.{IsFileDone}
 use Rattle.collection.proofs.EachLaws.{Done, done_none, done_more, done_cut, done_all}
-use Rattle.collection.proofs.SavingLaws.{all_fit, fits_at, size_stays}
+use Rattle.collection.proofs.SavingLaws.{all_fit, size_stays}
+use Rattle.salvage.proofs.CountLaws.{fits_at}
 use Rattle.collection.proofs.saving.save_each.Goals as goal
 
 pub loop-file-init : goal.loop-file-init

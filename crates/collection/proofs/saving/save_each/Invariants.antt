@@ -1,5 +1,5 @@
 use Rattle.std.proofs.Common.{◌≡◌}
-use Rattle.collection.specs.Saving.{IsFileDone}
+use Rattle.collection.specs.Common.{IsFileDone}
 use Rattle.collection.proofs.EachLaws.{Done}
 use Rattle.collection.proofs.saving.save_each.Given as goal
 

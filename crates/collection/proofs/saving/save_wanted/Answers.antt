@@ -1,6 +1,6 @@
 use Rattle.std.proofs.Common.{Err, inl, inr, refl, subst, ◌∙◌}
 use Rattle.std.specs.Prelude.{codes, false}
-use Rattle.collection.specs.Lines.{IsRefusedLine}
+use Rattle.collection.specs.Common.{IsRefusedLine}
 use Rattle.collection.proofs.saving.save_wanted.Goals as goal
 
 pub returns-in-Err : goal.returns-in-Err

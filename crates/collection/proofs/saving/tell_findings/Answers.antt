@@ -1,6 +1,6 @@
 use Rattle.std.proofs.Common.{arith, sym, subst, ◌+◌}
 use Rattle.std.proofs.lemmas.Result.{err_from_is_err_and}
-use Rattle.collection.specs.Saving.{IsFindingDone}
+use Rattle.collection.specs.Common.{IsFindingDone}
 use Rattle.collection.proofs.EachLaws.{Done, done_none, done_more, done_cut, done_all}
 use Rattle.collection.proofs.saving.tell_findings.Goals as goal
 

@@ -1,4 +1,4 @@
-use Rattle.collection.specs.Saving.{IsFindingDone}
+use Rattle.collection.specs.Common.{IsFindingDone}
 use Rattle.collection.proofs.EachLaws.{Done}
 use Rattle.collection.proofs.saving.tell_findings.Given as goal
 

@@ -1,5 +1,5 @@
 use Rattle.std.proofs.Common.{take}
-use Rattle.commands.specs.Asking.{HasDone}
+use Rattle.commands.specs.Common.{HasDone}
 use Rattle.commands.proofs.asking.ask_all.Given as goal
 
 abbrev pub invariant-loop-event : goal.invariant-loop-event

@@ -1,6 +1,6 @@
 use Rattle.std.proofs.Common.{refl}
-use Rattle.meaning.specs.Plans.{ends, ok}
-use Rattle.meaning.specs.declared.command.Command.TheVariants.{Delete as DeleteLine}
+use Rattle.spec_language.specs.Common.{ends, ok}
+use Rattle.spec_language.specs.declared.command.Command.TheVariants.{Delete as DeleteLine}
 use Rattle.commands.proofs.AnswerLaws.{spoke_concluded}
 use Rattle.commands.proofs.changing.delete.Goals as goal
 

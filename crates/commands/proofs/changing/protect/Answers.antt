@@ -1,6 +1,6 @@
 use Rattle.std.proofs.Common.{◌++◌, refl, ap}
-use Rattle.meaning.specs.Plans.{ends, ok, finds}
-use Rattle.meaning.specs.declared.command.Command.TheVariants.{Protect as ProtectLine}
+use Rattle.spec_language.specs.Common.{ends, ok, finds}
+use Rattle.spec_language.specs.declared.command.Command.TheVariants.{Protect as ProtectLine}
 use Rattle.commands.proofs.CopyingLaws.{led_each}
 use Rattle.commands.proofs.AnswerLaws.{spoke_concluded}
 use Rattle.commands.proofs.changing.protect.Goals as goal

@@ -1,5 +1,5 @@
 use Rattle.std.proofs.Common.{◌++◌, ap}
-use Rattle.meaning.specs.Plans.{finds}
+use Rattle.spec_language.specs.Common.{finds}
 use Rattle.commands.proofs.CopyingLaws.{led_each}
 use Rattle.commands.proofs.changing.remove.Goals as goal
 

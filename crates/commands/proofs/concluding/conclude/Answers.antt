@@ -1,5 +1,4 @@
-use Rattle.meaning.specs.Plans.{ok}
-use Rattle.meaning.specs.Texts.{refuses}
+use Rattle.spec_language.specs.Common.{ok, refuses}
 use Rattle.commands.proofs.AnswerLaws.{concludes_ok, concludes_refusal}
 use Rattle.commands.proofs.concluding.conclude.Goals as goal
 

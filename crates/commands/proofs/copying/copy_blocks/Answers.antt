@@ -1,6 +1,6 @@
 use Rattle.std.proofs.Common.{◌*◌, ◌%◌}
 use Rattle.std.proofs.lemmas.Result.{err_from_is_err_and}
-use Rattle.meaning.specs.Plans.{copies_blocks, copies_runs, lists, blocks_at_once}
+use Rattle.spec_language.specs.Common.{copies_blocks, copies_runs, lists, blocks_at_once}
 use Rattle.commands.proofs.LedLaws.{led_on}
 use Rattle.commands.proofs.CopyingLaws.{led_each, runs_behind, singles_behind}
 use Rattle.commands.proofs.copying.copy_blocks.Goals as goal

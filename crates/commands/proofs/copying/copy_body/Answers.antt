@@ -1,6 +1,6 @@
 use Rattle.std.proofs.Common.{◌-◌, ◌∙◌, sym}
 use Rattle.std.proofs.lemmas.Result.{err_from_is_err_and}
-use Rattle.meaning.specs.Plans.{copies_last, copies_blocks}
+use Rattle.spec_language.specs.Common.{copies_last, copies_blocks}
 use Rattle.commands.proofs.LedLaws.{led_on}
 use Rattle.commands.proofs.CopyingLaws.{body_none, body_led, not_none}
 use Rattle.commands.proofs.copying.copy_body.Goals as goal

@@ -1,7 +1,7 @@
 use Rattle.std.proofs.Common.{◌∷◌, []}
 use Rattle.std.proofs.lemmas.Result.{err_from_is_err_and}
-use Rattle.meaning.specs.Plans.{until_end, calls}
-use Rattle.meaning.specs.declared.call.Call.TheVariants.{Close}
+use Rattle.spec_language.specs.Common.{until_end, calls}
+use Rattle.spec_machine.specs.declared.call.Call.TheVariants.{Close}
 use Rattle.commands.proofs.LedLaws.{led_on}
 use Rattle.commands.proofs.CopyingLaws.{led_each, copied_all, closed_then, copied_then}
 use Rattle.commands.proofs.copying.copy_file.Goals as goal

@@ -1,6 +1,6 @@
 use Rattle.std.proofs.Common.{◌∷◌, [], ◌++◌}
 use Rattle.std.proofs.lemmas.Result.{err_from_is_err_and}
-use Rattle.meaning.specs.Plans.{each, sizes, lists, goes_to, takes, asks_out}
+use Rattle.spec_language.specs.Common.{each, sizes, lists, goes_to, takes, asks_out}
 use Rattle.commands.proofs.LedLaws.{led_on}
 use Rattle.commands.proofs.CopyingLaws.{led_each, led_first}
 use Rattle.commands.proofs.copying.copy_last.Goals as goal

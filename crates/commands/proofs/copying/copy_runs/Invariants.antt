@@ -1,6 +1,6 @@
 use Rattle.std.proofs.Common.{◌-◌}
-use Rattle.meaning.specs.Plans.{Plan, copies_runs}
-use Rattle.commands.specs.Asking.{Led}
+use Rattle.spec_language.specs.Common.{Plan, copies_runs}
+use Rattle.commands.specs.Common.{Led}
 use Rattle.commands.proofs.copying.copy_runs.Given as goal
 
 abbrev pub invariant-loop : goal.invariant-loop

@@ -1,6 +1,6 @@
 use Rattle.std.proofs.Common.{◌++◌, ◌+◌}
 use Rattle.std.proofs.lemmas.Result.{err_from_is_err_and}
-use Rattle.meaning.specs.Plans.{each, examines, finds, writes, lists, file_words}
+use Rattle.spec_language.specs.Common.{each, examines, finds, writes, lists, file_words}
 use Rattle.commands.proofs.LedLaws.{led_on}
 use Rattle.commands.proofs.CopyingLaws.{led_first, second_led, third_led}
 use Rattle.commands.proofs.copying.open_both.Goals as goal

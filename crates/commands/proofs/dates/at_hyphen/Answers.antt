@@ -1,5 +1,5 @@
 use Rattle.std.proofs.Common.{List, ℕ}
-use Rattle.commands.specs.DayTexts.{IsAtHyphen}
+use Rattle.commands.specs.Common.{IsAtHyphen}
 use Rattle.commands.proofs.DayLaws.{no_hyphen}
 use Rattle.commands.proofs.MadeLaws.{are_parted}
 use Rattle.commands.proofs.NumberLaws.{if_none}

@@ -1,5 +1,5 @@
 use Rattle.std.proofs.Common.{ℕ}
-use Rattle.commands.specs.DayTexts.{IsDayText}
+use Rattle.commands.specs.Common.{IsDayText}
 use Rattle.commands.proofs.DayLaws.{no_day, no_date, if_refused}
 use Rattle.commands.proofs.NumberLaws.{if_none}
 use Rattle.commands.proofs.dates.date_named.Goals as goal

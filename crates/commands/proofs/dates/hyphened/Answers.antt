@@ -1,5 +1,5 @@
 use Rattle.std.proofs.Common.{List, ℕ}
-use Rattle.commands.specs.DayTexts.{IsHyphened}
+use Rattle.commands.specs.Common.{IsHyphened}
 use Rattle.commands.proofs.DayLaws.{one_hyphen}
 use Rattle.commands.proofs.NumberLaws.{if_none}
 use Rattle.commands.proofs.dates.hyphened.Goals as goal

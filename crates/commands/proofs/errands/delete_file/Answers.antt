@@ -1,5 +1,5 @@
-use Rattle.meaning.specs.Plans.{deletes, each, ends, fails, ok}
-use Rattle.commands.specs.Asking.{followed}
+use Rattle.spec_language.specs.Common.{deletes, each, ends, fails, ok}
+use Rattle.commands.specs.Common.{followed}
 use Rattle.commands.proofs.ErrandLaws.{concluded_behind}
 use Rattle.commands.proofs.LedLaws.{led_on}
 use Rattle.commands.proofs.errands.delete_file.Goals as goal

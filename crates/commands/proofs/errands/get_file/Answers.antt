@@ -1,4 +1,4 @@
-use Rattle.meaning.specs.Plans.{fails, reads_file}
+use Rattle.spec_language.specs.Common.{fails, reads_file}
 use Rattle.commands.proofs.ErrandLaws.{concluded_behind}
 use Rattle.commands.proofs.errands.get_file.Goals as goal
 

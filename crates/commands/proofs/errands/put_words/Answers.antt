@@ -1,7 +1,6 @@
 use Rattle.std.proofs.Common.{subst, sym}
-use Rattle.meaning.specs.Errands.{own_file}
-use Rattle.meaning.specs.Plans.{Plan}
-use Rattle.commands.specs.Asking.{Concludes}
+use Rattle.spec_language.specs.Common.{own_file, Plan}
+use Rattle.commands.specs.Common.{Concludes}
 use Rattle.commands.proofs.AbsentLaws.{keeps_none}
 use Rattle.commands.proofs.ErrandLaws.{refused_words}
 use Rattle.commands.proofs.errands.put_words.Goals as goal

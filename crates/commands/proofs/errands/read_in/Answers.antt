@@ -1,10 +1,9 @@
 use Rattle.std.proofs.Common.{◌≤◌, ℕ, List, length, Ok, subst, arith}
 use Rattle.std.proofs.lemmas.Result.{err_from_is_err_and}
-use Rattle.meaning.specs.Errands.{own_file}
-use Rattle.commands.specs.Errands.{keeps_as}
-use Rattle.commands.specs.Reasons.{HasWords, IsTooLong, most_bytes, words_said}
-use Rattle.commands.proofs.ErrandLaws.{carried, errand_done, errand_cut, delivered, undelivered, unread_by}
-use Rattle.commands.proofs.ErrandLaws.{excessive, memory_unread, tells_excess, tells_fitting, words_are}
+use Rattle.spec_language.specs.Common.{own_file}
+use Rattle.commands.specs.Common.{keeps_as, HasWords, IsTooLong, most_bytes, words_said}
+use Rattle.commands.proofs.ErrandLaws.{carried, errand_done, errand_cut, delivered, undelivered, unread_by, excessive}
+use Rattle.commands.proofs.ErrandLaws.{memory_unread, tells_excess, tells_fitting, words_are}
 use Rattle.commands.proofs.InputLaws.{not_longer}
 use Rattle.commands.proofs.errands.read_in.Goals as goal
 

@@ -1,5 +1,5 @@
 use Rattle.std.proofs.lemmas.Result.{err_from_is_err_and}
-use Rattle.commands.specs.Errands.{deletes_file}
+use Rattle.commands.specs.Common.{deletes_file}
 use Rattle.commands.proofs.ErrandLaws.{carried, errand_done, errand_cut}
 use Rattle.commands.proofs.errands.write_deleted.Goals as goal
 

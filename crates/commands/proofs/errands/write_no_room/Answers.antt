@@ -1,7 +1,7 @@
 use Rattle.std.proofs.Common.{refl}
 use Rattle.std.proofs.lemmas.Result.{err_from_is_err_and}
 use Rattle.std.specs.Prelude.{codes}
-use Rattle.commands.specs.Errands.{no_room}
+use Rattle.commands.specs.Common.{no_room}
 use Rattle.commands.proofs.ErrandLaws.{carried, errand_done, errand_cut, refused_words}
 use Rattle.commands.proofs.errands.write_no_room.Goals as goal
 

@@ -1,5 +1,5 @@
 use Rattle.std.proofs.lemmas.Result.{err_from_is_err_and}
-use Rattle.meaning.specs.Errands.{gets}
+use Rattle.spec_language.specs.Common.{gets}
 use Rattle.commands.proofs.ErrandLaws.{carried, errand_done, errand_cut}
 use Rattle.commands.proofs.errands.write_out.Goals as goal
 

@@ -1,6 +1,5 @@
 use Rattle.std.proofs.lemmas.Result.{err_from_is_err_and}
-use Rattle.meaning.specs.Plans.{Say}
-use Rattle.meaning.specs.Texts.{refuses}
+use Rattle.spec_language.specs.Common.{Say, refuses}
 use Rattle.commands.proofs.ErrandLaws.{carried, errand_done, errand_cut, refused_reply}
 use Rattle.commands.proofs.errands.write_refusal.Goals as goal
 

@@ -1,5 +1,5 @@
 use Rattle.std.proofs.Common.{◌≡◌, ◌∙◌, ℕ, false, true, length, min, ap, sym, arith}
-use Rattle.words36.specs.Ascii.{packed}
+use Rattle.words36.specs.Common.{packed}
 use Rattle.changeset.proofs.Reading.{different, not_different}
 use Rattle.commands.proofs.WordBytes.{left_after, not_left}
 use Rattle.commands.proofs.exporting.are_packed.Goals as goal

@@ -1,5 +1,5 @@
 use Rattle.std.proofs.Common.{◌≡◌, ◌++◌, length}
-use Rattle.meaning.specs.Texts.{typed}
+use Rattle.spec_language.specs.Common.{typed}
 use Rattle.commands.proofs.exporting.characters_of.Given as goal
 
 abbrev pub invariant-loop-rest : goal.invariant-loop-rest

@@ -1,4 +1,4 @@
-use Rattle.meaning.specs.Texts.{refuses}
+use Rattle.spec_language.specs.Common.{refuses}
 use Rattle.commands.proofs.ExportLaws.{entries_are, no_entries}
 use Rattle.commands.proofs.exporting.entries_of.Goals as goal
 

@@ -1,5 +1,5 @@
 use Rattle.std.proofs.Common.{◌≡◌, ◌∙◌, false, true, ap, sym}
-use Rattle.words36.specs.Ascii.{packed}
+use Rattle.words36.specs.Common.{packed}
 use Rattle.commands.proofs.WordBytes.{characters_exact, characters_none}
 use Rattle.commands.proofs.exporting.exact_characters.Goals as goal
 

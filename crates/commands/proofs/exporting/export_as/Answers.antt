@@ -1,5 +1,5 @@
 use Rattle.std.proofs.Common.{ℕ, List, IfSome, IfNone, refl, subst}
-use Rattle.words36.specs.Octets.{AreOctets}
+use Rattle.words36.specs.Common.{AreOctets}
 use Rattle.words36.proofs.OctetLaws.{none-found, octets-found}
 use Rattle.commands.proofs.exporting.export_as.Goals as goal
 

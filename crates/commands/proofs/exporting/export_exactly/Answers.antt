@@ -1,4 +1,4 @@
-use Rattle.commands.specs.Exporting.{encodings_for}
+use Rattle.commands.specs.Common.{encodings_for}
 use Rattle.commands.proofs.ExportLaws.{last_exact}
 use Rattle.commands.proofs.WordBytes.{none_of, words_exact}
 use Rattle.commands.proofs.exporting.export_exactly.Goals as goal

@@ -1,7 +1,6 @@
-use Rattle.meaning.specs.Plans.{reads_file}
-use Rattle.meaning.specs.Texts.{refuses}
-use Rattle.meaning.specs.declared.encoding.Encoding.TheVariants.{Words}
-use Rattle.commands.specs.Exporting.{takes_out}
+use Rattle.spec_language.specs.Common.{reads_file, refuses}
+use Rattle.spec_language.specs.declared.encoding.Encoding.TheVariants.{Words}
+use Rattle.commands.specs.Common.{takes_out}
 use Rattle.commands.proofs.ExportLaws.{not_begun, read_behind}
 use Rattle.commands.proofs.SurveyLaws.{entered_as}
 use Rattle.commands.proofs.exporting.read_any.Goals as goal

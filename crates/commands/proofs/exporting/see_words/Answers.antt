@@ -1,7 +1,7 @@
 use Rattle.std.proofs.Common.{All, ℕ, arith, subst}
 use Rattle.std.proofs.lemmas.List.{take_all}
 use Rattle.std.proofs.lemmas.List.Elements.{All-more}
-use Rattle.words36.specs.Words.{IsWord}
+use Rattle.words36.specs.Common.{IsWord}
 use Rattle.commands.proofs.exporting.see_words.Goals as goal
 
 pub loop-word-preserved : goal.loop-word-preserved

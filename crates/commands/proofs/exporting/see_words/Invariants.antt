@@ -1,5 +1,5 @@
 use Rattle.std.proofs.Common.{All, take}
-use Rattle.words36.specs.Words.{IsWord}
+use Rattle.words36.specs.Common.{IsWord}
 use Rattle.commands.proofs.exporting.see_words.Given as goal
 
 abbrev pub invariant-loop-word : goal.invariant-loop-word

@@ -1,4 +1,4 @@
-use Rattle.commands.specs.Characters.{is_other_than}
+use Rattle.commands.specs.Common.{is_other_than}
 use Rattle.commands.proofs.FieldLaws.{are_more, is_other}
 use Rattle.commands.proofs.fields.at_comma.Goals as goal
 

@@ -1,6 +1,6 @@
 use Rattle.std.proofs.Common.{take}
-use Rattle.meaning.specs.Spellings.{Are}
-use Rattle.commands.specs.Characters.{is_other_than}
+use Rattle.spec_language.specs.Common.{Are}
+use Rattle.commands.specs.Common.{is_other_than}
 use Rattle.commands.proofs.fields.at_comma.Given as goal
 
 abbrev pub invariant-loop-i : goal.invariant-loop-i

@@ -1,8 +1,8 @@
 use Rattle.std.proofs.Common.{arith}
 use Rattle.commands.proofs.FieldLaws.{is_split, is_first, begins}
-use Rattle.commands.proofs.fields.first_field.Goals as goal
 use Rattle.commands.proofs.fields.first_field.Goals.{else-is_empty-2-via-then-is_empty-2+else-not-is_empty}
 use Rattle.commands.proofs.fields.first_field.Goals.{else-is_empty-2-via-else-is_empty-2}
+use Rattle.commands.proofs.fields.first_field.Goals as goal
 
 pub returns-then-is_empty-clause-none : goal.returns-then-is_empty-clause-none
 returns-then-is_empty-clause-none c = λ one more a.

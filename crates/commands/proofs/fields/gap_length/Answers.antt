@@ -1,4 +1,4 @@
-use Rattle.meaning.specs.Spellings.{is_space}
+use Rattle.spec_language.specs.Common.{is_space}
 use Rattle.commands.proofs.FieldLaws.{are_more, is_same}
 use Rattle.commands.proofs.fields.gap_length.Goals as goal
 

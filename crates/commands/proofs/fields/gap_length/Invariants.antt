@@ -1,5 +1,5 @@
 use Rattle.std.proofs.Common.{take}
-use Rattle.meaning.specs.Spellings.{Are, is_space}
+use Rattle.spec_language.specs.Common.{Are, is_space}
 use Rattle.commands.proofs.fields.gap_length.Given as goal
 
 abbrev pub invariant-loop-i : goal.invariant-loop-i

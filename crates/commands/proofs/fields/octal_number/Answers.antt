@@ -1,8 +1,8 @@
 use Rattle.std.proofs.Common.{◌<◌, ◌^◌, ◌+◌, ◌*◌, ℕ, arith, subst, take, sym}
 use Rattle.commands.proofs.NumberLaws.{Reads, no_digit, reads_more, reads_small}
-use Rattle.commands.proofs.fields.octal_number.Goals as goal
 use Rattle.commands.proofs.fields.octal_number.Goals.{then-digit-lt48-via-then-digit-lt48}
 use Rattle.commands.proofs.fields.octal_number.Goals.{then-digit-lt48-via-else-digit-lt48+then-digit-gt55}
+use Rattle.commands.proofs.fields.octal_number.Goals as goal
 
 pub returns-then-digit-lt48-clause-none : goal.returns-then-digit-lt48-clause-none
 returns-then-digit-lt48-clause-none c = λ n s.

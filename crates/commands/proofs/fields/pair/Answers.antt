@@ -1,5 +1,5 @@
 use Rattle.std.proofs.Common.{ℕ}
-use Rattle.meaning.specs.Spellings.{IsPair}
+use Rattle.spec_language.specs.Common.{IsPair}
 use Rattle.commands.proofs.NumberLaws.{if_none, no_comma, pair_parts, pair_some, pair_none}
 use Rattle.commands.proofs.fields.pair.Goals as goal
 

@@ -1,5 +1,5 @@
 use Rattle.std.proofs.Common.{ℕ}
-use Rattle.meaning.specs.Commands.{IsLimit}
+use Rattle.spec_language.specs.Common.{IsLimit}
 use Rattle.commands.proofs.NumberLaws.{if_none}
 use Rattle.commands.proofs.MadeLaws.{are_parted}
 use Rattle.commands.proofs.LimitLaws.{limit_is, limit_parts, limit_number, no_limit}

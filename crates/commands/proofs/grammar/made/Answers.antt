@@ -1,6 +1,6 @@
 use Rattle.commands.proofs.NumberLaws.{if_none}
 use Rattle.std.proofs.Common.{ℕ}
-use Rattle.meaning.specs.Commands.{IsNewDirectory}
+use Rattle.spec_language.specs.Common.{IsNewDirectory}
 use Rattle.commands.proofs.MadeLaws.{are_parted, made_is, made_parts}
 use Rattle.commands.proofs.grammar.made.Goals as goal
 

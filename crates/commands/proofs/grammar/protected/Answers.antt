@@ -1,6 +1,6 @@
 use Rattle.std.proofs.Common.{ℕ}
-use Rattle.meaning.specs.Commands.{IsProtected}
-use Rattle.meaning.specs.declared.command.Spec.{Spec}
+use Rattle.spec_language.specs.Common.{IsProtected}
+use Rattle.spec_language.specs.declared.command.Spec.{Spec}
 use Rattle.commands.proofs.MadeLaws.{are_parted, protected_parts, protected_is}
 use Rattle.commands.proofs.NumberLaws.{if_none}
 use Rattle.commands.proofs.grammar.protected.Goals as goal

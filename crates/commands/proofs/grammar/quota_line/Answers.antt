@@ -1,6 +1,6 @@
 use Rattle.std.proofs.Common.{ℕ}
-use Rattle.meaning.specs.Commands.{IsCommand}
-use Rattle.meaning.specs.declared.command.Command.TheVariants.{Quota}
+use Rattle.spec_language.specs.Common.{IsCommand}
+use Rattle.spec_language.specs.declared.command.Command.TheVariants.{Quota}
 use Rattle.commands.proofs.NumberLaws.{if_none}
 use Rattle.commands.proofs.LimitLaws.{is_visible_quota, quota_some, quota_none, no_quota}
 use Rattle.commands.proofs.grammar.quota_line.Goals as goal

@@ -1,5 +1,5 @@
 use Rattle.std.proofs.Common.{ℕ, List, arith, ◌∷◌, []}
-use Rattle.meaning.specs.Spellings.{AreFields}
+use Rattle.spec_language.specs.Common.{AreFields}
 use Rattle.commands.proofs.FieldLaws.{no_second, more_than_two, two_fields_are}
 use Rattle.commands.proofs.NumberLaws.{if_none}
 use Rattle.commands.proofs.grammar.two_fields.Goals as goal

@@ -1,8 +1,7 @@
 use Rattle.std.proofs.Common.{◌≡◌, ◌++◌, ℕ, List, IfOk, subst}
 use Rattle.std.proofs.lemmas.Result.{err_from_is_err_and}
-use Rattle.meaning.specs.Errands.{own_file}
-use Rattle.commands.specs.Errands.{keeps_as}
-use Rattle.commands.specs.Reasons.{words_said}
+use Rattle.spec_language.specs.Common.{own_file}
+use Rattle.commands.specs.Common.{keeps_as, words_said}
 use Rattle.commands.specs.declared.existing.Existing.TheVariants.{Refuse}
 use Rattle.commands.proofs.ImportLaws.{label_lost, labelled}
 use Rattle.commands.proofs.importing.import_words.Goals as goal

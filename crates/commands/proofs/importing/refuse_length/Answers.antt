@@ -1,7 +1,7 @@
 use Rattle.std.proofs.Common.{◌≡◌, ◌++◌, ℕ, List, IfOk, refl, subst}
 use Rattle.std.proofs.lemmas.Result.{err_from_is_err_and}
 use Rattle.std.specs.Prelude.{codes}
-use Rattle.commands.specs.Errands.{no_room}
+use Rattle.commands.specs.Common.{no_room}
 use Rattle.commands.proofs.ErrandLaws.{refused_words}
 use Rattle.commands.proofs.ImportLaws.{label_lost, labelled}
 use Rattle.commands.proofs.importing.refuse_length.Goals as goal

@@ -1,9 +1,7 @@
 use Rattle.std.proofs.Common.{◌≤◌, length, Ok, arith}
 use Rattle.std.proofs.lemmas.Result.{err_from_is_err_and}
-use Rattle.meaning.specs.Errands.{own_file}
-use Rattle.commands.specs.Errands.{keeps_as}
-use Rattle.commands.specs.Importing.{labels}
-use Rattle.commands.specs.Reasons.{IsTooLong, most_bytes, words_said}
+use Rattle.spec_language.specs.Common.{own_file}
+use Rattle.commands.specs.Common.{keeps_as, labels, IsTooLong, most_bytes, words_said}
 use Rattle.commands.specs.declared.existing.Existing.TheVariants.{Refuse}
 use Rattle.commands.proofs.ErrandLaws.{carried, errand_done, errand_cut, tells_excess, tells_fitting, words_are}
 use Rattle.commands.proofs.ImportLaws.{imported, no_words, not_imported}

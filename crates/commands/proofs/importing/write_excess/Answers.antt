@@ -1,6 +1,5 @@
 use Rattle.std.proofs.lemmas.Result.{err_from_is_err_and}
-use Rattle.commands.specs.Errands.{no_room}
-use Rattle.commands.specs.Importing.{labels}
+use Rattle.commands.specs.Common.{no_room, labels}
 use Rattle.commands.proofs.ErrandLaws.{carried, errand_done, errand_cut}
 use Rattle.commands.proofs.importing.write_excess.Goals as goal
 

@@ -1,5 +1,5 @@
 use Rattle.std.proofs.Common.{sym}
-use Rattle.meaning.specs.Errands.{is_character}
+use Rattle.spec_language.specs.Common.{is_character}
 use Rattle.commands.proofs.FieldLaws.{are_more}
 use Rattle.commands.proofs.WordLaws.{no_character}
 use Rattle.commands.proofs.input_words.first_misfit.Goals as goal

@@ -1,6 +1,5 @@
 use Rattle.std.proofs.Common.{take}
-use Rattle.meaning.specs.Errands.{is_character}
-use Rattle.meaning.specs.Spellings.{Are}
+use Rattle.spec_language.specs.Common.{is_character, Are}
 use Rattle.commands.proofs.input_words.first_misfit.Given as goal
 
 abbrev pub invariant-loop-i : goal.invariant-loop-i

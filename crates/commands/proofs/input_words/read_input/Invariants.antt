@@ -1,6 +1,6 @@
 use Rattle.std.proofs.Common.{◌≡◌, ◌+◌, ◌-◌, ◌≤◌, length}
 use Rattle.std.specs.Io.KnownBytes.{Consumes}
-use Rattle.commands.specs.Reasons.{most_bytes}
+use Rattle.commands.specs.Common.{most_bytes}
 use Rattle.commands.proofs.input_words.read_input.Given as goal
 
 abbrev pub invariant-loop-encoding : goal.invariant-loop-encoding

@@ -1,5 +1,5 @@
 use Rattle.std.proofs.Common.{◌≡◌, ◌+◌, ◌-◌, ◌*◌, ◌≤◌, ◌^◌, ℕ, length, refl, subst, arith}
-use Rattle.words36.specs.Blocks.{number_at}
+use Rattle.words36.specs.Common.{number_at}
 use Rattle.commands.proofs.WordLaws.{not_eights, no_word, all_words}
 use Rattle.commands.proofs.input_words.words_of_bytes.Goals as goal
 

@@ -1,6 +1,6 @@
 use Rattle.std.proofs.Common.{refl}
-use Rattle.meaning.specs.Plans.{ends, ok}
-use Rattle.meaning.specs.declared.command.Command.TheVariants.{Quota as QuotaLine}
+use Rattle.spec_language.specs.Common.{ends, ok}
+use Rattle.spec_language.specs.declared.command.Command.TheVariants.{Quota as QuotaLine}
 use Rattle.commands.proofs.CopyingLaws.{led_each}
 use Rattle.commands.proofs.AnswerLaws.{spoke_concluded}
 use Rattle.commands.proofs.limiting.limit.Goals as goal

@@ -1,5 +1,5 @@
 use Rattle.std.proofs.lemmas.Result.{err_from_is_err_and}
-use Rattle.meaning.specs.Plans.{asks_make_dir, each}
+use Rattle.spec_language.specs.Common.{asks_make_dir, each}
 use Rattle.commands.proofs.LedLaws.{led_on}
 use Rattle.commands.proofs.CopyingLaws.{led_each}
 use Rattle.commands.proofs.makdir.make_own.Goals as goal

@@ -2,7 +2,7 @@ use Rattle.std.proofs.Common.{◌≡◌, ◌∙◌, ◌<◌, ◌^◌, ℕ, ℤ, 
 use Rattle.std.proofs.lemmas.Int.{to_z-of_z, ints}
 use Rattle.std.proofs.lemmas.Result.{err_from_is_err_and}
 use Rattle.std.specs.Int.Signed.{mag}
-use Rattle.meaning.specs.Errands.{volume_line}
+use Rattle.spec_language.specs.Common.{volume_line}
 use Rattle.commands.proofs.ErrandLaws.{checked_cut}
 use Rattle.commands.proofs.monitored.check.Goals as goal
 

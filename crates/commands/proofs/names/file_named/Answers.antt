@@ -1,9 +1,8 @@
 use Rattle.std.proofs.Common.{◌≡◌, ◌∙◌, ℕ, List, [], ◌∷◌, Some, sym, ap, subst, arith}
 use Rattle.std.specs.Prelude.{IfSome, IfNone}
 use Rattle.std.proofs.lemmas.List.{take_all}
-use Rattle.meaning.specs.Lines.{Bytes, fitting}
-use Rattle.commands.specs.Files.{IsFileName}
-use Rattle.commands.specs.PartialLines.{IsPartialLine, line_list}
+use Rattle.spec_language.specs.Common.{Bytes, fitting}
+use Rattle.commands.specs.Common.{IsFileName, IsPartialLine, line_list}
 use Rattle.commands.proofs.NameLaws.{name_bytes, no_long_name}
 use Rattle.commands.proofs.names.file_named.Goals as goal
 

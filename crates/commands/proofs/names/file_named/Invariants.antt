@@ -1,5 +1,5 @@
 use Rattle.std.proofs.Common.{take}
-use Rattle.commands.specs.PartialLines.{IsPartialLine}
+use Rattle.commands.specs.Common.{IsPartialLine}
 use Rattle.commands.proofs.names.file_named.Given as goal
 
 abbrev pub invariant-loop-byte : goal.invariant-loop-byte

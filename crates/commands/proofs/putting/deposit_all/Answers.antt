@@ -1,6 +1,6 @@
 use Rattle.std.proofs.Common.{arith, refl, sym, subst}
 use Rattle.std.proofs.lemmas.Result.{err_from_is_err_and}
-use Rattle.meaning.specs.Plans.{deposits}
+use Rattle.spec_language.specs.Common.{deposits}
 use Rattle.commands.proofs.LedLaws.{led_done}
 use Rattle.commands.proofs.PuttingLaws.{Deposits, deposits_none, deposits_more, deposits_broken, deposits_all}
 use Rattle.commands.proofs.putting.deposit_all.Goals as goal

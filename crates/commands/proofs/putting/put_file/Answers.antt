@@ -1,7 +1,6 @@
 use Rattle.std.proofs.Common.{subst, sym}
-use Rattle.meaning.specs.Errands.{own_file}
-use Rattle.meaning.specs.Plans.{Plan, ends, ok}
-use Rattle.commands.specs.Asking.{Concludes}
+use Rattle.spec_language.specs.Common.{own_file, Plan, ends, ok}
+use Rattle.commands.specs.Common.{Concludes}
 use Rattle.commands.proofs.AbsentLaws.{keeps_some}
 use Rattle.commands.proofs.ErrandLaws.{concluded_behind}
 use Rattle.commands.proofs.putting.put_file.Goals as goal

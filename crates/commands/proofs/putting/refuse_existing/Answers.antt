@@ -1,5 +1,5 @@
 use Rattle.std.proofs.Common.{◌∙◌, List, ap, drop, get_or, take}
-use Rattle.meaning.specs.declared.call.Event.{Event}
+use Rattle.spec_machine.specs.declared.call.Event.{Event}
 use Rattle.commands.proofs.AbsentLaws.{looked_up}
 use Rattle.commands.proofs.putting.refuse_existing.Goals as goal
 

@@ -1,9 +1,8 @@
 use Rattle.std.proofs.Common.{◌∷◌, []}
 use Rattle.std.proofs.lemmas.Result.{err_from_is_err_and}
-use Rattle.meaning.specs.Errands.{own_file}
-use Rattle.meaning.specs.Plans.{calls}
-use Rattle.meaning.specs.declared.call.Call.TheVariants.{Close}
-use Rattle.commands.specs.Errands.{makes_way}
+use Rattle.spec_language.specs.Common.{own_file, calls}
+use Rattle.spec_machine.specs.declared.call.Call.TheVariants.{Close}
+use Rattle.commands.specs.Common.{makes_way}
 use Rattle.commands.proofs.LedLaws.{led_on}
 use Rattle.commands.proofs.CopyingLaws.{led_each}
 use Rattle.commands.proofs.PuttingLaws.{closed_then, filled_then, created_then}

@@ -1,7 +1,7 @@
 use Rattle.std.proofs.Common.{◌≡◌, ◌+◌, ◌∙◌, length, take, set, refl, arith, length-set}
 use Rattle.std.proofs.lemmas.List.{take_more_set}
 use Rattle.std.proofs.lemmas.Result.{err_from_is_err_and}
-use Rattle.meaning.specs.Plans.{block_address}
+use Rattle.spec_language.specs.Common.{block_address}
 use Rattle.commands.proofs.ReadingLaws.{fetches_at_once, fetches_none, fetches_more, fetches_broken, fetches_all}
 use Rattle.commands.proofs.reading.fetch.Goals as goal
 

@@ -1,5 +1,5 @@
 use Rattle.std.proofs.Common.{◌≡◌, take, length}
-use Rattle.meaning.specs.Plans.{block_address}
+use Rattle.spec_language.specs.Common.{block_address}
 use Rattle.commands.proofs.ReadingLaws.{Fetches}
 use Rattle.commands.proofs.reading.fetch.Given as goal
 

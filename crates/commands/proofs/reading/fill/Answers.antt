@@ -1,5 +1,5 @@
 use Rattle.std.proofs.lemmas.Result.{err_from_is_err_and}
-use Rattle.meaning.specs.Plans.{block_address}
+use Rattle.spec_language.specs.Common.{block_address}
 use Rattle.commands.proofs.ReadingLaws.{fills_none, fills_more, fills_broken, fills_all}
 use Rattle.commands.proofs.reading.fill.Goals as goal
 

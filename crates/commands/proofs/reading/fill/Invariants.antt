@@ -1,4 +1,4 @@
-use Rattle.meaning.specs.Plans.{block_address}
+use Rattle.spec_language.specs.Common.{block_address}
 use Rattle.commands.proofs.ReadingLaws.{Fills}
 use Rattle.commands.proofs.reading.fill.Given as goal
 

@@ -1,6 +1,7 @@
 use Rattle.commands.proofs.ReadingLaws.{end_found, end_missing, end_other}
+use Rattle.commands.proofs.reading.find_end.Goals.{in_default-via-in-Stopped+else-status-ne0}
+use Rattle.commands.proofs.reading.find_end.Goals.{in_default-via-in_default}
 use Rattle.commands.proofs.reading.find_end.Goals as goal
-use Rattle.commands.proofs.reading.find_end.Goals.{in_default-via-in-Stopped+else-status-ne0, in_default-via-in_default}
 
 pub returns-in-Stopped : goal.returns-in-Stopped
 returns-in-Stopped g c =

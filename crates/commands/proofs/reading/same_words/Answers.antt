@@ -1,7 +1,7 @@
 use Rattle.std.proofs.Common.{sym, ◌∙◌, arith}
 use Rattle.commands.proofs.ReadingLaws.{same_more, same_still, same_all}
-use Rattle.commands.proofs.reading.same_words.Goals as goal
 use Rattle.commands.proofs.reading.same_words.Goals.{then-eq, else-eq}
+use Rattle.commands.proofs.reading.same_words.Goals as goal
 
 pub loop-place-preserved : goal.loop-place-preserved
 loop-place-preserved c =

@@ -1,5 +1,5 @@
 use Rattle.std.proofs.Common.{◌≡◌, ◌≤◌, take}
-use Rattle.meaning.specs.Plans as plans
+use Rattle.spec_language.specs.Plans as plans
 use Rattle.commands.proofs.reading.same_words.Given as goal
 
 abbrev pub invariant-loop-place : goal.invariant-loop-place

@@ -1,6 +1,6 @@
 use Rattle.std.proofs.Common.{◌≡◌, ℕ, List, length, Ok, [], ◌∷◌}
 use Rattle.std.proofs.lemmas.Result.{err_from_is_err_and}
-use Rattle.meaning.specs.Plans.{block_address, goes_to, takes}
+use Rattle.spec_language.specs.Common.{block_address, goes_to, takes}
 use Rattle.commands.proofs.ReadingLaws.{over_unfilled, over_unasked, over_all}
 use Rattle.commands.proofs.reading.take_over.Goals as goal
 

@@ -1,12 +1,11 @@
 use Rattle.std.proofs.Common.{◌≡◌, sym, subst}
-use Rattle.meaning.specs.Layouts.{pack_in, pack_of, StandsOn}
-use Rattle.meaning.specs.Published.{without_serials}
-use Rattle.meaning.specs.Runs.{Serving, IsStart}
-use Rattle.meaning.proofs.Layouts.{stands_in_any}
-use Rattle.monitor.specs.Runs.{ServesFiles}
-use Rattle.monitor.specs.Serving.{Serves}
-use Rattle.monitor.proofs.Along.{no_fault, ok_each, ok_pair, err_both, start_in}
+use Rattle.spec_image.specs.Common.{pack_in, pack_of, StandsOn, without_serials}
+use Rattle.spec_machine.specs.Common.{Serving, IsStart}
+use Rattle.spec_image.proofs.Common.{stands_in_any}
+use Rattle.monitor.specs.Common.{ServesFiles, Serves}
+use Rattle.monitor.proofs.Events.Along.{no_fault, ok_each, ok_pair, start_in}
 use Rattle.commands.proofs.StoppedLaws.{found_left}
+use Rattle.volume.proofs.Shared.Handing.{found_named}
 use Rattle.commands.proofs.restart.start_after_acts.Goals as goal
 
 pub returns : goal.returns
@@ -30,6 +29,6 @@ returns g c h begun acts goes size s serves starts stopped =
           (ok_each (IsStart files) (λ m. (g.E.Disk.state m.disk).honest)
           (λ u m. Serves (g.E.Disk.state m.disk) m.map m.failed m.jobs (Serving u)) c.start.result
           (c.start.ensures.started files (stands_in_any pack e.contents files found.2))),
-      err_both _ _ _ c.start.result (λ refused is kept h'. no_fault e (g.E.Disk.state refused.1) layout files found.2
+      found_named _ _ _ c.start.result (λ refused is kept h'. no_fault e (g.E.Disk.state refused.1) layout files found.2
           refused.0 (is h') (kept h')) c.start.ensures.refused c.start.ensures.kept,
     )

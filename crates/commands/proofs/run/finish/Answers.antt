@@ -1,7 +1,7 @@
 use Rattle.std.proofs.Common.{subst, List}
 use Rattle.std.proofs.lemmas.Result.{err_from_is_err_and}
-use Rattle.meaning.specs.Lines.{Line}
-use Rattle.commands.specs.Sessions.{HeardIn}
+use Rattle.spec_language.specs.Common.{Line}
+use Rattle.commands.specs.Common.{HeardIn}
 use Rattle.commands.proofs.SayingLaws.{heard_fits}
 use Rattle.commands.proofs.StepLaws.{break_end, end_well, told_flushed, told_unwritten}
 use Rattle.commands.proofs.run.finish.Goals as goal

@@ -1,7 +1,6 @@
 use Rattle.std.proofs.Common.{◌∙◌, subst, sym, List, []}
-use Rattle.meaning.specs.Lines.{Line}
-use Rattle.commands.specs.PartialLines.{IsPartialLine}
-use Rattle.commands.specs.Sessions.{HeardIn}
+use Rattle.spec_language.specs.Common.{Line}
+use Rattle.commands.specs.Common.{IsPartialLine, HeardIn}
 use Rattle.commands.specs.declared.input.PartialLine.{PartialLine}
 use Rattle.commands.proofs.SayingLaws.{heard_fits}
 use Rattle.commands.proofs.StepLaws.{step_byte, step_feed, break_feed}

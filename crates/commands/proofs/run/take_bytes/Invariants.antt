@@ -1,5 +1,5 @@
 use Rattle.std.proofs.Common.{take}
-use Rattle.commands.specs.Sessions.{StepsOn}
+use Rattle.commands.specs.Common.{StepsOn}
 use Rattle.commands.proofs.run.take_bytes.Given as goal
 
 abbrev pub invariant-loop-byte : goal.invariant-loop-byte

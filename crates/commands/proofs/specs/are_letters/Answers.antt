@@ -1,5 +1,5 @@
 use Rattle.std.proofs.Common.{sym}
-use Rattle.meaning.specs.Spellings.{is_letter}
+use Rattle.spec_language.specs.Common.{is_letter}
 use Rattle.commands.proofs.FieldLaws.{are_more}
 use Rattle.commands.proofs.SpecLaws.{not_letters}
 use Rattle.commands.proofs.specs.are_letters.Goals as goal

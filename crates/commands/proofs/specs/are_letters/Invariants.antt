@@ -1,5 +1,5 @@
 use Rattle.std.proofs.Common.{take}
-use Rattle.meaning.specs.Spellings.{is_letter, Are}
+use Rattle.spec_language.specs.Common.{is_letter, Are}
 use Rattle.commands.proofs.specs.are_letters.Given as goal
 
 abbrev pub invariant-loop-byte : goal.invariant-loop-byte

@@ -1,5 +1,5 @@
 use Rattle.std.proofs.Common.{ℕ}
-use Rattle.commands.specs.Files.{IsFileName}
+use Rattle.commands.specs.Common.{IsFileName}
 use Rattle.commands.proofs.MadeLaws.{are_parted}
 use Rattle.commands.proofs.NumberLaws.{if_none}
 use Rattle.commands.proofs.SpecLaws.{file_is, file_parts}

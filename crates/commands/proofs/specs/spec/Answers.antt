@@ -1,5 +1,5 @@
-use Rattle.meaning.specs.Spellings.{IsSpec}
-use Rattle.meaning.specs.declared.command.Spec.{Spec}
+use Rattle.spec_language.specs.Common.{IsSpec}
+use Rattle.spec_language.specs.declared.command.Spec.{Spec}
 use Rattle.commands.proofs.MadeLaws.{are_parted}
 use Rattle.commands.proofs.NumberLaws.{if_none}
 use Rattle.commands.proofs.SpecLaws.{spec_is, spec_parts}

@@ -1,5 +1,5 @@
-use Rattle.meaning.specs.Commands.{AreSpecs}
-use Rattle.meaning.specs.declared.command.Spec.{Spec}
+use Rattle.spec_language.specs.Common.{AreSpecs}
+use Rattle.spec_language.specs.declared.command.Spec.{Spec}
 use Rattle.commands.proofs.MadeLaws.{are_parted}
 use Rattle.commands.proofs.NumberLaws.{if_none}
 use Rattle.commands.proofs.SpecLaws.{specs_are, specs_parts, no_sides, second_side}

@@ -1,5 +1,4 @@
-use Rattle.meaning.specs.Errands.{shows_all}
-use Rattle.meaning.specs.Texts.{silent}
+use Rattle.spec_language.specs.Common.{shows_all, silent}
 use Rattle.commands.proofs.SurveyLaws.{survey_carried, survey_refused}
 use Rattle.commands.proofs.survey.survey.Goals as goal
 

@@ -1,5 +1,5 @@
 use Rattle.std.proofs.Common.{◌∙◌, ap}
-use Rattle.meaning.specs.Texts.{trimmed}
+use Rattle.spec_language.specs.Common.{trimmed}
 use Rattle.commands.proofs.TableLaws.{place_pushed, from_blank}
 use Rattle.commands.proofs.tables.push_place.Goals as goal
 

@@ -1,6 +1,6 @@
 use Rattle.std.proofs.Common.{◌≡◌, take}
 use Rattle.std.specs.Prelude.{flat_map}
-use Rattle.meaning.specs.Texts.{row_text}
+use Rattle.spec_language.specs.Common.{row_text}
 use Rattle.commands.proofs.tables.table.Given as goal
 
 abbrev pub invariant-loop-entry : goal.invariant-loop-entry

@@ -1,6 +1,6 @@
 use Rattle.std.proofs.Common.{◌≡◌, take}
 use Rattle.std.specs.Prelude.{flat_map}
-use Rattle.meaning.specs.Texts.{entry_text}
+use Rattle.spec_language.specs.Common.{entry_text}
 use Rattle.commands.proofs.text.listing.Given as goal
 
 abbrev pub invariant-loop-entry : goal.invariant-loop-entry

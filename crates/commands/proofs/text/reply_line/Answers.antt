@@ -1,7 +1,7 @@
 use Rattle.std.proofs.Common.{◌++◌, ◌∙◌, ap, sym}
 use Rattle.std.specs.Prelude.{codes}
 use Rattle.std.specs.Fmt.{digits_output, styled_digits_output}
-use Rattle.meaning.specs.Scripts.{octal_in, words_given}
+use Rattle.spec_language.specs.Common.{octal_in, words_given}
 use Rattle.commands.proofs.TextLaws.{octal_output, reply_written}
 use Rattle.commands.proofs.text.reply_line.Goals as goal
 

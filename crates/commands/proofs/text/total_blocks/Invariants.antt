@@ -1,5 +1,5 @@
 use Rattle.std.proofs.Common.{◌≡◌, ◌≤◌, ◌*◌, ◌^◌, take}
-use Rattle.meaning.specs.Texts.{blocks_in}
+use Rattle.spec_language.specs.Common.{blocks_in}
 use Rattle.commands.proofs.text.total_blocks.Given as goal
 
 abbrev pub invariant-loop-entry : goal.invariant-loop-entry

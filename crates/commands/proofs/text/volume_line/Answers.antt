@@ -1,9 +1,9 @@
-use Rattle.std.proofs.Common.{◌≡◌, ◌∙◌, ◌++◌, ℕ, ℤ, List, IfOk, codes, string_bytes, ap, sym, subst, append_assoc, w64}
-use Rattle.std.proofs.Common.{FitsSigned, ◌<◌, ◌^◌, arith}
+use Rattle.std.proofs.Common.{◌≡◌, ◌∙◌, ◌++◌, ℕ, ℤ, List, IfOk, codes, string_bytes, ap, sym, subst, append_assoc}
+use Rattle.std.proofs.Common.{w64, FitsSigned, ◌<◌, ◌^◌, arith}
 use Rattle.std.proofs.lemmas.Int.{to_z-of_z, ints}
 use Rattle.std.specs.Int.Signed.{mag}
 use Rattle.std.specs.Fmt.{decimal, signed_decimal}
-use Rattle.meaning.specs.Texts.{line}
+use Rattle.spec_language.specs.Common.{line}
 use Rattle.commands.proofs.text.volume_line.Goals as goal
 
 fits : (z : ℤ) → mag z < 2 ^ 63 → FitsSigned w64 z

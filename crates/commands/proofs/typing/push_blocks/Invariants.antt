@@ -1,6 +1,6 @@
 use Rattle.std.proofs.Common.{◌≡◌, ◌++◌, take}
 use Rattle.std.specs.Prelude.{flat_map}
-use Rattle.words36.specs.Blocks.{block_bytes}
+use Rattle.words36.specs.Common.{block_bytes}
 use Rattle.commands.proofs.typing.push_blocks.Given as goal
 
 abbrev pub invariant-loop-block : goal.invariant-loop-block

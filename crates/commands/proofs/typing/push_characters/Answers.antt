@@ -2,7 +2,7 @@ use Rattle.std.proofs.Common.{rules, ◌≡◌, false, nat_eq, ◌++◌, ◌∙�
 use Rattle.std.specs.Prelude.{flat_map, OnOk}
 use Rattle.std.specs.List.{list_any}
 use Rattle.std.proofs.lemmas.List.{take_all}
-use Rattle.meaning.specs.Texts.{not_null}
+use Rattle.spec_language.specs.Common.{not_null}
 use Rattle.commands.proofs.WordLaws.{none_null}
 use Rattle.commands.proofs.typing.push_characters.Goals as goal
 

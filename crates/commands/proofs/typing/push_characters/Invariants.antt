@@ -1,6 +1,6 @@
 use Rattle.std.proofs.Common.{◌≡◌, ◌++◌, take}
 use Rattle.std.specs.Prelude.{flat_map}
-use Rattle.meaning.specs.Texts.{not_null}
+use Rattle.spec_language.specs.Common.{not_null}
 use Rattle.commands.proofs.typing.push_characters.Given as goal
 
 abbrev pub invariant-loop-character : goal.invariant-loop-character

@@ -1,5 +1,5 @@
 use Rattle.std.proofs.Common.{ℕ, List, take, ◌++◌}
-use Rattle.words36.specs.OctetReading.{HasRead}
+use Rattle.words36.specs.Common.{HasRead}
 use Rattle.commands.proofs.typing.push_octets.Given as goal
 
 abbrev pub invariant-loop-word : goal.invariant-loop-word

@@ -1,7 +1,7 @@
 use Rattle.std.proofs.Common.{◌≡◌, ◌/◌, ◌++◌, length, take}
 use Rattle.std.specs.Prelude.{flat_map}
 use Rattle.std.specs.Simd.{first_chunks}
-use Rattle.words36.specs.Blocks.{word_bytes, block_bytes}
+use Rattle.words36.specs.Common.{word_bytes, block_bytes}
 use Rattle.commands.proofs.typing.push_words.Given as goal
 
 abbrev pub invariant-loop-word : goal.invariant-loop-word

@@ -1,6 +1,6 @@
 use Rattle.std.proofs.Common.{◌*◌, ◌/◌, ◌%◌}
 use Rattle.std.proofs.lemmas.Result.{err_from_is_err_and}
-use Rattle.meaning.specs.Plans.{blocks_at_once}
+use Rattle.spec_language.specs.Common.{blocks_at_once}
 use Rattle.commands.proofs.TypingLaws.{handed_on, asked_done, asked_failed, no_listed, read_listed, no_blocks}
 use Rattle.commands.proofs.TypingLaws.{read_blocks}
 use Rattle.commands.proofs.typing.type_blocks.Goals as goal

@@ -1,7 +1,7 @@
 use Rattle.std.proofs.Common.{◌≡◌, ◌-◌, ℕ, suc, sym, ◌∙◌, subst, arith}
 use Rattle.std.proofs.lemmas.Result.{err_from_is_err_and}
-use Rattle.meaning.specs.Plans.{types_body}
-use Rattle.commands.specs.Asking.{HasTyped}
+use Rattle.spec_language.specs.Common.{types_body}
+use Rattle.commands.specs.Common.{HasTyped}
 use Rattle.commands.proofs.TypingLaws.{handed_on, read_nothing, no_body, read_body}
 use Rattle.commands.proofs.typing.type_body.Goals as goal
 

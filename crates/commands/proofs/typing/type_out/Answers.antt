@@ -1,6 +1,6 @@
 use Rattle.std.proofs.Common.{refl}
-use Rattle.meaning.specs.Plans.{types}
-use Rattle.meaning.specs.declared.command.Command.TheVariants.{TypeOut as TypeLine}
+use Rattle.spec_language.specs.Common.{types}
+use Rattle.spec_language.specs.declared.command.Command.TheVariants.{TypeOut as TypeLine}
 use Rattle.commands.proofs.AnswerLaws.{spoke_concluded}
 use Rattle.commands.proofs.LedLaws.{led_still}
 use Rattle.commands.proofs.typing.type_out.Goals as goal

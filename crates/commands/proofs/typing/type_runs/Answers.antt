@@ -1,8 +1,8 @@
 use Rattle.std.proofs.Common.{◌≡◌, ◌-◌, ◌+◌, ℕ, suc, zero, arith, subst}
 use Rattle.std.proofs.lemmas.Result.{err_from_is_err_and}
-use Rattle.meaning.specs.Plans.{types_runs}
-use Rattle.commands.proofs.TypingLaws.{Ran, handed_on, one_made, asked_done, asked_failed, read_none, no_run, no_words}
-use Rattle.commands.proofs.TypingLaws.{read_run, read_runs}
+use Rattle.spec_language.specs.Common.{types_runs}
+use Rattle.commands.proofs.TypingLaws.{Ran, handed_on, one_made, asked_done, asked_failed, read_none, no_run}
+use Rattle.commands.proofs.TypingLaws.{no_words, read_run, read_runs}
 use Rattle.commands.proofs.typing.type_runs.Goals as goal
 
 pub loop-init : goal.loop-init

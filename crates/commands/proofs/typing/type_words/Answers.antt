@@ -1,5 +1,5 @@
 use Rattle.std.proofs.lemmas.Result.{err_from_is_err_and}
-use Rattle.meaning.specs.Plans.{block_address}
+use Rattle.spec_language.specs.Common.{block_address}
 use Rattle.commands.proofs.TypingLaws.{handed_on, fetched_at_once, fetched_none, fetched_more, fetched_until}
 use Rattle.commands.proofs.TypingLaws.{fetched_all}
 use Rattle.commands.proofs.typing.type_words.Goals as goal

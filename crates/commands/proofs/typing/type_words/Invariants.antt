@@ -1,5 +1,5 @@
 use Rattle.words36.specs.declared.moment.Moment.{Moment}
-use Rattle.meaning.specs.Plans.{block_address}
+use Rattle.spec_language.specs.Common.{block_address}
 use Rattle.commands.proofs.TypingLaws.{Fetched}
 use Rattle.commands.proofs.typing.type_words.Given as goal
 

@@ -1,5 +1,5 @@
 use Rattle.std.proofs.Common.{subst}
-use Rattle.commands.specs.Sessions.{IsGivenUp}
+use Rattle.commands.specs.Common.{IsGivenUp}
 use Rattle.commands.proofs.WaitingLaws.{adds_unmade}
 use Rattle.commands.proofs.waiting.say.Goals as goal
 

@@ -1,8 +1,7 @@
 use Rattle.std.proofs.Common.{ℕ, suc, ◌-◌, ◌*◌, List, length, take, drop, get_or, map, ◌+◌, ◌≤◌, ap, sym, subst, ◌∙◌}
-use Rattle.meaning.specs.declared.put.Put.{Put}
-use Rattle.meaning.specs.Directories.{directory_block}
-use Rattle.changeset.specs.Puts.{replaced}
-use Rattle.changeset.specs.PutLaws.{length-replaced}
+use Rattle.spec_image.specs.declared.put.Put.{Put}
+use Rattle.spec_image.specs.Common.{directory_block}
+use Rattle.changeset.specs.Common.{replaced, length-replaced}
 use Rattle.directory.proofs.Windows.{sliced}
 use Rattle.directory.proofs.edit.put_block.Goals as goal
 

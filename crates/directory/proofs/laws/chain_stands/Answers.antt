@@ -1,5 +1,4 @@
-use Rattle.directory.specs.Chains.{viewed}
-use Rattle.directory.specs.ChainLaws.{chain_stands, chain_read, on_kept}
+use Rattle.directory.specs.Common.{viewed, chain_stands, chain_read, on_kept}
 use Rattle.directory.proofs.laws.chain_stands.Goals as goal
 
 pub returns-clause-stands : goal.returns-clause-stands

@@ -1,10 +1,10 @@
 use Rattle.std.proofs.Common.{◌≡◌, ◌∙◌, sym, ap, arith, map, length, eq-eqb, Err}
-use Rattle.directory.specs.Loading.{IsBadWords}
+use Rattle.directory.specs.Common.{IsBadWords}
 use Rattle.directory.proofs.BlockReading.{head_of, count_of}
 use Rattle.directory.proofs.EntryReading.{stuck, empty_behind, adds, none_then, some_then, same_number}
-use Rattle.directory.proofs.load.add_block.Goals as goal
 use Rattle.directory.proofs.load.add_block.Goals.{else-count-eq0-via-then-count-eq0+else-not-is_first}
 use Rattle.directory.proofs.load.add_block.Goals.{else-count-eq0-via-else-count-eq0}
+use Rattle.directory.proofs.load.add_block.Goals as goal
 
 pub returns-in_default-clause-bad : goal.returns-in_default-clause-bad
 returns-in_default-clause-bad g c k is =

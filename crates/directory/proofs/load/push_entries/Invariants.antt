@@ -1,5 +1,5 @@
 use Rattle.std.proofs.Common.{◌≡◌, ◌++◌, ℕ, List, length, map, take}
-use Rattle.directory.specs.Loading.{SpellsBlock, AreGood}
+use Rattle.directory.specs.Common.{SpellsBlock, AreGood}
 use Rattle.directory.proofs.load.push_entries.Given as goal
 
 abbrev pub invariant-loop-i : goal.invariant-loop-i

@@ -1,5 +1,5 @@
 use Rattle.std.proofs.Common.{subst, ◌∙◌}
-use Rattle.meaning.specs.Faults.{InSpace}
+use Rattle.spec_image.specs.Common.{InSpace}
 use Rattle.directory.proofs.EntryReading.{good_push}
 use Rattle.directory.proofs.load.push_entry.Goals as goal
 

@@ -1,6 +1,6 @@
 use Rattle.std.proofs.Common.{◌≡◌, map, Some, slice_get, refl, subst, arith}
 use Rattle.std.proofs.lemmas.Option.{slice_get_within}
-use Rattle.directory.specs.Indexes.{IsGap}
+use Rattle.directory.specs.Common.{IsGap}
 use Rattle.directory.proofs.Orders.{times_at}
 use Rattle.directory.proofs.Indexing.{rising_inside, inside_seen, gap_none, key_at, same_place}
 use Rattle.directory.proofs.order.leave.Goals as goal

@@ -1,6 +1,6 @@
 use Rattle.std.proofs.Common.{◌≡◌, ◌++◌, map, take, drop, suc, None, sym, subst}
 use Rattle.std.specs.FinMap.Entries.{find}
-use Rattle.directory.specs.Indexes.{IsInserted}
+use Rattle.directory.specs.Common.{IsInserted}
 use Rattle.directory.proofs.Indexing.{left_rising, left_alone, index_set, seen_inside}
 use Rattle.directory.proofs.order.rename_place.Goals as goal
 

@@ -1,6 +1,6 @@
 use Rattle.std.proofs.Common.{map, slice_get, rules, of_calls}
 use Rattle.std.proofs.lemmas.Fn.{always_returns_same}
-use Rattle.directory.specs.Indexes.{order_to}
+use Rattle.directory.specs.Common.{order_to}
 use Rattle.directory.proofs.Indexing.{search_found, search_gap}
 use Rattle.directory.proofs.order.search.Goals as goal
 

@@ -1,6 +1,6 @@
 use Rattle.std.proofs.Common.{map, length, get_or, sym, subst, ap, ◌-◌, ◌≡◌, ◌∙◌, arith}
 use Rattle.std.proofs.lemmas.List.{length-map, get_or_default}
-use Rattle.directory.specs.Indexes.{IsIndex, IsLeft, IsInserted}
+use Rattle.directory.specs.Common.{IsIndex, IsLeft, IsInserted}
 use Rattle.directory.proofs.Indexing.{left_rising, left_others, left_twice, left_both, index_shorter, index_moved}
 use Rattle.directory.proofs.Indexing.{seen_inside, seen_swapped, last_seen, key_at}
 use Rattle.directory.proofs.order.take_place.Goals as goal

@@ -1,7 +1,6 @@
 use Rattle.std.proofs.Common.{◌≡◌, ℕ, List, All, take}
-use Rattle.words36.specs.Words.{IsWord}
-use Rattle.words36.specs.Blocks.{block_bytes}
-use Rattle.commands.specs.Machines.{GoesBy}
+use Rattle.words36.specs.Common.{IsWord, block_bytes}
+use Rattle.commands.specs.Common.{GoesBy}
 use Rattle.exchange.specs.Turns.{puts}
 use Rattle.exchange.proofs.obeying.put_words.Given as goal
 

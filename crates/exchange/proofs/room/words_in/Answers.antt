@@ -1,6 +1,6 @@
 use Rattle.std.proofs.Common.{◌≡◌, ℕ, ap, arith, OkIff, Result, Ok, Err, Some}
 use Rattle.std.specs.Result.{result_ok}
-use Rattle.meaning.specs.declared.area.Area.{Area}
+use Rattle.spec_machine.specs.declared.area.Area.{Area}
 use Rattle.exchange.proofs.ListLaws.{count_more}
 use Rattle.exchange.proofs.room.words_in.Goals as goal
 

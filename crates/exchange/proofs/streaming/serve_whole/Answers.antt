@@ -3,7 +3,8 @@ use Rattle.std.proofs.lemmas.Result.{err_from_is_err_and}
 use Rattle.wire.specs.Frames.{BeginsWith, Framed, frame_bytes}
 use Rattle.exchange.specs.Exchanges.{BreaksOff, StepsOn}
 use Rattle.exchange.proofs.StreamLaws.{frame_size, front_grows, not_whole, steps_break, steps_none, steps_on}
-use Rattle.exchange.proofs.StreamLaws.{to_the_end, whole_again, within_grows}
+use Rattle.exchange.proofs.StreamLaws.{whole_again, within_grows}
+use Rattle.retrieval.proofs.Spellings.{words_from}
 use Rattle.exchange.proofs.streaming.serve_whole.Goals as goal
 
 pub loop-header-init : goal.loop-header-init
@@ -19,7 +20,7 @@ loop-header-preserved g c =
     let here = c.loop-header in
     let frame : Framed = record { header = c.in-Whole.header; body = c.in-Whole.body.now } in
     let more = c.in-Whole.ensures.1.0 in
-    let is = sym (to_the_end here.place held) ∙ c.in-Whole.ensures.1.1 in
+    let is = sym (words_from here.place held) ∙ c.in-Whole.ensures.1.1 in
     record {
       within = within_grows here.place held more frame here.invariant.within is;
       steps = subst (λ bytes. StepsOn g.S.FileService.machine c.args.service.now c.serve_record.new.service
@@ -39,7 +40,7 @@ returns-in_err-serve_record-clause-err g c =
     let here = c.loop-header in
     let frame : Framed = record { header = c.in-Whole.header; body = c.in-Whole.body.now } in
     let more = c.in-Whole.ensures.1.0 in
-    let is = sym (to_the_end here.place held) ∙ c.in-Whole.ensures.1.1 in
+    let is = sym (words_from here.place held) ∙ c.in-Whole.ensures.1.1 in
     let p = err_from_is_err_and c.from_residual.result c.from_residual.ensures.1 in
     rw (p.1, p.2) (subst (λ bytes. BreaksOff g.S.FileService.machine c.args.service.now c.serve_record.new.service
     (g.W.Write.contents c.args.writer.now) (g.W.Write.contents c.serve_record.new.writer) c.args.answers.now.items
@@ -55,6 +56,6 @@ returns g c = record {
   place = c.loop-header.invariant.within;
   ok = c.loop-header.invariant.steps;
   rest = not_whole _ c.split_record.result (subst (λ bytes. BeginsWith bytes c.split_record.result)
-      (to_the_end c.loop-header.place c.args.held.now) c.split_record.ensures) c.in_default.not-Whole;
+      (words_from c.loop-header.place c.args.held.now) c.split_record.ensures) c.in_default.not-Whole;
   err = tt;
 }

@@ -1,6 +1,6 @@
 use Rattle.std.proofs.Common.{ℕ, ◌<◌, ◌+◌, [], ◌∷◌, List, length, ap, sym, subst, arith, rules}
 use Rattle.std.specs.List.{range_with_len}
-use Rattle.meaning.specs.declared.area.Area.{Area}
+use Rattle.spec_machine.specs.declared.area.Area.{Area}
 use Rattle.exchange.proofs.ListLaws.{range_around, range_more}
 use Rattle.exchange.proofs.TellingLaws.{HasTold, told_none, told_more, read_told, read_until}
 use Rattle.exchange.proofs.telling.tell_area.Goals as goal

@@ -2,8 +2,8 @@ use Rattle.std.proofs.Common.{ℕ, ◌<◌, ◌+◌, List, length, take, sym, su
 use Rattle.std.proofs.lemmas.List.{take_all}
 use Rattle.std.proofs.lemmas.List.FromFn.{length-range_with_len}
 use Rattle.std.specs.List.{range_with_len}
-use Rattle.meaning.specs.declared.area.Area.{Area}
-use Rattle.meaning.specs.declared.call.Reply.TheVariants.{Done}
+use Rattle.spec_machine.specs.declared.area.Area.{Area}
+use Rattle.spec_machine.specs.declared.call.Reply.TheVariants.{Done}
 use Rattle.exchange.specs.Turns.{addresses}
 use Rattle.exchange.specs.Exchanges.{HasRead}
 use Rattle.exchange.proofs.ListLaws.{addresses_more, addresses_around, count_more, count_within}

@@ -1,6 +1,5 @@
-use Rattle.std.proofs.Common.{◌≡◌, List, length, ap, sym, subst, ◌∙◌, arith, OnOk}
-use Rattle.std.proofs.Common.{Result, Ok, Err}
-use Rattle.meaning.specs.declared.area.Area.{Area}
+use Rattle.std.proofs.Common.{◌≡◌, List, length, ap, sym, subst, ◌∙◌, arith, OnOk, Result, Ok, Err}
+use Rattle.spec_machine.specs.declared.area.Area.{Area}
 use Rattle.exchange.specs.Turns.{addresses}
 use Rattle.exchange.specs.Exchanges.{AreTold}
 use Rattle.exchange.proofs.ObeyingLaws.{few_told}

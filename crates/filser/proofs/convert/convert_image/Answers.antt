@@ -1,5 +1,5 @@
 use Rattle.std.proofs.Common.{inl, inr}
-use Rattle.imagefile.specs.Supposition.{unseen_in}
+use Rattle.imagefile.specs.Common.{unseen_in}
 use Rattle.filser.proofs.Imaging.{converted}
 use Rattle.filser.proofs.convert.convert_image.Goals as goal
 

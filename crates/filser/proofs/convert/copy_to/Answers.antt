@@ -1,6 +1,5 @@
 use Rattle.std.proofs.Common.{◌∙◌, refl, subst, inl, inr}
-use Rattle.filser.specs.Lines.{IsLine}
-use Rattle.filser.specs.Refusals.{converted_text}
+use Rattle.filser.specs.Common.{IsLine, converted_text}
 use Rattle.filser.proofs.Imaging.{copy_fault, on_ok}
 use Rattle.filser.proofs.convert.copy_to.Goals as goal
 

@@ -1,6 +1,5 @@
 use Rattle.std.proofs.Common.{inr, refl, sym}
-use Rattle.imagefile.specs.Image.{other_form}
-use Rattle.imagefile.specs.Supposition.{unseen_in}
+use Rattle.imagefile.specs.Common.{other_form, unseen_in}
 use Rattle.filser.proofs.Imaging.{alone_on, on_copy}
 use Rattle.filser.proofs.convert.write_new.Goals as goal
 

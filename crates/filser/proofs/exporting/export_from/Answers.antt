@@ -1,6 +1,6 @@
 use Rattle.std.proofs.Common.{inl, inr, refl, subst}
-use Rattle.collection.specs.Exporting.{IsExportRun}
-use Rattle.filser.specs.ServedDisks.{machine_over}
+use Rattle.collection.specs.Common.{IsExportRun}
+use Rattle.filser.specs.Common.{machine_over}
 use Rattle.filser.proofs.Imaging.{refused_by}
 use Rattle.filser.proofs.exporting.export_from.Goals as goal
 

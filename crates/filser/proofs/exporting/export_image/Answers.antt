@@ -1,5 +1,5 @@
 use Rattle.std.proofs.Common.{inl, refl}
-use Rattle.imagefile.specs.Supposition.{unseen_in}
+use Rattle.imagefile.specs.Common.{unseen_in}
 use Rattle.filser.proofs.CollectionLaws.{run_image}
 use Rattle.filser.proofs.exporting.export_image.Goals as goal
 

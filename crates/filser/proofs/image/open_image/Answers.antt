@@ -1,5 +1,5 @@
 use Rattle.std.proofs.Common.{rules}
-use Rattle.imagefile.specs.Supposition.{unseen_in}
+use Rattle.imagefile.specs.Common.{unseen_in}
 use Rattle.filser.proofs.image.open_image.Goals as goal
 
 pub returns-clause-began : goal.returns-clause-began

@@ -1,6 +1,6 @@
 use Rattle.std.proofs.Common.{inl, inr, map, refl, subst}
-use Rattle.collection.specs.Importing.{IsImportRun}
-use Rattle.filser.specs.ServedDisks.{machine_over}
+use Rattle.collection.specs.Common.{IsImportRun}
+use Rattle.filser.specs.Common.{machine_over}
 use Rattle.filser.proofs.Imaging.{refused_by}
 use Rattle.filser.proofs.importing.import_on.Goals as goal
 

@@ -1,8 +1,7 @@
-use Rattle.std.proofs.Common.{◌++◌, refl}
+use Rattle.std.proofs.Common.{◌++◌, refl, subst}
 use Rattle.std.specs.Fmt.{decimal}
 use Rattle.std.proofs.KnownBytes.{Appends-trans}
 use Rattle.std.proofs.lemmas.Result.{err_from_is_err_and}
-use Rattle.std.proofs.Common.{subst}
 use Rattle.std.specs.Io.KnownBytes.{Appends}
 use Rattle.filser.proofs.Printing.{cut_on, cut_behind, put_on, wrote}
 use Rattle.filser.proofs.message.write_numbered.Goals as goal

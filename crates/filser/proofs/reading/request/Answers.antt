@@ -1,8 +1,8 @@
 use Rattle.std.proofs.Common.{map}
 use Rattle.clap.specs.Words.{app_of, subcommand_rows_of}
 use Rattle.filser.specs.declared.error.RequestError.TheVariants.{BadArgument}
-use Rattle.filser.proofs.Matching.{found_asked, found_nothing, of_bad, of_found, of_none, of_past, of_taken}
-use Rattle.filser.proofs.Matching.{of_usage, same_error}
+use Rattle.filser.proofs.Matching.{found_asked, found_nothing, of_bad, of_found, of_none, of_past, of_taken, of_usage}
+use Rattle.filser.proofs.Matching.{same_error}
 use Rattle.filser.proofs.reading.request.Goals as goal
 
 -- src/reading.rt:34:23

@@ -1,7 +1,7 @@
 use Rattle.std.proofs.Common.{map, subst, sym}
-use Rattle.meaning.specs.Lines.{upper}
+use Rattle.spec_language.specs.Common.{upper}
 use Rattle.clap.specs.Words.{Text}
-use Rattle.commands.specs.Files.{IsFileName}
+use Rattle.commands.specs.Common.{IsFileName}
 use Rattle.filser.proofs.reading.wrong_name.Goals as goal
 
 pub returns-in-None-clause-some : goal.returns-in-None-clause-some

@@ -1,6 +1,6 @@
 use Rattle.std.proofs.Common.{subst, sym}
 use Rattle.clap.specs.Words.{Text}
-use Rattle.commands.specs.Files.{IsOwnerName}
+use Rattle.commands.specs.Common.{IsOwnerName}
 use Rattle.filser.proofs.reading.wrong_owner.Goals as goal
 
 pub returns-in-None-clause-some : goal.returns-in-None-clause-some

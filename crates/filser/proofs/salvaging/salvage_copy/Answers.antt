@@ -1,7 +1,7 @@
 use Rattle.std.proofs.Common.{inl, subst}
-use Rattle.blockdisk.specs.Memory.{memory_state}
-use Rattle.meaning.specs.Layouts.{layout_number}
-use Rattle.collection.specs.Saving.{IsSalvageRun, head_findings}
+use Rattle.blockdisk.specs.Common.{memory_state}
+use Rattle.spec_image.specs.Common.{layout_number}
+use Rattle.collection.specs.Common.{IsSalvageRun, head_findings}
 use Rattle.filser.proofs.salvaging.salvage_copy.Goals as goal
 
 pub returns-in-Ok-clause-ran : goal.returns-in-Ok-clause-ran

@@ -1,8 +1,7 @@
 use Rattle.std.proofs.Common.{Err, inl, inr, subst, sym, ap, ◌∙◌, ◌≤◌, ⊎_elim}
-use Rattle.blockdisk.specs.Memory.{held}
-use Rattle.meaning.specs.Stands.{SettledStands}
-use Rattle.meaning.specs.Regions.{IsVolumeSize}
-use Rattle.salvage.specs.Copies.{failed_by}
+use Rattle.blockdisk.specs.Common.{held}
+use Rattle.spec_image.specs.Common.{SettledStands, IsVolumeSize}
+use Rattle.salvage.specs.Common.{failed_by}
 use Rattle.filser.proofs.SalvageLaws.{uncopied_cause}
 use Rattle.filser.proofs.salvaging.salvage_from.Goals as goal
 

@@ -1,5 +1,5 @@
 use Rattle.std.proofs.Common.{inl, refl}
-use Rattle.imagefile.specs.Supposition.{unseen_in}
+use Rattle.imagefile.specs.Common.{unseen_in}
 use Rattle.filser.proofs.SalvageLaws.{salvage_run}
 use Rattle.filser.proofs.salvaging.salvage_image.Goals as goal
 

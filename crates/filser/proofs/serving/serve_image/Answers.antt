@@ -1,5 +1,5 @@
 use Rattle.std.proofs.Common.{inl, refl}
-use Rattle.imagefile.specs.Supposition.{unseen_in}
+use Rattle.imagefile.specs.Common.{unseen_in}
 use Rattle.filser.proofs.Imaging.{served_image}
 use Rattle.filser.proofs.serving.serve_image.Goals as goal
 

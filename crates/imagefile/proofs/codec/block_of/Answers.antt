@@ -1,5 +1,5 @@
 use Rattle.std.proofs.Common.{◌≡◌, ◌∙◌, sym, ap, Err}
-use Rattle.imagefile.specs.Image.{block_content}
+use Rattle.imagefile.specs.Common.{block_content}
 use Rattle.imagefile.specs.declared.form.Form.TheVariants.{Wide}
 use Rattle.imagefile.proofs.Contents.{content_read, content_refused}
 use Rattle.imagefile.proofs.codec.block_of.Goals as goal

@@ -1,5 +1,5 @@
 use Rattle.std.proofs.Common.{◌∙◌, sym, ap}
-use Rattle.imagefile.specs.Image.{block_content}
+use Rattle.imagefile.specs.Common.{block_content}
 use Rattle.imagefile.proofs.Contents.{content_read}
 use Rattle.imagefile.proofs.codec.put_block.Goals as goal
 

@@ -2,7 +2,7 @@ use Rattle.std.proofs.Common.{◌≡◌, ◌∙◌, ◌+◌, ◌*◌, ◌-◌, �
 use Rattle.std.proofs.lemmas.Bool.{cases_eq}
 use Rattle.std.proofs.lemmas.Grind.{common_steps}
 use borrow.Rule.Slice.PartMut.{put_mid}
-use Rattle.imagefile.specs.Image.{block_content, block_length, spelled_blocks}
+use Rattle.imagefile.specs.Common.{block_content, block_length, spelled_blocks}
 use Rattle.imagefile.proofs.BlockWrites.{part_long, ends_before, block_before, block_here}
 use Rattle.imagefile.proofs.codec.put_blocks.Goals as goal
 

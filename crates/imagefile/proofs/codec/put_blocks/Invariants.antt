@@ -1,5 +1,5 @@
 use Rattle.std.proofs.Common.{◌≡◌, ◌<◌, ℕ, Some, [], get_or}
-use Rattle.imagefile.specs.Image.{spelled_blocks}
+use Rattle.imagefile.specs.Common.{spelled_blocks}
 use Rattle.imagefile.proofs.codec.put_blocks.Given as goal
 
 abbrev pub invariant-loop-place : goal.invariant-loop-place

@@ -1,6 +1,6 @@
 use Rattle.std.proofs.Common.{subst, sym}
-use Rattle.blockdisk.specs.Calls.{IsRead}
-use Rattle.imagefile.specs.Image.{image_state}
+use Rattle.blockdisk.specs.Common.{IsRead}
+use Rattle.imagefile.specs.Common.{image_state}
 use Rattle.imagefile.specs.declared.form.Form.{Form}
 use Rattle.imagefile.proofs.codec.read_block.Goals as goal
 

@@ -1,9 +1,7 @@
 use Rattle.std.proofs.Common.{◌≡◌, ◌+◌, ◌-◌, ◌≤◌, ℕ, Ok, length, subst, ◌∙◌, arith}
 use borrow.Rule.Slice.PartMut.{put_mid}
-use Rattle.blockdisk.specs.Calls.{IsRunRead}
-use Rattle.blockdisk.specs.RunLaws.{IsPartRead, part_run, part_on, part_all, part_damaged, part_failed}
-use Rattle.imagefile.specs.File.{FileState}
-use Rattle.imagefile.specs.Image.{image_state}
+use Rattle.blockdisk.specs.Common.{IsRunRead, IsPartRead, part_run, part_on, part_all, part_damaged, part_failed}
+use Rattle.imagefile.specs.Common.{FileState, image_state}
 use Rattle.imagefile.proofs.FileLaws.{same_on}
 use Rattle.imagefile.proofs.BlockReads.{length-filled, filled_before, filled_in}
 use Rattle.imagefile.proofs.codec.read_groups.Goals as goal

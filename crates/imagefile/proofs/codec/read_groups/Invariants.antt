@@ -1,7 +1,6 @@
 use Rattle.std.proofs.Common.{◌≡◌, ◌≤◌, ◌-◌, ℕ, length}
-use Rattle.blockdisk.specs.RunLaws.{IsPartRead}
-use Rattle.imagefile.specs.File.{SameFile}
-use Rattle.imagefile.specs.Image.{image_state}
+use Rattle.blockdisk.specs.Common.{IsPartRead}
+use Rattle.imagefile.specs.Common.{SameFile, image_state}
 use Rattle.imagefile.proofs.codec.read_groups.Given as goal
 
 abbrev pub invariant-loop-done : goal.invariant-loop-done

@@ -1,8 +1,6 @@
 use Rattle.std.proofs.Common.{◌≤◌, ℕ, Ok, subst, arith}
-use Rattle.blockdisk.specs.Calls.{IsVerify}
-use Rattle.blockdisk.specs.VerifyLaws.{verify_on, verify_damaged, verify_failed, verify_fewer}
-use Rattle.imagefile.specs.File.{FileState}
-use Rattle.imagefile.specs.Image.{image_state}
+use Rattle.blockdisk.specs.Common.{IsVerify, verify_on, verify_damaged, verify_failed, verify_fewer}
+use Rattle.imagefile.specs.Common.{FileState, image_state}
 use Rattle.imagefile.proofs.FileLaws.{same_on}
 use Rattle.imagefile.proofs.codec.verify_blocks.Goals as goal
 

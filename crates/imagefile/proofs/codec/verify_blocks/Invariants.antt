@@ -1,7 +1,6 @@
 use Rattle.std.proofs.Common.{◌≤◌, ◌-◌, ℕ, Ok, None}
-use Rattle.blockdisk.specs.Calls.{IsVerify}
-use Rattle.imagefile.specs.File.{SameFile}
-use Rattle.imagefile.specs.Image.{image_state}
+use Rattle.blockdisk.specs.Common.{IsVerify}
+use Rattle.imagefile.specs.Common.{SameFile, image_state}
 use Rattle.imagefile.proofs.codec.verify_blocks.Given as goal
 
 abbrev pub invariant-loop-next : goal.invariant-loop-next

@@ -1,6 +1,6 @@
 use Rattle.std.proofs.Common.{subst, sym}
-use Rattle.blockdisk.specs.Calls.{IsVerify}
-use Rattle.imagefile.specs.Image.{image_state}
+use Rattle.blockdisk.specs.Common.{IsVerify}
+use Rattle.imagefile.specs.Common.{image_state}
 use Rattle.imagefile.specs.declared.form.Form.{Form}
 use Rattle.imagefile.proofs.codec.verify_group.Goals as goal
 

@@ -1,9 +1,7 @@
 use Rattle.std.proofs.Common.{◌≡◌, ◌∙◌, ◌*◌, ℕ, List, Result, Ok, Err, OnOk, Some, length, arith, ap, subst, sym}
-use Rattle.words36.specs.Blocks.{IsBlock, block_bytes}
-use Rattle.words36.specs.Nines.{nine_words}
-use Rattle.imagefile.specs.File.{Bytes, window}
-use Rattle.blockdisk.specs.Calls.{IsWrite}
-use Rattle.imagefile.specs.Image.{block_length, image_contents, image_state}
+use Rattle.words36.specs.Common.{IsBlock, block_bytes, nine_words}
+use Rattle.imagefile.specs.Common.{Bytes, window, block_length, image_contents, image_state}
+use Rattle.blockdisk.specs.Common.{IsWrite}
 use Rattle.imagefile.specs.declared.form.Form.{Form}
 use Rattle.imagefile.specs.declared.form.Form.TheVariants.{Wide, Packed}
 use Rattle.imagefile.proofs.Contents.{image_put, packed_put}

@@ -1,10 +1,8 @@
 use Rattle.std.proofs.Common.{◌≡◌, ◌+◌, ◌-◌, ◌≤◌, ◌∙◌, ℕ, Err, length, take, drop, subst, sym, ap, arith}
 use Rattle.std.proofs.lemmas.Result.{err_from_is_err_and}
-use Rattle.blockdisk.specs.Calls.{IsRunWrite}
-use Rattle.blockdisk.specs.RunLaws.{IsPartWrite, no_part_write, part_written, part_write_on, part_write_failed}
-use Rattle.blockdisk.specs.RunLaws.{length_part, part_at}
-use Rattle.imagefile.specs.File.{FileState}
-use Rattle.imagefile.specs.Image.{image_state}
+use Rattle.blockdisk.specs.Common.{IsRunWrite, IsPartWrite, no_part_write, part_written, part_write_on}
+use Rattle.blockdisk.specs.Common.{part_write_failed, length_part, part_at}
+use Rattle.imagefile.specs.Common.{FileState, image_state}
 use Rattle.imagefile.proofs.FileLaws.{same_start, same_on}
 use Rattle.imagefile.proofs.codec.write_blocks.Goals as goal
 

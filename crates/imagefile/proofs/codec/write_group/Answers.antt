@@ -1,6 +1,6 @@
 use Rattle.std.proofs.Common.{◌≡◌, ◌*◌, length, arith}
 use Rattle.std.proofs.lemmas.Grind.{common_steps}
-use Rattle.imagefile.specs.Image.{block_length}
+use Rattle.imagefile.specs.Common.{block_length}
 use Rattle.imagefile.proofs.BlockWrites.{run_put}
 use Rattle.imagefile.proofs.ImageCalls.{run_written}
 use Rattle.imagefile.proofs.codec.write_group.Goals as goal

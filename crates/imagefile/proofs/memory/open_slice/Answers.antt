@@ -2,7 +2,7 @@ use Rattle.std.proofs.Common.{◌≡◌, ◌∙◌, ◌+◌, true, length, repli
 use Rattle.std.proofs.lemmas.List.{length-replicate, places}
 use Rattle.std.proofs.lemmas.List.Edits.{paste_all}
 use Rattle.std.proofs.lemmas.Slice.{put_mid-paste}
-use Rattle.imagefile.specs.Memory.{put}
+use Rattle.imagefile.specs.Common.{put}
 use Rattle.imagefile.proofs.memory.open_slice.Goals as goal
 
 pub returns : goal.returns

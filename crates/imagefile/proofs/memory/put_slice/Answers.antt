@@ -1,7 +1,7 @@
 use Rattle.std.proofs.Common.{◌∙◌, length, refl, arith}
 use Rattle.std.proofs.lemmas.List.Edits.{paste_all}
 use Rattle.std.proofs.lemmas.Slice.{put_mid-paste}
-use Rattle.imagefile.specs.Memory.{put}
+use Rattle.imagefile.specs.Common.{put}
 use Rattle.imagefile.proofs.memory.put_slice.Goals as goal
 
 pub returns : goal.returns

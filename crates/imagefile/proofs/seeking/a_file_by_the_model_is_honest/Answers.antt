@@ -1,10 +1,8 @@
 use Rattle.std.proofs.Common.{◌≡◌, ◌+◌, ◌≤◌, List, [], ◌∷◌, length, refl, sym, ap, arith}
 use Rattle.std.proofs.lemmas.List.Elements.{All-head, All-tail}
 use Rattle.std.specs.List.{All}
-use Rattle.imagefile.specs.File.{window}
-use Rattle.imagefile.specs.Unseen.{Unseen, size_of}
-use Rattle.imagefile.specs.Recorded.{after_calls, IsHonestRecord}
-use Rattle.imagefile.specs.Answered.{HostCall, Measure, ReadAt, WriteAt, SyncAll, IsInFile, answered}
+use Rattle.imagefile.specs.Common.{window, Unseen, size_of, after_calls, IsHonestRecord, HostCall, Measure, ReadAt}
+use Rattle.imagefile.specs.Common.{WriteAt, SyncAll, IsInFile, answered}
 use Rattle.imagefile.proofs.CallLaws.{length-window}
 use Rattle.imagefile.proofs.seeking.a_file_by_the_model_is_honest.Goals as goal
 

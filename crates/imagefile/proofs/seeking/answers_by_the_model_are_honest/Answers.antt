@@ -1,6 +1,5 @@
 use Rattle.std.proofs.Common.{refl, sym, ap, arith}
-use Rattle.imagefile.specs.File.{window}
-use Rattle.imagefile.specs.Recorded.{after_calls}
+use Rattle.imagefile.specs.Common.{window, after_calls}
 use Rattle.imagefile.proofs.CallLaws.{length-window}
 use Rattle.imagefile.proofs.seeking.answers_by_the_model_are_honest.Goals as goal
 

@@ -1,9 +1,9 @@
 use Rattle.std.proofs.Common.{◌≡◌, ◌∙◌, Some, None, ap, refl, subst, arith, length, slice_set}
-use Rattle.meaning.specs.Jobs.{slot}
-use Rattle.monitor.proofs.Promised.{nobody_serves, set_serves}
-use Rattle.monitor.proofs.Slots.{slot_past, slot_there, set_same}
-use Rattle.monitor.proofs.call.serve.Goals as goal
+use Rattle.spec_machine.specs.Common.{slot}
+use Rattle.monitor.proofs.Shared.Promised.{nobody_serves, set_serves}
+use Rattle.monitor.proofs.Shared.Slots.{slot_past, slot_there, set_same}
 use Rattle.monitor.proofs.call.serve.Goals.{in-Some, in-None}
+use Rattle.monitor.proofs.call.serve.Goals as goal
 
 pub returns-then-number-len-clause-serving : goal.returns-then-number-len-clause-serving
 returns-then-number-len-clause-serving g c =

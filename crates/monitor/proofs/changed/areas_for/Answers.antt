@@ -1,4 +1,4 @@
-use Rattle.monitor.proofs.ChangedCalls.{for_slot, slot_inside}
+use Rattle.monitor.proofs.CoreAreas.Calls.{for_slot, slot_inside}
 use Rattle.monitor.proofs.changed.areas_for.Goals as goal
 
 pub returns-in-Some-clause-value : goal.returns-in-Some-clause-value

@@ -1,8 +1,9 @@
 use Rattle.std.proofs.Common.{◌+◌, ◌∷◌, [], refl}
-use Rattle.meaning.specs.declared.call.Call.TheVariants.{Inbuf, Outbuf, Lookup, Enter, Rename, In, Out, Close, Releas}
-use Rattle.usercore.specs.Areas.{words_at}
-use Rattle.monitor.specs.Changed.{areas_set_up, areas_filled, areas_emptied, areas_closed}
-use Rattle.monitor.proofs.ChangedCalls.{on_channel}
+use Rattle.spec_machine.specs.declared.call.Call.TheVariants.{Inbuf, Outbuf, Lookup, Enter, Rename, In, Out, Close}
+use Rattle.spec_machine.specs.declared.call.Call.TheVariants.{Releas}
+use Rattle.usercore.specs.Common.{words_at}
+use Rattle.monitor.specs.Common.{areas_set_up, areas_filled, areas_emptied, areas_closed}
+use Rattle.monitor.proofs.CoreAreas.Calls.{on_channel}
 use Rattle.monitor.proofs.changed.areas_of.Goals as goal
 
 pub returns-in-Inbuf : goal.returns-in-Inbuf

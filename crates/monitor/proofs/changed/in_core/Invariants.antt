@@ -1,5 +1,5 @@
 use Rattle.std.proofs.Common.{◌≡◌, ◌++◌, drop}
-use Rattle.monitor.specs.Changed.{in_core}
+use Rattle.monitor.specs.Common.{in_core}
 use Rattle.monitor.proofs.changed.in_core.Given as goal
 
 abbrev pub invariant-loop-area : goal.invariant-loop-area

@@ -1,5 +1,5 @@
-use Rattle.monitor.specs.Changed.{areas_set_up}
-use Rattle.monitor.proofs.ChangedCalls.{opened_there}
+use Rattle.monitor.specs.Common.{areas_set_up}
+use Rattle.monitor.proofs.CoreAreas.Calls.{opened_there}
 use Rattle.monitor.proofs.changed.set_up_for_input.Goals as goal
 
 pub returns : goal.returns

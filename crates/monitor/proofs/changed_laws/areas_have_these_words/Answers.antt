@@ -1,5 +1,5 @@
-use Rattle.monitor.specs.Changed.{areas_named}
-use Rattle.monitor.proofs.ChangedWords.{parts, lookup_words, ring_words_set_up, ring_words_there}
+use Rattle.monitor.specs.Common.{areas_named}
+use Rattle.monitor.proofs.CoreAreas.Words.{parts, lookup_words, ring_words_set_up, ring_words_there}
 use Rattle.monitor.proofs.changed_laws.areas_have_these_words.Goals as goal
 
 pub returns-clause-parts : goal.returns-clause-parts

@@ -1,4 +1,4 @@
-use Rattle.monitor.proofs.ChangedStates.{step_changes, answer_changes}
+use Rattle.monitor.proofs.CoreAreas.States.{step_changes, answer_changes}
 use Rattle.monitor.proofs.changed_laws.calls_change_their_areas.Goals as goal
 
 pub returns-clause-stepped : goal.returns-clause-stepped

@@ -1,12 +1,12 @@
 use Rattle.std.proofs.Common.{◌≡◌, ◌∙◌, rules, refl, sym, ap, Some, None, slice_set}
-use Rattle.meaning.specs.declared.call.Reply.TheVariants.{Done}
+use Rattle.spec_machine.specs.declared.call.Reply.TheVariants.{Done}
 use Rattle.retrieval.specs.declared.prime.Prime.{Prime}
-use Rattle.monitor.specs.Publishing.{last_at}
-use Rattle.monitor.proofs.ClosedServing.{side_live, side_starts}
-use Rattle.monitor.proofs.ClosedSides.{has_published, holds_published}
-use Rattle.monitor.proofs.Publications.{few_behind, held_behind, named_behind}
-use Rattle.monitor.proofs.PublishedAnswers.{publishes_by}
-use Rattle.monitor.proofs.ReadingJobs.{job_held, few_readers}
+use Rattle.monitor.specs.Common.{last_at}
+use Rattle.monitor.proofs.Closing.Serving.{side_live, side_starts}
+use Rattle.monitor.proofs.Closing.Sides.{has_published, holds_published}
+use Rattle.monitor.proofs.Closing.Publications.{few_behind, held_behind, named_behind}
+use Rattle.monitor.proofs.Closing.PublishedAnswers.{publishes_by}
+use Rattle.monitor.proofs.Shared.ReadingJobs.{job_held, few_readers}
 use Rattle.monitor.proofs.close.close_and_hold.Goals as goal
 
 pub publish_output-reply-requires-clause-live : goal.publish_output-reply-requires-clause-live

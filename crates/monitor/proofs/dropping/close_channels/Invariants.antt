@@ -1,6 +1,5 @@
 use Rattle.std.proofs.Common.{◌≡◌, filter_map, take}
-use Rattle.monitor.specs.Dropping.{Closes}
-use Rattle.monitor.specs.Sides.{side_of, keys_of, reader_of, pins_of}
+use Rattle.monitor.specs.Common.{Closes, side_of, keys_of, reader_of, pins_of}
 use Rattle.monitor.proofs.dropping.close_channels.Given as goal
 
 abbrev pub invariant-loop-channel : goal.invariant-loop-channel

@@ -1,5 +1,5 @@
-use Rattle.monitor.proofs.Dropped.{job_live}
-use Rattle.monitor.proofs.ReadingJobs.{job_held}
+use Rattle.monitor.proofs.Shared.Dropped.{job_live}
+use Rattle.monitor.proofs.Shared.ReadingJobs.{job_held}
 use Rattle.monitor.proofs.dropping.close_job.Goals as goal
 
 pub close_channels-requires-clause-live : goal.close_channels-requires-clause-live

@@ -1,10 +1,8 @@
 use Rattle.std.proofs.Common.{◌≤◌, [], sym, subst, option_to_list}
-use Rattle.meaning.specs.Maps.{times}
-use Rattle.volume.specs.Live.{slot as version_at}
-use Rattle.monitor.specs.Dropping.{Closes}
-use Rattle.monitor.specs.Readers.{readers_of}
-use Rattle.monitor.specs.Sides.{pins_of}
-use Rattle.monitor.proofs.Releases.{held_there, lets_one_go}
+use Rattle.spec_image.specs.Common.{times}
+use Rattle.volume.specs.Common.{slot as version_at}
+use Rattle.monitor.specs.Common.{Closes, readers_of, pins_of}
+use Rattle.monitor.proofs.Shared.Releases.{held_there, lets_one_go}
 use Rattle.monitor.proofs.dropping.release_input.Goals as goal
 
 pub unpin-requires : goal.unpin-requires

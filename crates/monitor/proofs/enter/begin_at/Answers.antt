@@ -1,18 +1,14 @@
 use Rattle.std.proofs.Common.{◌≡◌, ◌∙◌, ℕ, ap, sym, subst, Err, rules}
 use Rattle.words36.specs.declared.names.FileName.{FileName}
-use Rattle.meaning.specs.Codes.{number_of}
-use Rattle.meaning.specs.Layouts.{pack_of}
-use Rattle.meaning.specs.Looking.{place_at}
-use Rattle.meaning.specs.Published.{without_serials}
-use Rattle.meaning.specs.Stands.{place_of}
-use Rattle.meaning.specs.declared.call.Reply.TheVariants.{Done, Refused}
-use Rattle.volume.specs.Rest.{IsSoundCore}
-use Rattle.monitor.specs.Finding.{IsAnswer, begin_answer_at}
-use Rattle.monitor.specs.Sides.{job_of}
-use Rattle.monitor.proofs.Answering.{contrary}
-use Rattle.monitor.proofs.Entering.{at_place, no_owner, refused, may_begin_at, limited_at, begun_at}
-use Rattle.monitor.proofs.Entering.{not_begun_at}
-use Rattle.monitor.proofs.Limits.{AllowsBegin}
+use Rattle.spec_image.specs.Common.{number_of, pack_of, without_serials, place_of}
+use Rattle.spec_machine.specs.Common.{place_at}
+use Rattle.spec_machine.specs.declared.call.Reply.TheVariants.{Done, Refused}
+use Rattle.volume.specs.Common.{IsSoundCore}
+use Rattle.monitor.specs.Common.{IsAnswer, begin_answer_at, job_of}
+use Rattle.monitor.proofs.Shared.Answering.{contrary}
+use Rattle.monitor.proofs.Entering.Outcomes.{at_place, no_owner, refused, may_begin_at, limited_at, begun_at}
+use Rattle.monitor.proofs.Entering.Outcomes.{not_begun_at}
+use Rattle.monitor.proofs.Shared.Limits.{AllowsBegin}
 use Rattle.monitor.proofs.enter.begin_at.Goals as goal
 
 pub returns-in_default-clause-answered : goal.returns-in_default-clause-answered

@@ -1,16 +1,13 @@
 use Rattle.std.proofs.Common.{◌+◌, ◌∙◌, ℕ, refl, sym, ap, subst, Some, Err, slice_set}
-use Rattle.meaning.specs.Codes.{number_of}
-use Rattle.meaning.specs.Cores.{with_right}
-use Rattle.meaning.specs.Layouts.{pack_of}
-use Rattle.meaning.specs.declared.call.Reply.TheVariants.{Refused}
-use Rattle.volume.specs.Beginning.{begun}
-use Rattle.meaning.specs.Looking.{place_at}
-use Rattle.monitor.specs.Entering.{entered_kind}
-use Rattle.monitor.specs.Finding.{IsAnswer, begin_answer_at}
-use Rattle.monitor.specs.Sides.{job_of, reader_of}
-use Rattle.monitor.proofs.EnterReads.{reading_entered}
-use Rattle.monitor.proofs.Enters.{no_side, done, refused, wanting}
-use Rattle.monitor.proofs.Placing.{placed_begun}
+use Rattle.spec_image.specs.Common.{number_of, pack_of}
+use Rattle.spec_machine.specs.Common.{with_right, place_at}
+use Rattle.spec_machine.specs.declared.call.Reply.TheVariants.{Refused}
+use Rattle.volume.specs.Common.{begun}
+use Rattle.monitor.specs.Common.{entered_kind, IsAnswer, begin_answer_at, job_of, reader_of}
+use Rattle.monitor.proofs.Entering.Readers.{reading_entered}
+use Rattle.monitor.proofs.Entering.Enters.{done, refused, wanting}
+use Rattle.monitor.proofs.Shared.Placing.{placed_begun}
+use Rattle.spec_machine.proofs.Common.{is_none_of}
 use Rattle.monitor.proofs.enter.enter.Goals as goal
 
 pub returns-in-Ok-clause-begun : goal.returns-in-Ok-clause-begun
@@ -20,7 +17,7 @@ returns-in-Ok-clause-begun g c is = (
   c.in-Ok.prime,
   record {
     there = sym c.channel.ensures ∙ c.in-Some.is;
-    free = no_side c.in-Some.channel.output (sym c.is_some.ensures ∙ c.if-is_some.false);
+    free = is_none_of c.in-Some.channel.output (sym c.is_some.ensures ∙ c.if-is_some.false);
     unread = ap reader_of (sym (sym c.channel.ensures ∙ c.in-Some.is)) ∙ c.requires.unread;
     begins = c.in-Ok.ensures.begun.0;
     bare = c.in-Ok.ensures.begun.1;
@@ -46,7 +43,7 @@ returns-in-Ok-clause-row g c h s known w =
     done (pack_of (g.D.Disk.state c.args.volume.now.disk)) s w c.args.job.now c.args.number c.args.address
     c.in-Some.channel (sym c.channel.ensures ∙ c.in-Some.is) (sym c.lies_outside.ensures.value
     ∙ c.if-lies_outside.false)
-    (no_side c.in-Some.channel.output (sym c.is_some.ensures ∙ c.if-is_some.false))
+    (is_none_of c.in-Some.channel.output (sym c.is_some.ensures ∙ c.if-is_some.false))
     (ap reader_of (sym (sym c.channel.ensures ∙ c.in-Some.is)) ∙ c.requires.unread) _
     (c.in-Ok.ensures.answered h c.requires.alive s known w)
 
@@ -55,7 +52,7 @@ returns-in-Err-Refused-clause-row g c h s known w =
     refused (pack_of (g.D.Disk.state c.args.volume.now.disk)) s w c.args.job.now c.args.number c.args.address
     c.in-Some.channel (sym c.channel.ensures ∙ c.in-Some.is) (sym c.lies_outside.ensures.value
     ∙ c.if-lies_outside.false)
-    (no_side c.in-Some.channel.output (sym c.is_some.ensures ∙ c.if-is_some.false))
+    (is_none_of c.in-Some.channel.output (sym c.is_some.ensures ∙ c.if-is_some.false))
     (ap reader_of (sym (sym c.channel.ensures ∙ c.in-Some.is)) ∙ c.requires.unread) c.refuse-in-Err-Refused.new.core
     c.refuse-in-Err-Refused.result c.in-Err-Refused.code (c.refuse-in-Err-Refused.ensures.answered
     ∙ ap (λ x. Refused (number_of x)) c.in-Err-Refused.code-is)
@@ -70,7 +67,7 @@ returns-in-Err-NoMemory-clause-row g c h s known w =
     wanting (pack_of (g.D.Disk.state c.args.volume.now.disk)) s w c.args.job.now c.args.number c.args.address
     c.in-Some.channel (sym c.channel.ensures ∙ c.in-Some.is) (sym c.lies_outside.ensures.value
     ∙ c.if-lies_outside.false)
-    (no_side c.in-Some.channel.output (sym c.is_some.ensures ∙ c.if-is_some.false))
+    (is_none_of c.in-Some.channel.output (sym c.is_some.ensures ∙ c.if-is_some.false))
     (ap reader_of (sym (sym c.channel.ensures ∙ c.in-Some.is)) ∙ c.requires.unread)
     (subst (λ x. IsAnswer {X = ℕ} (Err x) (begin_answer_at (pack_of (g.D.Disk.state c.args.volume.now.disk)) s
     (job_of w c.args.job.now) (place_at (job_of w c.args.job.now) c.args.address))) c.in-Err-NoMemory.field-0-is

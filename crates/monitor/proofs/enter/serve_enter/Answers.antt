@@ -1,11 +1,11 @@
 use Rattle.std.proofs.Common.{false, Some, refl, sym, subst, ◌∙◌, slice_set}
-use Rattle.meaning.specs.declared.call.Call.TheVariants.{Enter}
-use Rattle.volume.specs.Rest.{IsSoundCore}
-use Rattle.monitor.specs.Events.{IsDecided}
-use Rattle.monitor.proofs.EnterAnswers.{enters_keyed, enters_reading, enter_answered}
-use Rattle.monitor.proofs.Promised.{quiet_serves}
-use Rattle.monitor.proofs.ReadingJobs.{job_held, few_readers}
-use Rattle.monitor.proofs.UpdateAnswers.{updates_keyed, updates_reading, update_answered}
+use Rattle.spec_machine.specs.declared.call.Call.TheVariants.{Enter}
+use Rattle.volume.specs.Common.{IsSoundCore}
+use Rattle.monitor.specs.Common.{IsDecided}
+use Rattle.monitor.proofs.Entering.ByJobs.{enters_keyed, enters_reading, enter_answered}
+use Rattle.monitor.proofs.Shared.Promised.{quiet_serves}
+use Rattle.monitor.proofs.Shared.ReadingJobs.{job_held, few_readers}
+use Rattle.monitor.proofs.Updating.ByJobs.{updates_keyed, updates_reading, update_answered}
 use Rattle.monitor.proofs.enter.serve_enter.Goals as goal
 
 pub update-requires-clause-held : goal.update-requires-clause-held

@@ -1,8 +1,8 @@
 use Rattle.std.proofs.Common.{sym, subst, ◌∙◌}
-use Rattle.meaning.specs.declared.call.Call.TheVariants.{Getsts}
-use Rattle.meaning.specs.declared.call.Reply.TheVariants.{Value}
-use Rattle.monitor.specs.Rows.{IsRow}
-use Rattle.monitor.proofs.Statuses.{status_none, status_there}
+use Rattle.spec_machine.specs.declared.call.Call.TheVariants.{Getsts}
+use Rattle.spec_machine.specs.declared.call.Reply.TheVariants.{Value}
+use Rattle.monitor.specs.Common.{IsRow}
+use Rattle.monitor.proofs.OtherCalls.Statuses.{status_none, status_there}
 use Rattle.monitor.proofs.getsts.getsts.Goals as goal
 
 pub returns-in_default-clause-row : goal.returns-in_default-clause-row

@@ -1,13 +1,11 @@
 use Rattle.std.proofs.Common.{◌≡◌, ◌∙◌, sym, ap, subst}
-use Rattle.meaning.specs.Codes.{number_of}
-use Rattle.meaning.specs.Looking.{lookup_answer, place_at}
-use Rattle.meaning.specs.Published.{without_serials, file_at}
-use Rattle.meaning.specs.Stands.{place_of}
-use Rattle.meaning.specs.declared.call.Reply.TheVariants.{Done, Refused}
-use Rattle.volume.specs.Rest.{IsSoundCore}
-use Rattle.monitor.specs.Sides.{job_of}
-use Rattle.monitor.proofs.Entering.{at_place}
-use Rattle.monitor.proofs.LookupAnswers.{nowhere, refused, done, held, not_held}
+use Rattle.spec_image.specs.Common.{number_of, without_serials, file_at, place_of}
+use Rattle.spec_machine.specs.Common.{lookup_answer, place_at}
+use Rattle.spec_machine.specs.declared.call.Reply.TheVariants.{Done, Refused}
+use Rattle.volume.specs.Common.{IsSoundCore}
+use Rattle.monitor.specs.Common.{job_of}
+use Rattle.monitor.proofs.Entering.Outcomes.{at_place}
+use Rattle.monitor.proofs.LookingUp.LookupAnswers.{nowhere, refused, done, held, not_held}
 use Rattle.monitor.proofs.lookup.find_input.Goals as goal
 
 pub returns-in_default-clause-answered : goal.returns-in_default-clause-answered

@@ -1,18 +1,16 @@
 use Rattle.std.proofs.Common.{rules, ℕ, ◌≡◌, ◌*◌, ◌<◌, ◌≤◌, ◌^◌, length, Some, Err, refl, sym, ap, subst, ◌∙◌, inl}
 use Rattle.std.proofs.Common.{arith, slice_set}
 use Rattle.std.proofs.lemmas.Bool.{both_ways}
-use Rattle.meaning.specs.Retrieval.{most_blocks}
-use Rattle.meaning.specs.Splices.{length_after}
-use Rattle.meaning.specs.declared.code.ErrorCode.TheVariants.{NoRoom}
+use Rattle.spec_image.specs.Common.{most_blocks, length_after}
+use Rattle.spec_image.specs.declared.code.ErrorCode.TheVariants.{NoRoom}
 use Rattle.volume.specs.declared.error.CallError.TheVariants.{Refused}
-use Rattle.volume.specs.Live.{VolumeCore}
-use Rattle.monitor.specs.Putting.{moved, IsBarred, IsOut}
-use Rattle.monitor.specs.Rows.{KeepsSides}
-use Rattle.monitor.proofs.Calling.{keeps_same}
-use Rattle.monitor.proofs.Outgoings.{Found, at_output, goes_out, has_outgoing}
-use Rattle.monitor.proofs.Outs.{version_there, version_live, its_side, next_fits, not_refused, keeps_put}
-use Rattle.monitor.proofs.Outs.{barred_none, finds_place, lacks_room, reads_status, reads_moved}
-use Rattle.monitor.proofs.Usetos.{keeps_status}
+use Rattle.volume.specs.Common.{VolumeCore}
+use Rattle.monitor.specs.Common.{moved, IsBarred, IsOut, KeepsSides}
+use Rattle.monitor.proofs.Shared.Calling.{keeps_same}
+use Rattle.monitor.proofs.WritingOut.Outgoings.{Found, at_output, goes_out, has_outgoing}
+use Rattle.monitor.proofs.WritingOut.Outs.{version_there, version_live, its_side, next_fits, not_refused, keeps_put}
+use Rattle.monitor.proofs.WritingOut.Outs.{barred_none, finds_place, lacks_room, reads_status, reads_moved}
+use Rattle.monitor.proofs.OtherCalls.Usetos.{keeps_status}
 use Rattle.monitor.proofs.out.out.Goals as goal
 
 pub returns-in_default-clause-keeps : goal.returns-in_default-clause-keeps

@@ -1,19 +1,17 @@
 use Rattle.std.proofs.Common.{◌≡◌, false, Some, refl, subst, ap, slice_set}
 use Rattle.std.specs.List.{AllByRecursion}
-use Rattle.meaning.specs.declared.call.Call.TheVariants.{Out}
-use Rattle.meaning.proofs.SlotLaws.{slot-set_other}
-use Rattle.volume.specs.Rest.{IsSoundCore}
-use Rattle.monitor.specs.Putting.{IsOut}
-use Rattle.monitor.specs.Serving.{IsSide}
-use Rattle.monitor.specs.Sides.{sides_in}
-use Rattle.monitor.proofs.Called.{still_serves, decided_serves}
-use Rattle.monitor.proofs.Dropped.{job_live}
-use Rattle.monitor.proofs.OutAnswers.{out_keyed, out_reading, out_answered}
-use Rattle.monitor.proofs.OutPlaced.{out_placed, out_blamed, out_idle}
-use Rattle.monitor.proofs.Refusals.{out_refused, out_decided}
-use Rattle.monitor.proofs.SideLists.{each-slot}
-use Rattle.monitor.proofs.Slots.{unchanged}
-use Rattle.monitor.proofs.Untouched.{quiet_crashes}
+use Rattle.spec_machine.specs.declared.call.Call.TheVariants.{Out}
+use Rattle.spec_machine.proofs.Common.{slot-set_other}
+use Rattle.volume.specs.Common.{IsSoundCore}
+use Rattle.monitor.specs.Common.{IsOut, IsSide, sides_in}
+use Rattle.monitor.proofs.Shared.Called.{still_serves, decided_serves}
+use Rattle.monitor.proofs.Shared.Dropped.{job_live}
+use Rattle.monitor.proofs.WritingOut.ByJobs.{out_keyed, out_reading, out_answered}
+use Rattle.monitor.proofs.WritingOut.Placed.{out_placed, out_blamed, out_idle}
+use Rattle.monitor.proofs.Shared.Refusals.{out_refused, out_decided}
+use Rattle.monitor.proofs.Shared.SideLists.{each-slot}
+use Rattle.monitor.proofs.Shared.Slots.{unchanged}
+use Rattle.monitor.proofs.Shared.Untouched.{quiet_crashes}
 use Rattle.monitor.proofs.out.serve_out.Goals as goal
 
 pub out-requires-clause-live : goal.out-requires-clause-live

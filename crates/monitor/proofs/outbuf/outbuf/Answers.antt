@@ -1,6 +1,6 @@
 use Rattle.std.proofs.Common.{sym, ◌∙◌}
-use Rattle.monitor.proofs.Calling.{keeps_same, reads_same}
-use Rattle.monitor.proofs.RingsMade.{outbuf_none, outbuf_row}
+use Rattle.monitor.proofs.Shared.Calling.{keeps_same, reads_same}
+use Rattle.monitor.proofs.OtherCalls.RingsMade.{outbuf_none, outbuf_row}
 use Rattle.monitor.proofs.outbuf.outbuf.Goals as goal
 
 pub returns-in_default-clause-row : goal.returns-in_default-clause-row

@@ -1,19 +1,13 @@
 use Rattle.std.proofs.Common.{◌≡◌, ◌==◌, false, None, refl, sym, ap, subst, ◌∙◌, inl, inr, rules}
 use Rattle.std.specs.Ordering.{nat_cmp}
 use Rattle.std.specs.FinMap.Entries.{find}
-use Rattle.words36.specs.Words.{IsPpn}
-use Rattle.meaning.specs.Codes.{number_of}
-use Rattle.meaning.specs.Files.{File, Files}
-use Rattle.meaning.specs.Layouts.{layout_number}
-use Rattle.meaning.specs.Making.{files_limited}
-use Rattle.meaning.specs.declared.code.ErrorCode.TheVariants.{NoDirectory}
-use Rattle.volume.specs.Edits.{ChangesFiles}
-use Rattle.volume.specs.Rest.{IsSoundCore}
-use Rattle.monitor.specs.DeleteDirRows.{IsNowhere}
-use Rattle.monitor.specs.DirectoryRows.{asked_owner}
-use Rattle.monitor.specs.QuotaRows.{IsDenied, IsLimitable, asked_quota}
-use Rattle.monitor.proofs.DeleteDirs.{nowhere_numbered, nowhere_known}
-use Rattle.monitor.proofs.QuotaServing.{checked_serves, denied_serves, limit_broken, limit_done}
+use Rattle.words36.specs.Common.{IsPpn}
+use Rattle.spec_image.specs.Common.{number_of, File, Files, layout_number, files_limited}
+use Rattle.spec_image.specs.declared.code.ErrorCode.TheVariants.{NoDirectory}
+use Rattle.volume.specs.Common.{ChangesFiles, IsSoundCore}
+use Rattle.monitor.specs.Common.{IsNowhere, asked_owner, IsDenied, IsLimitable, asked_quota}
+use Rattle.monitor.proofs.DeletingDirectory.Asked.{nowhere_numbered, nowhere_known}
+use Rattle.monitor.proofs.SettingQuota.Serving.{checked_serves, denied_serves, limit_broken, limit_done}
 use Rattle.monitor.proofs.quota.serve_quota.Goals as goal
 
 pub returns-then-lies_outside-clause-serving : goal.returns-then-lies_outside-clause-serving

@@ -1,17 +1,15 @@
 use Rattle.std.proofs.Common.{rules, ◌≡◌, ◌<◌, ◌+◌, ◌-◌, ◌^◌, length, min, replicate, Some, refl, sym, ap, subst, ◌∙◌}
 use Rattle.std.proofs.Common.{arith, slice_set}
 use Rattle.std.proofs.lemmas.List.{length-replicate}
-use Rattle.meaning.specs.Jobs.{cleared, end_of_file}
-use Rattle.meaning.specs.Splices.{block_start, words_from}
-use Rattle.meaning.specs.declared.call.Reply.TheVariants.{Done}
-use Rattle.volume.specs.Pins.{version_under, IsReadable}
-use Rattle.monitor.specs.Reading.{handle_read, asked_at, IsIn}
-use Rattle.monitor.specs.Rows.{KeepsReading}
+use Rattle.spec_machine.specs.Common.{cleared, end_of_file}
+use Rattle.spec_image.specs.Common.{block_start, words_from}
+use Rattle.spec_machine.specs.declared.call.Reply.TheVariants.{Done}
+use Rattle.volume.specs.Common.{version_under, IsReadable}
+use Rattle.monitor.specs.Common.{handle_read, asked_at, IsIn, KeepsReading}
 use Rattle.monitor.specs.declared.read_in.ReadIn.TheVariants.{Moved, AtEnd, NoMemory, Device}
-use Rattle.monitor.proofs.Asking.{few_asked}
-use Rattle.monitor.proofs.Inputs.{version_there}
-use Rattle.monitor.proofs.ReadWords.{is_readable, few_words, words_left, read_fits, is_asked}
-use Rattle.monitor.proofs.ReadWords.{in_reads}
+use Rattle.monitor.proofs.ReadingIn.Asking.{few_asked}
+use Rattle.monitor.proofs.ReadingIn.Inputs.{version_there}
+use Rattle.monitor.proofs.ReadingIn.Words.{is_readable, few_words, words_left, read_fits, is_asked, in_reads}
 use Rattle.monitor.proofs.read.read.Goals as goal
 
 pub read_in-requires-clause-live : goal.read_in-requires-clause-live

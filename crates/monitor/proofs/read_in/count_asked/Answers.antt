@@ -1,12 +1,11 @@
 use Rattle.std.proofs.Common.{◌≡◌, ◌<◌, [], ◌∷◌, sym, ap, subst, ◌∙◌, arith}
 use Rattle.std.specs.Prelude.{is_err}
 use Rattle.std.proofs.lemmas.List.Elements.{All-cons, All-nil}
-use Rattle.meaning.specs.CommandLists.{word_count}
-use Rattle.meaning.specs.Rings.{byte_size}
-use Rattle.meaning.specs.declared.area.Area.{Area}
-use Rattle.retrieval.specs.Modes.{mode_number}
-use Rattle.usercore.specs.ByteSizes.{bits_of}
-use Rattle.monitor.proofs.Asking.{IsAsked, list_asked, ready_found, ring_asked}
+use Rattle.spec_machine.specs.Common.{word_count, byte_size}
+use Rattle.spec_machine.specs.declared.area.Area.{Area}
+use Rattle.retrieval.specs.Common.{mode_number}
+use Rattle.usercore.specs.Common.{bits_of}
+use Rattle.monitor.proofs.ReadingIn.Asking.{IsAsked, list_asked, ready_found, ring_asked}
 use Rattle.monitor.proofs.read_in.count_asked.Goals as goal
 
 pub returns-then-is_buffered-clause-count : goal.returns-then-is_buffered-clause-count

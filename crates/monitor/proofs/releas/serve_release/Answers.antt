@@ -1,8 +1,8 @@
 use Rattle.std.proofs.Common.{refl}
-use Rattle.meaning.specs.declared.call.Call.TheVariants.{Releas}
-use Rattle.monitor.proofs.ClosedServing.{release_serves}
-use Rattle.monitor.proofs.Promised.{dropping_serves}
-use Rattle.monitor.proofs.ReadingJobs.{job_held}
+use Rattle.spec_machine.specs.declared.call.Call.TheVariants.{Releas}
+use Rattle.monitor.proofs.Closing.Serving.{release_serves}
+use Rattle.monitor.proofs.Shared.Promised.{dropping_serves}
+use Rattle.monitor.proofs.Shared.ReadingJobs.{job_held}
 use Rattle.monitor.proofs.releas.serve_release.Goals as goal
 
 pub release-requires-clause-held : goal.release-requires-clause-held

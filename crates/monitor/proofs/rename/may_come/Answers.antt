@@ -1,6 +1,5 @@
-use Rattle.meaning.specs.Stands.{place_of}
-use Rattle.meaning.specs.Published.{without_serials}
-use Rattle.monitor.proofs.Arrivals.{arrival_answered}
+use Rattle.spec_image.specs.Common.{place_of, without_serials}
+use Rattle.monitor.proofs.Renaming.Arrivals.{arrival_answered}
 use Rattle.monitor.proofs.rename.may_come.Goals as goal
 
 pub returns-clause-answered : goal.returns-clause-answered

@@ -1,28 +1,24 @@
 use Rattle.std.proofs.Common.{◌≤◌, ◌/◌, ◌^◌, Bool, refl, sym, ap, subst, ◌∙◌, ⊎_elim, arith, rules}
 use Rattle.std.specs.Prelude.{is_none}
 use Rattle.std.proofs.lemmas.Bool.{ne_eqb}
-use Rattle.meaning.specs.Codes.{number_of}
-use Rattle.meaning.specs.Layouts.{pack_of}
-use Rattle.meaning.specs.Looking.{place_at}
-use Rattle.meaning.specs.Stands.{place_of}
-use Rattle.meaning.specs.declared.code.ErrorCode.TheVariants.{NoDirectory, NoRoom}
-use Rattle.meaning.specs.declared.call.Call.TheVariants.{Rename}
-use Rattle.meaning.specs.declared.call.Reply.TheVariants as replies
-use Rattle.volume.specs.Edits.{DeviceAnswer}
-use Rattle.volume.specs.Rest.{IsSoundCore}
-use Rattle.monitor.specs.Changing.{changed_job, changed_reply}
-use Rattle.monitor.specs.Sides.{job_of}
-use Rattle.monitor.proofs.Answering.{contrary}
-use Rattle.monitor.proofs.ChangeAnswers.{rename_stops}
-use Rattle.monitor.proofs.Entering.{at_place, no_directory}
-use Rattle.monitor.proofs.InputsClosed.{input_is_held}
-use Rattle.monitor.proofs.MoveReplies.{arrival_refused, arrival_homeless, moves_limited, other_place}
-use Rattle.monitor.proofs.MoveServing.{read_on, move_serves}
-use Rattle.monitor.proofs.Moves.{address_within, asks_for}
-use Rattle.monitor.proofs.ReadingJobs.{job_held}
-use Rattle.monitor.proofs.RenameRefusals.{address_fits, refusing_serves}
-use Rattle.monitor.proofs.RenameWanting.{rename_serves}
-use Rattle.volume.proofs.Marking.{on_ok}
+use Rattle.spec_image.specs.Common.{number_of, pack_of, place_of}
+use Rattle.spec_machine.specs.Common.{place_at}
+use Rattle.spec_image.specs.declared.code.ErrorCode.TheVariants.{NoDirectory, NoRoom}
+use Rattle.spec_machine.specs.declared.call.Call.TheVariants.{Rename}
+use Rattle.volume.specs.Common.{DeviceAnswer, IsSoundCore}
+use Rattle.monitor.specs.Common.{changed_job, changed_reply, job_of}
+use Rattle.monitor.proofs.Shared.Answering.{contrary}
+use Rattle.monitor.proofs.Renaming.ChangeAnswers.{rename_stops}
+use Rattle.monitor.proofs.Entering.Outcomes.{at_place, no_directory}
+use Rattle.monitor.proofs.Shared.InputsClosed.{input_is_held}
+use Rattle.monitor.proofs.Renaming.MoveReplies.{arrival_refused, arrival_homeless, moves_limited, other_place}
+use Rattle.monitor.proofs.Renaming.MoveServing.{read_on, move_serves}
+use Rattle.monitor.proofs.Renaming.Moves.{address_within, asks_for}
+use Rattle.monitor.proofs.Shared.ReadingJobs.{job_held}
+use Rattle.monitor.proofs.Renaming.Refusals.{address_fits, refusing_serves}
+use Rattle.monitor.proofs.Renaming.Wanting.{rename_serves}
+use Rattle.volume.proofs.Shared.Marking.{on_ok}
+use Rattle.spec_machine.specs.declared.call.Reply.TheVariants as replies
 use Rattle.monitor.proofs.rename.move_file.Goals as goal
 
 pub overflow_add-address : goal.overflow_add-address

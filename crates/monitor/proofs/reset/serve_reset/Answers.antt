@@ -1,18 +1,17 @@
 use Rattle.std.proofs.Common.{◌≡◌, false, Some, refl, sym, subst, ap, slice_set}
-use Rattle.meaning.specs.Jobs.{slot}
-use Rattle.meaning.specs.Layouts.{pack_of}
-use Rattle.meaning.specs.declared.call.Call.TheVariants.{Reset}
-use Rattle.meaning.specs.declared.call.Reply.TheVariants.{Done}
-use Rattle.monitor.specs.Sides.{sides_in, readers_in, keys_of, pins_of, reset_job}
-use Rattle.monitor.specs.Dropping.{Closes}
+use Rattle.spec_machine.specs.Common.{slot}
+use Rattle.spec_image.specs.Common.{pack_of}
+use Rattle.spec_machine.specs.declared.call.Call.TheVariants.{Reset}
+use Rattle.spec_machine.specs.declared.call.Reply.TheVariants.{Done}
+use Rattle.monitor.specs.Common.{sides_in, readers_in, keys_of, pins_of, reset_job, Closes}
 use Rattle.monitor.specs.declared.job.Job.{Job}
-use Rattle.monitor.proofs.Answering.{row}
-use Rattle.monitor.proofs.Dropped.{job_live, closed_keyed}
-use Rattle.monitor.proofs.Placing.{placed_left}
-use Rattle.monitor.proofs.Promised.{quiet_serves}
-use Rattle.monitor.proofs.ReadingJobs.{job_held, closed_reading, bare_readers}
-use Rattle.monitor.proofs.Resetting.{reset_row}
-use Rattle.meaning.specs.declared.call.Event.TheVariants.{Call as Calls}
+use Rattle.monitor.proofs.Shared.Answering.{row}
+use Rattle.monitor.proofs.Shared.Dropped.{job_live, closed_keyed}
+use Rattle.monitor.proofs.Shared.Placing.{placed_left}
+use Rattle.monitor.proofs.Shared.Promised.{quiet_serves}
+use Rattle.monitor.proofs.Shared.ReadingJobs.{job_held, closed_reading, bare_readers}
+use Rattle.monitor.proofs.OtherCalls.Resetting.{reset_row}
+use Rattle.spec_machine.specs.declared.call.Event.TheVariants.{Call as Calls}
 use Rattle.monitor.proofs.reset.serve_reset.Goals as goal
 
 pub close_channels-requires-clause-live : goal.close_channels-requires-clause-live

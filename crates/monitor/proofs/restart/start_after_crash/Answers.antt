@@ -1,17 +1,13 @@
 use Rattle.std.proofs.Common.{◌≡◌, ⊎_elim, inl, inr, sym, subst, ◌∙◌}
 use Rattle.std.specs.Prelude.{IsTrue}
 use Rattle.std.proofs.lemmas.Result.{IfOk-weaker, IfErr-weaker}
-use Rattle.meaning.specs.Crashes.{may_change}
-use Rattle.meaning.specs.Jobs.{State}
-use Rattle.meaning.specs.Layouts.{pack_in, pack_of, StandsOn}
-use Rattle.meaning.specs.Published.{without_serials}
-use Rattle.meaning.specs.Runs.{Serving, IsStart}
-use Rattle.meaning.specs.Step.{step}
-use Rattle.meaning.proofs.Layouts.{stands_in_any}
-use Rattle.monitor.specs.Serving.{Serves}
-use Rattle.monitor.specs.Runs.{ServesFiles}
-use Rattle.monitor.proofs.Along.{along, no_fault, stopped_like, stands_again, ok_each, err_both, ok_either, ok_and}
-use Rattle.monitor.proofs.Along.{ok_pair, start_in}
+use Rattle.spec_machine.specs.Common.{may_change, State, Serving, IsStart, step}
+use Rattle.spec_image.specs.Common.{pack_in, pack_of, StandsOn, without_serials}
+use Rattle.spec_image.proofs.Common.{stands_in_any}
+use Rattle.monitor.specs.Common.{Serves, ServesFiles}
+use Rattle.monitor.proofs.Events.Along.{along, no_fault, stopped_like, stands_again, ok_each, ok_either, ok_and}
+use Rattle.monitor.proofs.Events.Along.{ok_pair, start_in}
+use Rattle.volume.proofs.Shared.Handing.{found_named}
 use Rattle.monitor.proofs.restart.start_after_crash.Goals as goal
 
 pub returns-clause-found : goal.returns-clause-found
@@ -49,7 +45,7 @@ returns-clause-refused g c h size pack blocks t s events replies new runs starts
     let here : StandsOn (pack_in pack.layout e.size) e.contents files =
     subst (λ n. StandsOn (pack_in pack.layout n) e.contents files) (sym size)
     (first.2 pack.layout files (subst (λ n. StandsOn (pack_in pack.layout n) first.0 files) blocks found.2)) in
-    err_both _ _ _ c.start.result (λ refused is kept h'. no_fault e (g.E.Disk.state refused.1) pack.layout files
+    found_named _ _ _ c.start.result (λ refused is kept h'. no_fault e (g.E.Disk.state refused.1) pack.layout files
     here refused.0 (is h') (kept h')) c.start.ensures.refused c.start.ensures.kept
 
 pub returns-clause-between : goal.returns-clause-between

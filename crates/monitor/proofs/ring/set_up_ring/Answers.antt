@@ -1,12 +1,11 @@
 use Rattle.std.proofs.Common.{rules, refl, sym, ap, ◌∙◌, subst, slice_set, Some}
-use Rattle.meaning.specs.Rings.{setup, buffers_of}
-use Rattle.retrieval.specs.Modes.{mode_number}
-use Rattle.meaning.specs.declared.call.Reply.TheVariants.{Done}
-use Rattle.monitor.specs.Rows.{KeepsSides, KeepsReading}
-use Rattle.monitor.specs.Sides.{job_of}
-use Rattle.monitor.proofs.Calling.{keeps_same, keeps_core, reads_core}
-use Rattle.monitor.proofs.RingsMade.{ring_done, ring_there, ok_gives}
-use Rattle.monitor.proofs.Usetos.{keeps_status, reads_status}
+use Rattle.spec_machine.specs.Common.{setup, buffers_of}
+use Rattle.retrieval.specs.Common.{mode_number}
+use Rattle.spec_machine.specs.declared.call.Reply.TheVariants.{Done}
+use Rattle.monitor.specs.Common.{KeepsSides, KeepsReading, job_of}
+use Rattle.monitor.proofs.Shared.Calling.{keeps_same, keeps_core, reads_core}
+use Rattle.monitor.proofs.OtherCalls.RingsMade.{ring_done, ring_there, ok_gives}
+use Rattle.monitor.proofs.OtherCalls.Usetos.{keeps_status, reads_status}
 use Rattle.monitor.proofs.ring.set_up_ring.Goals as goal
 
 pub returns-then-not-is_buffered-clause-keeps : goal.returns-then-not-is_buffered-clause-keeps

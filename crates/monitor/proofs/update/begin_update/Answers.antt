@@ -1,21 +1,13 @@
 use Rattle.std.proofs.Common.{◌≡◌, ◌∙◌, ℕ, sym, subst, Ok, Err, rules}
 use Rattle.std.specs.Prelude.{◌==◌}
 use Rattle.words36.specs.declared.names.FileName.{FileName}
-use Rattle.meaning.specs.Files.{Place}
-use Rattle.meaning.specs.Layouts.{pack_of}
-use Rattle.meaning.specs.Maps.{get}
-use Rattle.meaning.specs.Published.{without_serials}
-use Rattle.meaning.specs.Stands.{place_of}
-use Rattle.meaning.specs.declared.call.Reply.TheVariants.{Done}
-use Rattle.volume.specs.Live.{pending_at}
-use Rattle.volume.specs.Pins.{BeginsWithFile}
-use Rattle.volume.specs.Rest.{IsSoundCore}
-use Rattle.monitor.specs.Finding.{IsAnswer}
-use Rattle.monitor.specs.Sides.{job_of}
-use Rattle.monitor.specs.Updating.{allowed_update, update_answer_at}
-use Rattle.monitor.proofs.Answering.{contrary}
-use Rattle.monitor.proofs.Updates.{updates, may, refused, limited, begun, not_begun}
-use Rattle.monitor.proofs.Limits.{AllowsBegin}
+use Rattle.spec_image.specs.Common.{Place, pack_of, get, without_serials, place_of}
+use Rattle.spec_machine.specs.declared.call.Reply.TheVariants.{Done}
+use Rattle.volume.specs.Common.{pending_at, BeginsWithFile, IsSoundCore}
+use Rattle.monitor.specs.Common.{IsAnswer, job_of, allowed_update, update_answer_at}
+use Rattle.monitor.proofs.Shared.Answering.{contrary}
+use Rattle.monitor.proofs.Updating.Updates.{updates, may, refused, limited, begun, not_begun}
+use Rattle.monitor.proofs.Shared.Limits.{AllowsBegin}
 use Rattle.monitor.proofs.update.begin_update.Goals as goal
 
 pub returns-in-Ok-begin-clause-begun : goal.returns-in-Ok-begin-clause-begun

@@ -1,38 +1,24 @@
 use Rattle.std.proofs.Common.{◌≡◌, ◌≤◌, ◌+◌, ◌∙◌, ℕ, List, Option, Some, Ok, Err, refl, sym, ap, subst, slice_set}
 use Rattle.std.specs.Prelude.{◌==◌, ◌||◌, not}
 use Rattle.words36.specs.declared.names.FileName.{FileName}
-use Rattle.meaning.specs.Codes.{number_of}
-use Rattle.meaning.specs.Cores.{with_right}
-use Rattle.meaning.specs.Looking.{place_at, with_attributes}
-use Rattle.meaning.specs.Maps.{get, times}
-use Rattle.meaning.specs.Published.{same_place}
-use Rattle.meaning.specs.Stands.{place_of}
-use Rattle.meaning.specs.declared.call.Reply.TheVariants.{Refused}
-use Rattle.meaning.proofs.SoundLaws.{same_place-equal}
-use Rattle.meaning.specs.Layouts.{pack_of}
-use Rattle.volume.specs.Beginning.{begun}
-use Rattle.volume.specs.Claims.{claims}
-use Rattle.volume.specs.Live.{IsWholeCore, slot as version_at}
+use Rattle.spec_image.specs.Common.{number_of, get, times, same_place, place_of, pack_of}
+use Rattle.spec_machine.specs.Common.{with_right, place_at, with_attributes}
+use Rattle.spec_machine.specs.declared.call.Reply.TheVariants.{Refused}
+use Rattle.spec_machine.proofs.Common.{same_place-equal, is_none_of}
+use Rattle.volume.specs.Common.{begun, claims, IsWholeCore, slot as version_at, IsPinAnswer, prime_at, RestsAt}
 use Rattle.volume.specs.declared.live.LiveVersion.{LiveVersion}
-use Rattle.volume.specs.Pins.{IsPinAnswer}
-use Rattle.volume.specs.Places.{prime_at}
-use Rattle.volume.specs.Rest.{RestsAt}
-use Rattle.volume.proofs.PrimeBlocks.{begun_named}
-use Rattle.monitor.specs.Finding.{IsAnswer, file_begun}
-use Rattle.monitor.specs.Rows.{KeepsReading}
-use Rattle.monitor.specs.Sides.{readers_in, pins_of, job_of}
-use Rattle.monitor.specs.Readers.{readers_of}
-use Rattle.monitor.specs.Updating.{update_answer_at, updating_side}
+use Rattle.volume.proofs.Shared.PrimeBlocks.{begun_named}
+use Rattle.monitor.specs.Common.{IsAnswer, file_begun, KeepsReading, readers_in, pins_of, job_of, readers_of}
+use Rattle.monitor.specs.Common.{update_answer_at, updating_side}
 use Rattle.retrieval.specs.declared.prime.Prime.{Prime}
-use Rattle.monitor.proofs.Enters.{no_side}
-use Rattle.monitor.proofs.Lookups.{placed_still}
-use Rattle.monitor.proofs.Placing.{placed_begun}
-use Rattle.monitor.proofs.Renewals.{renews_with, renewed_reading, renewed_pending, renewed_known}
-use Rattle.monitor.proofs.Updates.{no_creation}
-use Rattle.monitor.proofs.UpdateRows.{out_of_order, done, refused, wanting, reader_held, few_kept, is_update_of}
-use Rattle.monitor.proofs.update.update.Goals as goal
+use Rattle.monitor.proofs.LookingUp.Lookups.{placed_still}
+use Rattle.monitor.proofs.Shared.Placing.{placed_begun}
+use Rattle.monitor.proofs.Shared.Renewals.{renews_with, renewed_reading, renewed_pending, renewed_known}
+use Rattle.monitor.proofs.Updating.Rows.{out_of_order, done, refused, wanting, reader_held, few_kept, is_update_of}
 use Rattle.monitor.proofs.update.update.Goals.{then-is_some-via-then-is_some}
 use Rattle.monitor.proofs.update.update.Goals.{then-is_some-via-else-is_some+then-not-names_input}
+use Rattle.volume.proofs.Beginning.BegunFiles.{update_creates}
+use Rattle.monitor.proofs.update.update.Goals as goal
 
 pub side_of-output-requires-clause-few : goal.side_of-output-requires-clause-few
 side_of-output-requires-clause-few g c =
@@ -47,7 +33,7 @@ renew-renewed-requires-clause-there g c none =
     let ppn : begins.1.ppn ≡ c.args.reading.1.ppn = begins.2 in
     let file : begins.1.file ≡ c.args.reading.1.file = begins.3 in
     begun_named c.args.volume.now.core between c.in-Ok.pending.key c.in-Ok.kind begins.1 begins.4
-    (no_creation c.in-Ok.kind begins.0) ((λ i. prime_at between (ppn i) (file i)) ∙ none)
+    (update_creates c.in-Ok.kind begins.0) ((λ i. prime_at between (ppn i) (file i)) ∙ none)
 
 pub renew-renewed-requires-clause-held : goal.renew-renewed-requires-clause-held
 renew-renewed-requires-clause-held g c =
@@ -75,7 +61,7 @@ returns-in-Ok-clause-begun g c is =
       record {
         there = c.requires.there;
         side = c.requires.side;
-        free = no_side c.args.reading.0.output (sym c.is_some.ensures ∙ c.if-is_some.false);
+        free = is_none_of c.args.reading.0.output (sym c.is_some.ensures ∙ c.if-is_some.false);
         named = λ w. same_place-equal _ _ (sym (c.names_input.ensures w) ∙ c.if-not-names_input.false);
         kind = c.in-Ok.kind;
         updates = begins.0;

@@ -1,10 +1,11 @@
 use Rattle.std.proofs.Common.{sym, ap, ◌∙◌, subst, Some, slice_set, arith}
-use Rattle.meaning.specs.declared.call.Call.TheVariants.{Useti}
-use Rattle.meaning.specs.declared.call.Reply.TheVariants.{Refused}
-use Rattle.monitor.specs.Rows.{IsRow}
-use Rattle.monitor.proofs.Calling.{keeps_same}
-use Rattle.monitor.proofs.Usetis.{useti_none, useti_refused, useti_stopped, useti_moved, keeps_read, reads_at}
-use Rattle.monitor.proofs.Usetos.{keeps_status, reads_status}
+use Rattle.spec_machine.specs.declared.call.Call.TheVariants.{Useti}
+use Rattle.spec_machine.specs.declared.call.Reply.TheVariants.{Refused}
+use Rattle.monitor.specs.Common.{IsRow}
+use Rattle.monitor.proofs.Shared.Calling.{keeps_same}
+use Rattle.monitor.proofs.OtherCalls.Usetis.{useti_none, useti_refused, useti_stopped, useti_moved, keeps_read}
+use Rattle.monitor.proofs.OtherCalls.Usetis.{reads_at}
+use Rattle.monitor.proofs.OtherCalls.Usetos.{keeps_status, reads_status}
 use Rattle.monitor.proofs.useti.useti.Goals as goal
 
 pub returns-in_default-clause-row : goal.returns-in_default-clause-row

@@ -1,6 +1,6 @@
 use Rattle.std.proofs.Common.{rules, ◌+◌, ◌<◌, ◌∙◌, length, take, arith}
 use Rattle.retrieval.proofs.KeptRuns.{drop_later, same_at, joined_more}
-use Rattle.retrieval.specs.Runs.{pairs_of}
+use Rattle.retrieval.specs.Common.{pairs_of}
 use Rattle.retrieval.proofs.block_list.join_all.Goals as goal
 
 pub loop-i-preserved : goal.loop-i-preserved

@@ -1,6 +1,6 @@
 use Rattle.std.proofs.Common.{◌≡◌, ◌≤◌, take, drop}
 use Rattle.std.specs.Prelude.{vec_len, vec_capacity}
-use Rattle.retrieval.specs.Runs.{blocks_of_runs, pairs_of, longest_runs}
+use Rattle.retrieval.specs.Common.{blocks_of_runs, pairs_of, longest_runs}
 use Rattle.retrieval.proofs.block_list.join_all.Given as goal
 
 abbrev pub invariant-loop-i : goal.invariant-loop-i

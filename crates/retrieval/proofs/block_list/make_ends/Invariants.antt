@@ -1,6 +1,6 @@
 use Rattle.std.proofs.Common.{◌≡◌, ◌≤◌, length, take}
 use Rattle.std.specs.Prelude.{vec_capacity}
-use Rattle.retrieval.specs.Runs.{blocks_of_runs, pairs_of, ends_of}
+use Rattle.retrieval.specs.Common.{blocks_of_runs, pairs_of, ends_of}
 use Rattle.retrieval.proofs.block_list.make_ends.Given as goal
 
 abbrev pub invariant-loop-run : goal.invariant-loop-run

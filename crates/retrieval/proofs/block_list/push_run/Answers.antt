@@ -1,6 +1,7 @@
-use Rattle.std.proofs.Common.{◌≡◌, ◌-◌, ◌++◌, ◌∷◌, [], ◌∙◌, ap, sym, subst, length, take, List, slice_set, arith, rules}
+use Rattle.std.proofs.Common.{◌≡◌, ◌-◌, ◌++◌, ◌∷◌, [], ◌∙◌, ap, sym, subst, length, take, List, slice_set, arith}
+use Rattle.std.proofs.Common.{rules}
 use Rattle.std.proofs.lemmas.List.{take_all, length-set}
-use Rattle.retrieval.specs.Runs.{pairs_of, pair_of, behind}
+use Rattle.retrieval.specs.Common.{pairs_of, pair_of, behind}
 use Rattle.retrieval.specs.declared.run.Run.{Run as RunValue}
 use Rattle.retrieval.proofs.KeptRuns.{set_before}
 use Rattle.retrieval.proofs.RunEnds.{count_ends, ends_joined, ends_pushed}

@@ -1,6 +1,6 @@
 use Rattle.std.proofs.Common.{◌<◌, ◌∙◌, ap, sym, length, flat_map, slice_set, refl, rules}
-use Rattle.meaning.specs.Retrieval.{run_blocks}
-use Rattle.retrieval.specs.Runs.{blocks_of_runs, longest_runs, part_blocks}
+use Rattle.spec_image.specs.Common.{run_blocks}
+use Rattle.retrieval.specs.Common.{blocks_of_runs, longest_runs, part_blocks}
 use Rattle.retrieval.proofs.LongestRuns.{blocks_of_longest}
 use Rattle.retrieval.proofs.KeptRuns.{parts_put, put_in, offset_at}
 use Rattle.retrieval.proofs.block_list.put_at.Goals as goal

@@ -1,11 +1,9 @@
 use Rattle.std.proofs.Common.{◌≡◌, ◌+◌, ◌-◌, ◌*◌, ◌<◌, ◌≤◌, ℕ, length, sym, ap, subst, ◌∙◌, refl, arith, min}
 use Rattle.std.specs.Prelude.{slice_index}
 use Rattle.std.proofs.lemmas.Result.{err_from_is_err_and}
-use Rattle.blockdisk.specs.Disk.{Contents}
-use Rattle.blockdisk.specs.Laws.{same_contents, same_disk_on, keeps_on}
-use Rattle.meaning.specs.Faults.{InSpace}
-use Rattle.meaning.specs.Splices.{block_start}
-use Rattle.retrieval.specs.Bodies.{StandsAt}
+use Rattle.blockdisk.specs.Common.{Contents, same_contents, same_disk_on, keeps_on}
+use Rattle.spec_image.specs.Common.{InSpace, block_start}
+use Rattle.retrieval.specs.Common.{StandsAt}
 use Rattle.retrieval.specs.declared.error.BodyError.TheVariants.{BadData}
 use Rattle.retrieval.proofs.Parts.{all_at, whole_from, damaged_at, read_all}
 use Rattle.retrieval.proofs.RunReads.{read_run_more, none_damaged, damaged_place}

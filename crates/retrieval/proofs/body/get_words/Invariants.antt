@@ -1,9 +1,8 @@
 use Rattle.std.proofs.Common.{◌≡◌, ◌+◌, ◌-◌, ◌*◌, ◌<◌, ◌≤◌, ℕ, List, length, min, None}
 use Rattle.std.specs.Prelude.{slice_index, vec_capacity}
-use Rattle.blockdisk.specs.Disk.{Keeps, SameDisk}
-use Rattle.meaning.specs.Retrieval.{HasBody}
-use Rattle.meaning.specs.Splices.{block_start}
-use Rattle.retrieval.specs.Bodies.{AreWhole}
+use Rattle.blockdisk.specs.Common.{Keeps, SameDisk}
+use Rattle.spec_image.specs.Common.{HasBody, block_start}
+use Rattle.retrieval.specs.Common.{AreWhole}
 use Rattle.retrieval.proofs.body.get_words.Given as goal
 
 abbrev pub invariant-loop-done : goal.invariant-loop-done

@@ -2,10 +2,8 @@ use Rattle.std.proofs.Common.{◌-◌, ◌<◌, ◌≤◌, ◌^◌, ℕ, List, �
 use Rattle.std.proofs.Common.{ap, ◌∙◌}
 use Rattle.std.specs.List.{AllByRecursion}
 use Rattle.std.proofs.lemmas.List.{length-map, take-map}
-use Rattle.meaning.specs.Blocks.{head_or_zero}
-use Rattle.meaning.specs.Retrieval.{Run, IsRun, pointer}
-use Rattle.retrieval.specs.Primes.{with_length}
-use Rattle.retrieval.specs.Runs.{pair_of, pairs_of, longest_runs}
+use Rattle.spec_image.specs.Common.{head_or_zero, Run, IsRun, pointer}
+use Rattle.retrieval.specs.Common.{with_length, pair_of, pairs_of, longest_runs}
 use Rattle.retrieval.proofs.Building.{block_written, all_first, runs_fit}
 use Rattle.retrieval.proofs.build.prime_block.Goals as goal
 

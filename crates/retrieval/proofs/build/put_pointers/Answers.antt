@@ -1,7 +1,7 @@
 use Rattle.std.proofs.Common.{◌+◌, ℕ, List, take, slice_set, ap, ◌∙◌, arith}
 use Rattle.std.proofs.lemmas.List.{length-take-le}
-use Rattle.meaning.specs.Retrieval.{pointer}
-use Rattle.retrieval.specs.Runs.{pair_of}
+use Rattle.spec_image.specs.Common.{pointer}
+use Rattle.retrieval.specs.Common.{pair_of}
 use Rattle.retrieval.proofs.Building.{put_in_prime, fits_at}
 use Rattle.retrieval.proofs.build.put_pointers.Goals as goal
 

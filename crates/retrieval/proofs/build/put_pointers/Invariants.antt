@@ -1,6 +1,6 @@
 use Rattle.std.proofs.Common.{◌≡◌, ◌-◌, ◌++◌, map, take, replicate}
-use Rattle.meaning.specs.Retrieval.{pointer}
-use Rattle.retrieval.specs.Runs.{pairs_of}
+use Rattle.spec_image.specs.Common.{pointer}
+use Rattle.retrieval.specs.Common.{pairs_of}
 use Rattle.retrieval.proofs.build.put_pointers.Given as goal
 
 abbrev pub invariant-loop-i : goal.invariant-loop-i

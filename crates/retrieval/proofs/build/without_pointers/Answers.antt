@@ -1,6 +1,6 @@
 use Rattle.std.proofs.Common.{ℕ, List, ◌∙◌, ap}
-use Rattle.meaning.specs.Blocks.{head_or_zero}
-use Rattle.retrieval.specs.Primes.{with_length}
+use Rattle.spec_image.specs.Common.{head_or_zero}
+use Rattle.retrieval.specs.Common.{with_length}
 use Rattle.retrieval.proofs.Building.{front_written}
 use Rattle.retrieval.proofs.build.without_pointers.Goals as goal
 

@@ -1,6 +1,6 @@
 use Rattle.std.proofs.Common.{ℕ, ◌%◌, ◌^◌, subst, arith}
 use Rattle.std.proofs.lemmas.List.{get_or_default}
-use Rattle.retrieval.specs.Heads.{IsAttributes}
+use Rattle.retrieval.specs.Common.{IsAttributes}
 use Rattle.retrieval.proofs.Spellings.{none_when}
 use Rattle.retrieval.proofs.head.prime_head.Goals as goal
 

@@ -1,10 +1,8 @@
 use Rattle.std.proofs.Common.{◌≡◌, ◌==◌, drop, take, rules}
 use Rattle.std.proofs.lemmas.Bool.Decides.{Decides-eqb}
 use Rattle.std.proofs.lemmas.Slice.Eq.{slice_eq-Decides}
-use Rattle.meaning.specs.Blocks.{head_or_zero}
-use Rattle.meaning.specs.Layouts.{layout_number}
-use Rattle.retrieval.specs.Pointers.{runs_of}
-use Rattle.retrieval.specs.Primes.{with_length}
+use Rattle.spec_image.specs.Common.{head_or_zero, layout_number}
+use Rattle.retrieval.specs.Common.{runs_of, with_length}
 use Rattle.retrieval.proofs.MatchedPrimes.{is_prime, prime_anew}
 use Rattle.retrieval.proofs.Writing.{is_mode}
 use Rattle.retrieval.proofs.parse.is_prime_of.Goals as goal

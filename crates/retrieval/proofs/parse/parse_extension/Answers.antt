@@ -1,5 +1,5 @@
 use Rattle.std.proofs.Common.{ℕ, List, length, drop, sym, subst}
-use Rattle.retrieval.specs.Pointers.{ArePointers}
+use Rattle.retrieval.specs.Common.{ArePointers}
 use Rattle.retrieval.proofs.Spellings.{none_when, words_from, extension_spelled, extension_parts, extension_count}
 use Rattle.retrieval.proofs.parse.parse_extension.Goals as goal
 

@@ -1,7 +1,6 @@
 use Rattle.std.proofs.Common.{ℕ, List, length, drop, sym, subst}
-use Rattle.meaning.specs.Layouts.{layout_number}
-use Rattle.retrieval.specs.Pointers.{ArePointers}
-use Rattle.retrieval.specs.Primes.{with_length}
+use Rattle.spec_image.specs.Common.{layout_number}
+use Rattle.retrieval.specs.Common.{ArePointers, with_length}
 use Rattle.retrieval.proofs.Spellings.{none_when, words_from, prime_spelled, prime_parts, prime_count}
 use Rattle.retrieval.proofs.parse.parse_prime.Goals as goal
 

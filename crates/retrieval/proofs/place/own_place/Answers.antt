@@ -1,7 +1,7 @@
 use Rattle.std.proofs.Common.{◌≡◌, ◌+◌, ℕ, List, sym, ap, ◌∙◌, subst, arith}
-use Rattle.meaning.specs.Maps.{times}
-use Rattle.alloctab.specs.TableState.{bit, holds}
-use Rattle.retrieval.specs.Bodies.{IsOwn}
+use Rattle.spec_image.specs.Common.{times}
+use Rattle.alloctab.specs.Common.{bit, holds}
+use Rattle.retrieval.specs.Common.{IsOwn}
 use Rattle.retrieval.proofs.Holding.{used_le_uses, held_once, still_held, swapped}
 use Rattle.retrieval.proofs.place.own_place.Goals as goal
 

@@ -2,12 +2,10 @@ use Rattle.std.proofs.Common.{◌≡◌, ◌+◌, ◌<◌, ◌≤◌, ℕ, List,
 use Rattle.std.specs.Prelude.{slice_index}
 use Rattle.std.specs.List.{AllByRecursion}
 use Rattle.std.proofs.lemmas.List.{length-set}
-use Rattle.meaning.specs.Faults.{InSpace}
-use Rattle.meaning.specs.Maps.{times}
-use Rattle.retrieval.specs.Bodies.{IsOwn, AddsFree, KeepsOwn}
-use Rattle.retrieval.specs.Placing.{StandAlone}
-use Rattle.retrieval.proofs.Placed.{same_on, size_same, own_before, held_again, inside_set}
-use Rattle.retrieval.proofs.Placed.{adds_set, few_more, stays_more}
+use Rattle.spec_image.specs.Common.{InSpace, times}
+use Rattle.retrieval.specs.Common.{IsOwn, AddsFree, KeepsOwn, StandAlone}
+use Rattle.retrieval.proofs.Placed.{same_on, size_same, own_before, held_again, inside_set, adds_set, few_more}
+use Rattle.retrieval.proofs.Placed.{stays_more}
 use Rattle.retrieval.proofs.PlaceWrites.{apart_more, own_more, others_more}
 use Rattle.retrieval.proofs.place.own_places.Goals as goal
 

@@ -1,11 +1,9 @@
 use Rattle.std.proofs.Common.{◌≡◌, ◌⊎◌, ◌≤◌, ◌<◌, ◌+◌, ◌-◌, ◌*◌, ℕ, length}
 use Rattle.std.specs.Prelude.{slice_index}
 use Rattle.std.specs.List.{AllByRecursion}
-use Rattle.meaning.specs.Faults.{InSpace}
-use Rattle.meaning.specs.Maps.{times}
-use Rattle.alloctab.specs.TableState.{holds, uses}
-use Rattle.retrieval.specs.Bodies.{IsOwn, AddsFree, KeepsOwn}
-use Rattle.retrieval.specs.Placing.{StandAlone}
+use Rattle.spec_image.specs.Common.{InSpace, times}
+use Rattle.alloctab.specs.Common.{holds, uses}
+use Rattle.retrieval.specs.Common.{IsOwn, AddsFree, KeepsOwn, StandAlone}
 use Rattle.retrieval.proofs.place.own_places.Given as goal
 
 abbrev pub invariant-loop-i : goal.invariant-loop-i

@@ -1,7 +1,7 @@
 use Rattle.std.proofs.Common.{◌+◌, ◌<◌, ◌≤◌, ◌∙◌, ℕ, length, refl, arith, rules}
-use Rattle.blockdisk.specs.Laws.{modifies_start, same_disk_start, same_disk_on}
-use Rattle.meaning.specs.Costs.{blocks_of}
-use Rattle.retrieval.specs.Placing.{AtPlace}
+use Rattle.blockdisk.specs.Common.{modifies_start, same_disk_start, same_disk_on}
+use Rattle.spec_image.specs.Common.{blocks_of}
+use Rattle.retrieval.specs.Common.{AtPlace}
 use Rattle.retrieval.proofs.PlaceWrites.{written_more, more_modified}
 use Rattle.retrieval.proofs.place.write_all.Goals as goal
 

@@ -1,8 +1,8 @@
 use Rattle.std.proofs.Common.{◌≡◌, ◌≤◌, ◌<◌, ◌+◌, ◌-◌, ℕ, length}
 use Rattle.std.specs.Prelude.{slice_index}
-use Rattle.blockdisk.specs.Disk.{SameDisk, Modifies}
-use Rattle.meaning.specs.Costs.{blocks_of}
-use Rattle.retrieval.specs.Placing.{AtPlace, HoldsNew}
+use Rattle.blockdisk.specs.Common.{SameDisk, Modifies}
+use Rattle.spec_image.specs.Common.{blocks_of}
+use Rattle.retrieval.specs.Common.{AtPlace, HoldsNew}
 use Rattle.retrieval.proofs.place.write_all.Given as goal
 
 abbrev pub invariant-loop-i : goal.invariant-loop-i

@@ -1,11 +1,10 @@
 use Rattle.std.proofs.Common.{◌≡◌, ◌+◌, ◌-◌, ◌/◌, ◌<◌, ◌≤◌, ℕ, length, take, drop, arith}
 use Rattle.std.specs.Prelude.{slice_index}
 use Rattle.std.specs.Simd.{first_chunks}
-use Rattle.meaning.specs.Costs.{blocks_of}
-use Rattle.meaning.specs.Faults.{InSpace}
+use Rattle.spec_image.specs.Common.{blocks_of, InSpace}
 use Rattle.retrieval.proofs.Parts.{all_at}
-use Rattle.retrieval.proofs.PlaceWrites.{run_written, one_first, one_written, run_modifies, one_modifies}
-use Rattle.retrieval.proofs.PlaceWrites.{part_is, part_size, filled_fits, filled_within, whole_words}
+use Rattle.retrieval.proofs.PlaceWrites.{run_written, one_first, one_written, run_modifies, one_modifies, part_is}
+use Rattle.retrieval.proofs.PlaceWrites.{part_size, filled_fits, filled_within, whole_words}
 use Rattle.retrieval.proofs.place.write_some.Goals as goal
 
 pub returns-in_err-write-clause-modified : goal.returns-in_err-write-clause-modified

@@ -1,14 +1,12 @@
 use Rattle.std.proofs.Common.{◌≡◌, ◌+◌, ◌-◌, ◌/◌, ℕ, length, min, sym, ◌∙◌, subst, arith}
 use Rattle.std.specs.List.{AllByRecursion}
-use Rattle.blockdisk.specs.Laws.{modifies_on, modifies_wider, still_modifies, keeps_still}
-use Rattle.meaning.specs.Costs.{blocks_of}
-use Rattle.meaning.specs.Faults.{InSpace}
-use Rattle.retrieval.specs.Bodies.{IsOwn}
-use Rattle.retrieval.specs.Placing.{IsPartlyPlaced}
+use Rattle.blockdisk.specs.Common.{modifies_on, modifies_wider, still_modifies, keeps_still}
+use Rattle.spec_image.specs.Common.{blocks_of, InSpace}
+use Rattle.retrieval.specs.Common.{IsOwn, IsPartlyPlaced}
 use Rattle.retrieval.proofs.Growing.{grown, grown_length, grown_keeps, after_some}
 use Rattle.retrieval.proofs.Holding.{used_le_uses}
-use Rattle.retrieval.proofs.Placed.{size_same, booked_same, fixed_on, room_on, same_on, held_on, own_before, held_again}
-use Rattle.retrieval.proofs.Placed.{adds_on}
+use Rattle.retrieval.proofs.Placed.{size_same, booked_same, fixed_on, room_on, same_on, held_on, own_before}
+use Rattle.retrieval.proofs.Placed.{held_again, adds_on}
 use Rattle.retrieval.proofs.Putting.{body_put}
 use Rattle.retrieval.proofs.Parts.{whole_from}
 use Rattle.retrieval.proofs.put.put_into.Goals as goal

@@ -1,5 +1,5 @@
-use Rattle.blockdisk.specs.Laws.{modifies_start}
-use Rattle.retrieval.specs.Bodies.{IsOwn}
+use Rattle.blockdisk.specs.Common.{modifies_start}
+use Rattle.retrieval.specs.Common.{IsOwn}
 use Rattle.retrieval.proofs.put.put_words.Goals as goal
 
 pub returns-then-is_empty-clause-modified : goal.returns-then-is_empty-clause-modified

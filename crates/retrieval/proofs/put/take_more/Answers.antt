@@ -1,6 +1,6 @@
-use Rattle.std.proofs.Common.{◌≡◌, ◌++◌, ◌∷◌, [], ℕ, List, length, refl, sym, ap, subst, ◌∙◌, arith}
-use Rattle.std.proofs.Common.{append-nil, append_assoc, length-append}
-use Rattle.retrieval.specs.Writing.{Takes, GrowsBy}
+use Rattle.std.proofs.Common.{◌≡◌, ◌++◌, ◌∷◌, [], ℕ, List, length, refl, sym, ap, subst, ◌∙◌, arith, append-nil}
+use Rattle.std.proofs.Common.{append_assoc, length-append}
+use Rattle.retrieval.specs.Common.{Takes, GrowsBy}
 use Rattle.retrieval.proofs.Taking.{room, takes_stays, takes_more}
 use Rattle.retrieval.proofs.put.take_more.Goals as goal
 

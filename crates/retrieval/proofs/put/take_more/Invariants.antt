@@ -1,5 +1,5 @@
 use Rattle.std.proofs.Common.{◌≤◌, ◌+◌}
-use Rattle.retrieval.specs.Writing.{GrowsBy}
+use Rattle.retrieval.specs.Common.{GrowsBy}
 use Rattle.retrieval.proofs.put.take_more.Given as goal
 
 abbrev pub invariant-loop : goal.invariant-loop

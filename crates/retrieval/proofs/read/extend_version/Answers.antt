@@ -1,7 +1,6 @@
 use Rattle.std.proofs.Common.{◌≡◌, ◌+◌, ◌-◌, ℕ, inl, take, drop, Err, sym, ap, subst, ◌∙◌, eq-eqb, arith}
-use Rattle.meaning.specs.Faults.{RunsInSpace}
-use Rattle.retrieval.specs.Pointers.{runs_of}
-use Rattle.retrieval.specs.Reading.{IsBadExtension}
+use Rattle.spec_image.specs.Common.{RunsInSpace}
+use Rattle.retrieval.specs.Common.{runs_of, IsBadExtension}
 use Rattle.retrieval.proofs.Stops.{extension_stuck}
 use Rattle.retrieval.proofs.Spellings.{count_is, words_counted}
 use Rattle.retrieval.proofs.read.extend_version.Goals as goal

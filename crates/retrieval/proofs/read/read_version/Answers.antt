@@ -1,17 +1,13 @@
 use Rattle.std.proofs.Common.{◌≡◌, inl, inr, ⊎_elim, ℕ, ◌<◌, ◌≤◌, length, Some, sym, ap, subst, ◌∙◌, arith}
 use Rattle.std.proofs.lemmas.Result.{err_from_is_err_and}
 use Rattle.std.specs.List.{AllByRecursion}
-use Rattle.meaning.specs.Faults.{InSpace}
-use Rattle.blockdisk.specs.Laws.{same_disk_on}
-use Rattle.meaning.specs.Costs.{blocks_of}
-use Rattle.meaning.specs.Layouts.{layout_number}
-use Rattle.retrieval.specs.Versions.{VersionState}
-use Rattle.retrieval.specs.Reading.{IsReadTo, IsVersionAt}
+use Rattle.spec_image.specs.Common.{InSpace, blocks_of, layout_number}
+use Rattle.blockdisk.specs.Common.{same_disk_on, keeps_on}
+use Rattle.retrieval.specs.Common.{VersionState, IsReadTo, IsVersionAt}
 use Rattle.retrieval.specs.declared.error.RetrievalError.TheVariants.{BadRetrieval}
-use Rattle.blockdisk.specs.Laws.{keeps_on}
-use Rattle.retrieval.proofs.Readings.{read_started, read_more, damaged_extension, bad_extension}
-use Rattle.retrieval.proofs.Readings.{bad_overfilled, read_whole, bad_count, damaged_prime, bad_prime, extended_longer}
-use Rattle.retrieval.proofs.Readings.{none_wrong, extended_blocks, extended_ribs, falls, bad_of}
+use Rattle.retrieval.proofs.Readings.{read_started, read_more, damaged_extension, bad_extension, bad_overfilled}
+use Rattle.retrieval.proofs.Readings.{read_whole, bad_count, damaged_prime, bad_prime, extended_longer, none_wrong}
+use Rattle.retrieval.proofs.Readings.{extended_blocks, extended_ribs, falls, bad_of}
 use Rattle.retrieval.proofs.RibCounts.{started_filled, extended_filled, filled_few}
 use Rattle.retrieval.proofs.Whole.{read_as}
 use Rattle.changeset.proofs.Reading.{passed_on}

@@ -1,10 +1,8 @@
 use Rattle.std.proofs.Common.{◌≡◌, ◌<◌, ◌≤◌, ◌-◌, length}
 use Rattle.std.specs.List.{AllByRecursion}
-use Rattle.meaning.specs.Faults.{InSpace}
-use Rattle.blockdisk.specs.Disk.{SameDisk, Keeps}
-use Rattle.meaning.specs.Costs.{blocks_of}
-use Rattle.meaning.specs.Layouts.{layout_number}
-use Rattle.retrieval.specs.Reading.{IsReadTo}
+use Rattle.spec_image.specs.Common.{InSpace, blocks_of, layout_number}
+use Rattle.blockdisk.specs.Common.{SameDisk, Keeps}
+use Rattle.retrieval.specs.Common.{IsReadTo}
 use Rattle.retrieval.proofs.RibCounts.{AreFilled}
 use Rattle.retrieval.proofs.read.read_version.Given as goal
 

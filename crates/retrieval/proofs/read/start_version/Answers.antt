@@ -1,11 +1,6 @@
 use Rattle.std.proofs.Common.{◌≡◌, ◌+◌, ◌-◌, ℕ, length, take, drop, flat_map, Err, sym, ap, subst, ◌∙◌, eq-eqb, arith}
-use Rattle.meaning.specs.Layouts.{layout_number}
-use Rattle.meaning.specs.Retrieval.{run_blocks}
-use Rattle.meaning.specs.Faults.{RunsInSpace}
-use Rattle.retrieval.specs.Pointers.{runs_of}
-use Rattle.retrieval.specs.Primes.{with_length}
-use Rattle.retrieval.specs.Reading.{IsBadPrime}
-use Rattle.retrieval.specs.Versions.{VersionState}
+use Rattle.spec_image.specs.Common.{layout_number, run_blocks, RunsInSpace}
+use Rattle.retrieval.specs.Common.{runs_of, with_length, IsBadPrime, VersionState}
 use Rattle.retrieval.proofs.Stops.{prime_stuck}
 use Rattle.retrieval.proofs.Spellings.{count_is, words_counted}
 use Rattle.retrieval.proofs.read.start_version.Goals as goal

@@ -1,7 +1,7 @@
 use Rattle.std.proofs.Common.{◌≡◌, length, ap, ◌∙◌, arith, length-append}
-use Rattle.words36.specs.Words.{left, right}
-use Rattle.meaning.specs.Retrieval.{count_up}
-use Rattle.retrieval.specs.Versions.{VersionState}
+use Rattle.words36.specs.Common.{left, right}
+use Rattle.spec_image.specs.Common.{count_up}
+use Rattle.retrieval.specs.Common.{VersionState}
 use Rattle.retrieval.proofs.RunLists.{length-count_up, run_inside, run_ends}
 use Rattle.retrieval.proofs.runs.push_pointer.Goals as goal
 

@@ -1,6 +1,6 @@
 use Rattle.std.proofs.Common.{◌+◌, ◌∷◌, [], ap, ◌∙◌, sym}
-use Rattle.meaning.specs.Retrieval.{count_up}
-use Rattle.retrieval.specs.Versions.{VersionState, with_blocks}
+use Rattle.spec_image.specs.Common.{count_up}
+use Rattle.retrieval.specs.Common.{VersionState, with_blocks}
 use Rattle.retrieval.proofs.RunLists.{count_more, with_more}
 use Rattle.retrieval.proofs.runs.push_run.Goals as goal
 

@@ -1,6 +1,6 @@
 use Rattle.std.proofs.Common.{◌≡◌}
-use Rattle.meaning.specs.Retrieval.{count_up}
-use Rattle.retrieval.specs.Versions.{with_blocks}
+use Rattle.spec_image.specs.Common.{count_up}
+use Rattle.retrieval.specs.Common.{with_blocks}
 use Rattle.retrieval.proofs.runs.push_run.Given as goal
 
 abbrev pub invariant-loop-i : goal.invariant-loop-i

@@ -1,8 +1,7 @@
 use Rattle.std.proofs.Common.{length, take, flat_map, ap, arith, length-append}
 use Rattle.std.proofs.lemmas.Result.{err_from_is_err_and}
-use Rattle.meaning.specs.Retrieval.{run_blocks}
-use Rattle.retrieval.specs.Pointers.{runs_of}
-use Rattle.retrieval.specs.Versions.{VersionState}
+use Rattle.spec_image.specs.Common.{run_blocks}
+use Rattle.retrieval.specs.Common.{runs_of, VersionState}
 use Rattle.retrieval.specs.declared.runs.RunError.TheVariants.{Outside, TooMany}
 use Rattle.retrieval.proofs.PointerLists.{run_at}
 use Rattle.retrieval.proofs.RunLists.{inside_at, counted_at}

@@ -1,8 +1,6 @@
 use Rattle.std.proofs.Common.{◌≡◌, ◌≤◌, length, take, flat_map}
-use Rattle.meaning.specs.Retrieval.{run_blocks}
-use Rattle.meaning.specs.Faults.{RunsInSpace}
-use Rattle.retrieval.specs.Pointers.{runs_of}
-use Rattle.retrieval.specs.Versions.{with_blocks}
+use Rattle.spec_image.specs.Common.{run_blocks, RunsInSpace}
+use Rattle.retrieval.specs.Common.{runs_of, with_blocks}
 use Rattle.retrieval.proofs.runs.push_runs.Given as goal
 
 abbrev pub invariant-loop-word : goal.invariant-loop-word

@@ -1,7 +1,7 @@
 use Rattle.std.proofs.Common.{◌+◌, ℕ, List, slice_set, length, ap, ◌∙◌}
-use Rattle.words36.specs.Words.{join}
-use Rattle.meaning.specs.Retrieval.{extension_half, pointer}
-use Rattle.retrieval.specs.Runs.{pair_of}
+use Rattle.words36.specs.Common.{join}
+use Rattle.spec_image.specs.Common.{extension_half, pointer}
+use Rattle.retrieval.specs.Common.{pair_of}
 use Rattle.retrieval.proofs.Building.{put_in_extension, fits_at}
 use Rattle.retrieval.proofs.write.extension_of.Goals as goal
 

@@ -1,6 +1,6 @@
 use Rattle.std.proofs.Common.{◌≡◌, ◌-◌, ◌∷◌, ◌++◌, length, take, replicate}
-use Rattle.words36.specs.Words.{join}
-use Rattle.meaning.specs.Retrieval.{extension_half}
+use Rattle.words36.specs.Common.{join}
+use Rattle.spec_image.specs.Common.{extension_half}
 use Rattle.retrieval.proofs.Building.{pointers}
 use Rattle.retrieval.proofs.write.extension_of.Given as goal
 

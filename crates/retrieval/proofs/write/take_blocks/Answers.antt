@@ -1,7 +1,7 @@
 use Rattle.std.proofs.Common.{◌++◌, ◌∷◌, [], ℕ, List, take, subst, sym, ◌∙◌, arith}
 use Rattle.std.proofs.lemmas.List.{take_more_set, length-take-le, length-set}
-use Rattle.alloctab.specs.TableState.{TableState}
-use Rattle.retrieval.specs.Writing.{Takes}
+use Rattle.alloctab.specs.Common.{TableState}
+use Rattle.retrieval.specs.Common.{Takes}
 use Rattle.retrieval.proofs.Taking.{room, takes_stays, takes_more}
 use Rattle.retrieval.proofs.write.take_blocks.Goals as goal
 

@@ -1,5 +1,5 @@
 use Rattle.std.proofs.Common.{◌≡◌, length, take}
-use Rattle.retrieval.specs.Writing.{Takes}
+use Rattle.retrieval.specs.Common.{Takes}
 use Rattle.retrieval.proofs.write.take_blocks.Given as goal
 
 abbrev pub invariant-loop-i : goal.invariant-loop-i

@@ -1,7 +1,6 @@
 use Rattle.std.proofs.Common.{◌≡◌, length, ap, sym, ◌∙◌, arith}
 use Rattle.std.proofs.lemmas.List.{length-map}
-use Rattle.retrieval.specs.Runs.{pair_of, ribs_of}
-use Rattle.retrieval.specs.Writing.{rib_count}
+use Rattle.retrieval.specs.Common.{pair_of, ribs_of, rib_count}
 use Rattle.retrieval.proofs.Taking.{fits_after}
 use Rattle.retrieval.proofs.write.take_retrieval_blocks.Goals as goal
 

@@ -2,15 +2,11 @@ use Rattle.std.proofs.Common.{ℕ, List, subst, sym, ap, ◌∷◌, ◌-◌, ◌
 use Rattle.std.proofs.Common.{◌≡◌, OnOk, Some}
 use Rattle.std.specs.List.{AllByRecursion}
 use Rattle.std.proofs.lemmas.List.{drop-map}
-use Rattle.blockdisk.specs.Laws.{modifies_wider, modifies_write}
-use Rattle.blockdisk.specs.Disk.{Modifies}
-use Rattle.meaning.specs.Retrieval.{AreExtensions, IsPrime, IsRun}
-use Rattle.retrieval.specs.Runs.{pair_of, pairs_of, longest_runs}
+use Rattle.blockdisk.specs.Common.{modifies_wider, modifies_write, Modifies}
+use Rattle.spec_image.specs.Common.{AreExtensions, IsPrime, IsRun, times}
+use Rattle.retrieval.specs.Common.{pair_of, pairs_of, longest_runs, extensions_of, with_length}
 use Rattle.retrieval.proofs.Building.{runs_fit, all_later}
 use Rattle.retrieval.proofs.LongestRuns.{blocks_of_longest}
-use Rattle.retrieval.specs.Writing.{extensions_of}
-use Rattle.meaning.specs.Maps.{times}
-use Rattle.retrieval.specs.Primes.{with_length}
 use Rattle.retrieval.proofs.Writing.{retrieved_on, extended_on, behind, drop_min, is_in, in_later, is_mode}
 use Rattle.retrieval.proofs.write.write_retrieval_blocks.Goals as goal
 

@@ -1,16 +1,12 @@
 use Rattle.std.proofs.Common.{◌∷◌, ◌<◌, ◌^◌, ℕ, sym, subst}
 use Rattle.std.specs.List.{AllByRecursion}
-use Rattle.words36.specs.Words.{IsPpn}
-use Rattle.blockdisk.specs.Laws.{modifies_wider, modifies_start}
-use Rattle.meaning.specs.Faults.{InSpace}
-use Rattle.meaning.specs.Maps.{times}
-use Rattle.alloctab.specs.TableState.{IsFree}
-use Rattle.retrieval.specs.Primes.{with_length}
-use Rattle.retrieval.specs.Reading.{IsStandingVersion}
-use Rattle.retrieval.specs.Versions.{VersionState}
-use Rattle.retrieval.proofs.Taking.{takes_apart, takes_inside, takes_nonzero, may_be_written}
-use Rattle.retrieval.proofs.Taking.{later}
-use Rattle.meaning.proofs.Walking.{all_times}
+use Rattle.words36.specs.Common.{IsPpn}
+use Rattle.blockdisk.specs.Common.{modifies_wider, modifies_start}
+use Rattle.spec_image.specs.Common.{InSpace, times}
+use Rattle.alloctab.specs.Common.{IsFree}
+use Rattle.retrieval.specs.Common.{with_length, IsStandingVersion, VersionState}
+use Rattle.retrieval.proofs.Taking.{takes_apart, takes_inside, takes_nonzero, may_be_written, later}
+use Rattle.spec_image.proofs.Common.{all_times}
 use Rattle.retrieval.proofs.Whole.{whole_version}
 use Rattle.retrieval.proofs.write.write_version.Goals as goal
 

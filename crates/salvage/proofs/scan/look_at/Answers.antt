@@ -1,7 +1,7 @@
 use Rattle.std.proofs.Common.{◌+◌, refl}
-use Rattle.meaning.specs.Layouts.{layout_number}
-use Rattle.volume.proofs.Marking.{on_ok}
-use Rattle.salvage.specs.Looking.{AreFound, IsReadAt}
+use Rattle.spec_image.specs.Common.{layout_number}
+use Rattle.volume.proofs.Shared.Marking.{on_ok}
+use Rattle.salvage.specs.Common.{AreFound, IsReadAt}
 use Rattle.salvage.proofs.LookedAt.{found_passed, found_more}
 use Rattle.salvage.proofs.scan.look_at.Goals as goal
 

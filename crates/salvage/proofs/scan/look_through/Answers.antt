@@ -1,10 +1,9 @@
 use Rattle.std.proofs.Common.{◌≡◌, ℕ, ◌≤◌, sym, subst, ◌∙◌, arith}
 use Rattle.std.specs.List.{AllByRecursion}
-use Rattle.blockdisk.specs.Laws.{same_contents, same_disk_on}
-use Rattle.meaning.specs.Layouts.{layout_number}
-use Rattle.meaning.specs.Regions.{space_start}
+use Rattle.blockdisk.specs.Common.{same_contents, same_disk_on}
+use Rattle.spec_image.specs.Common.{layout_number, space_start}
 use Rattle.changeset.proofs.Reading.{only_reads_on}
-use Rattle.salvage.specs.Saved.{FitsDisk}
+use Rattle.salvage.specs.Common.{FitsDisk}
 use Rattle.salvage.proofs.LookedAt.{found_along, found_end}
 use Rattle.salvage.proofs.scan.look_through.Goals as goal
 

@@ -1,10 +1,9 @@
 use Rattle.std.proofs.Common.{◌≡◌}
 use Rattle.std.specs.List.{AllByRecursion}
-use Rattle.blockdisk.specs.Disk.{SameDisk}
-use Rattle.changeset.specs.Reads.{OnlyReads}
-use Rattle.meaning.specs.Layouts.{layout_number}
-use Rattle.salvage.specs.Looking.{AreFound, IsTableRead}
-use Rattle.salvage.specs.Saved.{FitsDisk}
+use Rattle.blockdisk.specs.Common.{SameDisk}
+use Rattle.changeset.specs.Common.{OnlyReads}
+use Rattle.spec_image.specs.Common.{layout_number}
+use Rattle.salvage.specs.Common.{AreFound, IsTableRead, FitsDisk}
 use Rattle.salvage.proofs.scan.look_through.Given as goal
 
 abbrev pub invariant-loop-n : goal.invariant-loop-n

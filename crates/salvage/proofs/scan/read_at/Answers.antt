@@ -1,8 +1,8 @@
 use Rattle.std.proofs.Common.{◌≡◌, ◌++◌, ◌∷◌, [], refl}
-use Rattle.meaning.specs.Layouts.{layout_number}
-use Rattle.volume.proofs.Marking.{on_ok}
-use Rattle.volume.proofs.Opening.{reads_of}
-use Rattle.salvage.specs.Looking.{IsReadAt}
+use Rattle.spec_image.specs.Common.{layout_number}
+use Rattle.volume.proofs.Shared.Marking.{on_ok}
+use Rattle.volume.proofs.Starting.Opening.{reads_of}
+use Rattle.salvage.specs.Common.{IsReadAt}
 use Rattle.salvage.specs.declared.saved.SavedFile.{SavedFile}
 use Rattle.salvage.proofs.LookedAt.{nothing_here, one_here}
 use Rattle.salvage.proofs.Members.{nothing_behind}

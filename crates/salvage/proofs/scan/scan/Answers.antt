@@ -1,10 +1,9 @@
 use Rattle.std.proofs.Common.{ℕ, replicate, refl, ap, ◌∙◌}
 use Rattle.std.proofs.lemmas.Result.{IfOk-weaker}
-use Rattle.blockdisk.specs.Laws.{same_contents}
-use Rattle.meaning.specs.Layouts.{layout_number}
+use Rattle.blockdisk.specs.Common.{same_contents}
+use Rattle.spec_image.specs.Common.{layout_number}
 use Rattle.changeset.proofs.Reading.{only_reads_on}
-use Rattle.salvage.specs.Looking.{AreFound}
-use Rattle.salvage.specs.Trees.{IsScanned}
+use Rattle.salvage.specs.Common.{AreFound, IsScanned}
 use Rattle.salvage.proofs.CountLaws.{first_counts}
 use Rattle.salvage.proofs.LookedAt.{scanned_along, table_along}
 use Rattle.salvage.proofs.scan.scan.Goals as goal

@@ -1,8 +1,8 @@
 use Rattle.std.proofs.Common.{◌≡◌, List, subst, ◌∙◌}
-use Rattle.blockdisk.specs.Laws.{same_contents}
+use Rattle.blockdisk.specs.Common.{same_contents}
 use Rattle.changeset.proofs.Reading.{only_reads_on}
-use Rattle.meaning.specs.Layouts.{layout_number}
-use Rattle.salvage.specs.Trees.{IsScanned}
+use Rattle.spec_image.specs.Common.{layout_number}
+use Rattle.salvage.specs.Common.{IsScanned}
 use Rattle.salvage.specs.declared.saved.SavedFile.{SavedFile}
 use Rattle.salvage.proofs.Surveying.{survey_moved}
 use Rattle.salvage.proofs.survey.survey_volume.Goals as goal

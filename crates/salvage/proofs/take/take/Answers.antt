@@ -1,7 +1,6 @@
 use Rattle.std.proofs.Common.{ℕ, false, replicate, ap, subst, ◌∙◌}
-use Rattle.blockdisk.specs.Disk.{Contents}
-use Rattle.blockdisk.specs.Laws.{same_contents}
-use Rattle.salvage.specs.Taking.{Judges}
+use Rattle.blockdisk.specs.Common.{Contents, same_contents}
+use Rattle.salvage.specs.Common.{Judges}
 use Rattle.salvage.proofs.CountLaws.{all_counts, first_counts}
 use Rattle.salvage.proofs.Members.{apart_left}
 use Rattle.salvage.proofs.TakenFiles.{are_added, are_taken}

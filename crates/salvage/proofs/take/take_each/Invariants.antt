@@ -1,9 +1,8 @@
 use Rattle.std.proofs.Common.{◌≡◌, length, take}
 use Rattle.std.specs.List.{AllByRecursion}
-use Rattle.blockdisk.specs.Disk.{SameDisk}
-use Rattle.changeset.specs.Reads.{OnlyReads}
-use Rattle.salvage.specs.Saved.{FitsDisk}
-use Rattle.salvage.specs.Taking.{Judges}
+use Rattle.blockdisk.specs.Common.{SameDisk}
+use Rattle.changeset.specs.Common.{OnlyReads}
+use Rattle.salvage.specs.Common.{FitsDisk, Judges}
 use Rattle.salvage.proofs.take.take_each.Given as goal
 
 abbrev pub invariant-loop-file : goal.invariant-loop-file

@@ -1,6 +1,6 @@
 use Rattle.std.proofs.Common.{◌≡◌, ◌++◌, ◌∷◌, [], ap, ◌∙◌}
-use Rattle.volume.proofs.Marking.{on_ok}
-use Rattle.salvage.specs.Taking.{Judges, loss_of}
+use Rattle.volume.proofs.Shared.Marking.{on_ok}
+use Rattle.salvage.specs.Common.{Judges, loss_of}
 use Rattle.salvage.proofs.Judging.{judged_sound, judged_blamed}
 use Rattle.salvage.proofs.Members.{nothing_behind}
 use Rattle.salvage.proofs.take.take_file.Goals as goal

@@ -1,14 +1,10 @@
 use Rattle.std.proofs.Common.{◌≡◌, [], map, take, nat_cmp}
 use Rattle.std.specs.List.{AllByRecursion}
-use Rattle.blockdisk.specs.Disk.{SameDisk}
-use Rattle.changeset.specs.Reads.{OnlyReads}
-use Rattle.meaning.specs.Directories.{MasterEntry}
-use Rattle.meaning.specs.Layouts.{layout_number}
-use Rattle.meaning.specs.Maps.{EachOnce}
-use Rattle.meaning.specs.Walks.{IsDirectoryNamed}
-use Rattle.volume.specs.Cores.{master_view}
-use Rattle.salvage.specs.Reading.{IsReadTo}
-use Rattle.salvage.specs.Saved.{FitsDisk}
+use Rattle.blockdisk.specs.Common.{SameDisk}
+use Rattle.changeset.specs.Common.{OnlyReads}
+use Rattle.spec_image.specs.Common.{MasterEntry, layout_number, EachOnce, IsDirectoryNamed}
+use Rattle.volume.specs.Common.{master_view}
+use Rattle.salvage.specs.Common.{IsReadTo, FitsDisk}
 use Rattle.salvage.proofs.tree.add_directories.Given as goal
 
 abbrev pub invariant-loop-entry : goal.invariant-loop-entry

@@ -1,14 +1,11 @@
 use Rattle.std.proofs.Common.{◌≡◌, [], List, None, OnOk, map, ap, subst, nat_cmp}
 use Rattle.std.specs.FinMap.Entries.{find}
 use Rattle.std.specs.List.{AllByRecursion}
-use Rattle.blockdisk.specs.Laws.{same_contents}
-use Rattle.directory.specs.Chains.{viewed}
-use Rattle.meaning.specs.Directories.{MasterEntry, FileEntry}
-use Rattle.meaning.specs.Files.{name_cmp}
-use Rattle.meaning.specs.Layouts.{layout_number}
-use Rattle.meaning.specs.Maps.{EachOnce}
-use Rattle.volume.specs.Cores.{file_view, master_view}
-use Rattle.salvage.specs.Reading.{IsNamedIn, IsReadTo}
+use Rattle.blockdisk.specs.Common.{same_contents}
+use Rattle.directory.specs.Common.{viewed}
+use Rattle.spec_image.specs.Common.{MasterEntry, FileEntry, name_cmp, layout_number, EachOnce}
+use Rattle.volume.specs.Common.{file_view, master_view}
+use Rattle.salvage.specs.Common.{IsNamedIn, IsReadTo}
 use Rattle.salvage.proofs.ReadingChains.{directory_on}
 use Rattle.salvage.proofs.ReadingOn.{directory_told_on}
 use Rattle.salvage.proofs.Refusals.{directory_refused}

@@ -1,7 +1,7 @@
 use Rattle.std.proofs.Common.{refl}
-use Rattle.blockdisk.specs.Laws.{keeps_still}
-use Rattle.meaning.specs.Layouts.{layout_number}
-use Rattle.volume.specs.Cores.{file_view}
+use Rattle.blockdisk.specs.Common.{keeps_still}
+use Rattle.spec_image.specs.Common.{layout_number}
+use Rattle.volume.specs.Common.{file_view}
 use Rattle.salvage.specs.declared.saved.SavedFile.{SavedFile}
 use Rattle.salvage.proofs.ReadingOn.{file_added_on, file_told_on}
 use Rattle.salvage.proofs.Refusals.{file_refused}

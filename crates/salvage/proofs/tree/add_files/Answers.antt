@@ -1,13 +1,11 @@
 use Rattle.std.proofs.Common.{ℕ, sym, subst, ◌∙◌}
 use Rattle.std.specs.List.{AllByRecursion}
-use Rattle.blockdisk.specs.Laws.{same_contents, same_disk_on}
+use Rattle.blockdisk.specs.Common.{same_contents, same_disk_on}
 use Rattle.changeset.proofs.Reading.{only_reads_on}
-use Rattle.meaning.specs.Directories.{FileEntry}
-use Rattle.meaning.specs.Faults.{InSpace}
-use Rattle.meaning.specs.Layouts.{layout_number}
-use Rattle.volume.specs.Cores.{file_view}
-use Rattle.volume.proofs.Lookups.{viewed_at}
-use Rattle.salvage.specs.Saved.{FitsDisk}
+use Rattle.spec_image.specs.Common.{FileEntry, InSpace, layout_number}
+use Rattle.volume.specs.Common.{file_view}
+use Rattle.volume.proofs.Shared.Lookups.{viewed_at}
+use Rattle.salvage.specs.Common.{FitsDisk}
 use Rattle.salvage.proofs.ReadingLoops.{files_go_on}
 use Rattle.salvage.proofs.tree.add_files.Goals as goal
 

@@ -1,15 +1,11 @@
 use Rattle.std.proofs.Common.{◌≡◌, List, [], None, map, take, nat_cmp}
 use Rattle.std.specs.FinMap.Entries.{find}
 use Rattle.std.specs.List.{AllByRecursion}
-use Rattle.blockdisk.specs.Disk.{SameDisk}
-use Rattle.changeset.specs.Reads.{OnlyReads}
-use Rattle.meaning.specs.Directories.{MasterEntry}
-use Rattle.meaning.specs.Files.{name_cmp}
-use Rattle.meaning.specs.Layouts.{layout_number}
-use Rattle.meaning.specs.Maps.{EachOnce}
-use Rattle.volume.specs.Cores.{file_view}
-use Rattle.salvage.specs.Reading.{IsNamedIn, IsReadTo}
-use Rattle.salvage.specs.Saved.{FitsDisk}
+use Rattle.blockdisk.specs.Common.{SameDisk}
+use Rattle.changeset.specs.Common.{OnlyReads}
+use Rattle.spec_image.specs.Common.{MasterEntry, name_cmp, layout_number, EachOnce}
+use Rattle.volume.specs.Common.{file_view}
+use Rattle.salvage.specs.Common.{IsNamedIn, IsReadTo, FitsDisk}
 use Rattle.salvage.proofs.tree.add_files.Given as goal
 
 abbrev pub invariant-loop-entry : goal.invariant-loop-entry

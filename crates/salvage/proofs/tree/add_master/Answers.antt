@@ -1,13 +1,10 @@
 use Rattle.std.proofs.Common.{[], List, OnOk, map, ap, subst, nat_cmp}
 use Rattle.std.specs.List.{AllByRecursion}
-use Rattle.blockdisk.specs.Laws.{same_contents}
-use Rattle.directory.specs.Chains.{viewed}
-use Rattle.meaning.specs.Directories.{MasterEntry}
-use Rattle.meaning.specs.Layouts.{layout_number}
-use Rattle.meaning.specs.Maps.{EachOnce}
-use Rattle.meaning.specs.Walks.{IsDirectoryNamed}
-use Rattle.volume.specs.Cores.{master_view}
-use Rattle.salvage.specs.Reading.{IsReadTo}
+use Rattle.blockdisk.specs.Common.{same_contents}
+use Rattle.directory.specs.Common.{viewed}
+use Rattle.spec_image.specs.Common.{MasterEntry, layout_number, EachOnce, IsDirectoryNamed}
+use Rattle.volume.specs.Common.{master_view}
+use Rattle.salvage.specs.Common.{IsReadTo}
 use Rattle.salvage.proofs.ReadingChains.{master_on}
 use Rattle.salvage.proofs.Refusals.{master_refused}
 use Rattle.salvage.proofs.TreesRead.{none_read_on}

@@ -1,14 +1,13 @@
 use Rattle.std.proofs.Common.{◌≡◌, ℕ, IfOk, sym, ap, ◌∙◌}
-use Rattle.blockdisk.specs.Disk.{Contents}
-use Rattle.blockdisk.specs.Laws.{same_contents}
+use Rattle.blockdisk.specs.Common.{Contents, same_contents}
 use Rattle.changeset.proofs.Reading.{only_reads_on}
-use Rattle.meaning.specs.Home.{Home, IsHome}
-use Rattle.meaning.specs.Layouts.{layout_number}
-use Rattle.meaning.proofs.DiskMaps.{home_same}
-use Rattle.volume.specs.Homes.{home_in}
-use Rattle.salvage.specs.Trees.{IsTree}
+use Rattle.spec_image.specs.Common.{Home, IsHome, layout_number}
+use Rattle.spec_image.proofs.Common.{home_same}
+use Rattle.volume.specs.Common.{home_in}
+use Rattle.salvage.specs.Common.{IsTree}
 use Rattle.salvage.specs.declared.tree.Tree.{Tree}
-use Rattle.salvage.proofs.Carrying.{moved, if_ok}
+use Rattle.salvage.proofs.Carrying.{moved}
+use Rattle.volume.proofs.Starting.Starts.{ok_on}
 use Rattle.salvage.proofs.tree.read_tree.Goals as goal
 
 pub returns-in-Ok-clause-tree : goal.returns-in-Ok-clause-tree
@@ -29,7 +28,7 @@ pub returns-in-Ok-clause-layout : goal.returns-in-Ok-clause-layout
 returns-in-Ok-clause-layout g c h home is =
     let s = g.D.Disk.state c.args.disk.now in
     let own = home_in (layout_number c.in-Ok.home.layout) c.in-Ok.home.master in
-    if_ok (λ (tree : Tree). tree.layout ≡ c.in-Ok.home.layout)
+    ok_on (λ (tree : Tree). tree.layout ≡ c.in-Ok.home.layout)
     (λ (tree : Tree). layout_number tree.layout ≡ home.layout) c.read_from.result
     (λ tree layout. ap layout_number layout ∙ ap (λ (x : Home). x.layout)
     (home_same s.size s.contents own home (c.in-Ok.ensures.ok (c.read_from.ensures.same.was_honest h)) is))

@@ -1,5 +1,5 @@
 use Rattle.std.proofs.Common.{◌≡◌, ℕ, take, subst}
-use Rattle.meaning.specs.Splices.{words_from}
+use Rattle.spec_image.specs.Common.{words_from}
 use Rattle.salvage.proofs.WholeBodies.{read_whole, never_damaged}
 use Rattle.salvage.proofs.words.read_words.Goals as goal
 

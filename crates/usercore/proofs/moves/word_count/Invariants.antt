@@ -1,5 +1,5 @@
 use Rattle.std.proofs.Common.{◌≡◌, ◌+◌, drop}
-use Rattle.meaning.specs.CommandLists.{word_count}
+use Rattle.spec_machine.specs.Common.{word_count}
 use Rattle.usercore.proofs.moves.word_count.Given as goal
 
 abbrev pub invariant-loop-area : goal.invariant-loop-area

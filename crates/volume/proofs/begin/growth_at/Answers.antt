@@ -1,18 +1,15 @@
 use Rattle.std.proofs.Common.{◌≡◌, ap, sym, ◌∙◌, arith}
 use Rattle.std.proofs.lemmas.List.{length-map}
-use Rattle.meaning.proofs.MapLaws.{some_same}
-use Rattle.meaning.specs.Room.{growth}
-use Rattle.volume.specs.Beginning.{entries_with}
-use Rattle.volume.specs.Cores.{file_view}
-use Rattle.volume.specs.Known.{KnownDirectory}
-use Rattle.volume.specs.LiveCores.{core_of, live_directory}
-use Rattle.volume.proofs.Beginnings.{place_of}
+use Rattle.spec_image.proofs.Common.{some_same}
+use Rattle.spec_image.specs.Common.{growth}
+use Rattle.volume.specs.Common.{entries_with, file_view, KnownDirectory, core_of, live_directory}
+use Rattle.volume.proofs.Shared.Answering.{viewed_there}
 use Rattle.volume.proofs.begin.growth_at.Goals as goal
 
 pub overflow_add-entries : goal.overflow_add-entries
 overflow_add-entries c =
     let core = c.args.core.now in
-    let at = place_of (live_directory core.versions.slots) core.directories.items c.args.place c.index.result.now
+    let at = viewed_there (live_directory core.versions.slots) core.directories.items c.args.place c.index.result.now
     c.index.result.now c.requires.inside c.index.ensures in
     let few = c.requires.few (live_directory core.versions.slots c.index.result.now) at in
     let many = length-map c.index.result.now.chain.entries file_view in
@@ -23,7 +20,7 @@ overflow_add-entries c =
 pub returns-clause-value : goal.returns-clause-value
 returns-clause-value c d is =
     let core = c.args.core.now in
-    let at = place_of (live_directory core.versions.slots) core.directories.items c.args.place c.index.result.now
+    let at = viewed_there (live_directory core.versions.slots) core.directories.items c.args.place c.index.result.now
     c.index.result.now c.requires.inside c.index.ensures in
     let same : live_directory core.versions.slots c.index.result.now ≡ d = some_same (sym at ∙ is) in
     let many = length-map c.index.result.now.chain.entries file_view in

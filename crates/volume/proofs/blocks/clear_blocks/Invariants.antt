@@ -1,5 +1,5 @@
 use Rattle.std.proofs.Common.{take}
-use Rattle.volume.specs.Publishing.{ClearsBits}
+use Rattle.volume.specs.Common.{ClearsBits}
 use Rattle.volume.proofs.blocks.clear_blocks.Given as goal
 
 abbrev pub invariant-loop-i : goal.invariant-loop-i

@@ -1,8 +1,7 @@
 use Rattle.std.proofs.Common.{◌+◌, ◌<◌, ℕ, slice_index_or, refl, sym, ap, subst, ◌∙◌}
-use Rattle.alloctab.specs.TableState.{IsTable, holds}
-use Rattle.alloctab.specs.TableLaws.{sound-with_held}
-use Rattle.volume.proofs.Releasing.{rest_more}
-use Rattle.volume.proofs.BlockLists.{next_there, holds_next, holds_fit}
+use Rattle.alloctab.specs.Common.{IsTable, holds, sound-with_held}
+use Rattle.volume.proofs.Shared.Releasing.{rest_more}
+use Rattle.volume.proofs.Shared.BlockLists.{next_there, holds_next, holds_fit}
 use Rattle.volume.proofs.blocks.hold_all.Goals as goal
 
 pub hold-requires-clause-inside : goal.hold-requires-clause-inside

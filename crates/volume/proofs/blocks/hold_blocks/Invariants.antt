@@ -1,6 +1,6 @@
 use Rattle.std.proofs.Common.{◌≡◌, ◌+◌, ℕ, take}
-use Rattle.meaning.specs.Maps.{times}
-use Rattle.alloctab.specs.TableState.{IsTable, holds}
+use Rattle.spec_image.specs.Common.{times}
+use Rattle.alloctab.specs.Common.{IsTable, holds}
 use Rattle.volume.proofs.blocks.hold_blocks.Given as goal
 
 abbrev pub invariant-loop-i : goal.invariant-loop-i

@@ -1,5 +1,5 @@
 use Rattle.std.proofs.Common.{take}
-use Rattle.volume.specs.Publishing.{SetsBits}
+use Rattle.volume.specs.Common.{SetsBits}
 use Rattle.volume.proofs.blocks.set_all.Given as goal
 
 abbrev pub invariant-loop-block : goal.invariant-loop-block

@@ -1,15 +1,11 @@
 use Rattle.std.proofs.Common.{◌≡◌, ◌+◌, ap, sym, ◌∙◌, arith}
 use Rattle.std.proofs.lemmas.List.{length-map}
-use Rattle.meaning.proofs.MapLaws.{some_same}
-use Rattle.meaning.specs.Costs.{directory_cost}
-use Rattle.volume.specs.Beginning.{entries_with}
-use Rattle.volume.specs.Charging.{used_by}
-use Rattle.volume.specs.Cores.{file_view}
-use Rattle.volume.specs.Known.{KnownDirectory}
-use Rattle.volume.specs.LiveCores.{core_of, live_directory}
-use Rattle.volume.proofs.Beginnings.{place_of}
-use Rattle.volume.proofs.ChargeSums.{charge_fits}
-use Rattle.volume.proofs.Growing.{entries_few}
+use Rattle.spec_image.proofs.Common.{some_same}
+use Rattle.spec_image.specs.Common.{directory_cost}
+use Rattle.volume.specs.Common.{entries_with, used_by, file_view, KnownDirectory, core_of, live_directory}
+use Rattle.volume.proofs.Charging.Sums.{charge_fits}
+use Rattle.volume.proofs.Shared.Growing.{entries_few}
+use Rattle.volume.proofs.Shared.Answering.{viewed_there}
 use Rattle.volume.proofs.charge.used_at.Goals as goal
 
 pub overflow_add-entries : goal.overflow_add-entries
@@ -17,7 +13,7 @@ overflow_add-entries c =
     let m = c.args.core.now in
     let item = c.index-directory.result.now in
     let d = live_directory m.versions.slots item in
-    let at = place_of (live_directory m.versions.slots) m.directories.items c.args.place item item c.requires.inside
+    let at = viewed_there (live_directory m.versions.slots) m.directories.items c.args.place item item c.requires.inside
     c.index-directory.ensures in
     let few = entries_few m.table.size (core_of m) c.args.ppn c.args.place d c.requires.whole at in
     let many = length-map item.chain.entries file_view in
@@ -30,7 +26,7 @@ cost_of_files-files-requires-clause-fits c =
     let m = c.args.core.now in
     let item = c.index-directory.result.now in
     let d = live_directory m.versions.slots item in
-    let at = place_of (live_directory m.versions.slots) m.directories.items c.args.place item item c.requires.inside
+    let at = viewed_there (live_directory m.versions.slots) m.directories.items c.args.place item item c.requires.inside
     c.index-directory.ensures in
     let fits = charge_fits m.table.size (core_of m) c.args.ppn c.args.place d c.requires.whole at in
     omega arith
@@ -40,7 +36,7 @@ overflow_add-result c =
     let m = c.args.core.now in
     let item = c.index-directory.result.now in
     let d = live_directory m.versions.slots item in
-    let at = place_of (live_directory m.versions.slots) m.directories.items c.args.place item item c.requires.inside
+    let at = viewed_there (live_directory m.versions.slots) m.directories.items c.args.place item item c.requires.inside
     c.index-directory.ensures in
     let few = entries_few m.table.size (core_of m) c.args.ppn c.args.place d c.requires.whole at in
     let many = length-map item.chain.entries file_view in
@@ -56,7 +52,7 @@ overflow_add-result-2 c =
     let m = c.args.core.now in
     let item = c.index-directory.result.now in
     let d = live_directory m.versions.slots item in
-    let at = place_of (live_directory m.versions.slots) m.directories.items c.args.place item item c.requires.inside
+    let at = viewed_there (live_directory m.versions.slots) m.directories.items c.args.place item item c.requires.inside
     c.index-directory.ensures in
     let few = entries_few m.table.size (core_of m) c.args.ppn c.args.place d c.requires.whole at in
     let many = length-map item.chain.entries file_view in
@@ -73,7 +69,7 @@ returns-clause-few c =
     let m = c.args.core.now in
     let item = c.index-directory.result.now in
     let d = live_directory m.versions.slots item in
-    let at = place_of (live_directory m.versions.slots) m.directories.items c.args.place item item c.requires.inside
+    let at = viewed_there (live_directory m.versions.slots) m.directories.items c.args.place item item c.requires.inside
     c.index-directory.ensures in
     let few = entries_few m.table.size (core_of m) c.args.ppn c.args.place d c.requires.whole at in
     let many = length-map item.chain.entries file_view in
@@ -90,7 +86,7 @@ returns-clause-value c d is =
     let m = c.args.core.now in
     let item = c.index-directory.result.now in
     let x = live_directory m.versions.slots item in
-    let at = place_of (live_directory m.versions.slots) m.directories.items c.args.place item item c.requires.inside
+    let at = viewed_there (live_directory m.versions.slots) m.directories.items c.args.place item item c.requires.inside
     c.index-directory.ensures in
     let same : x ≡ d = some_same (sym at ∙ is) in
     let many = length-map item.chain.entries file_view in

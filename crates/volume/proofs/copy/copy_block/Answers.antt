@@ -1,5 +1,5 @@
 use Rattle.std.proofs.Common.{◌≡◌, refl}
-use Rattle.blockdisk.specs.Laws.{modifies_start, writes_modifies}
+use Rattle.blockdisk.specs.Common.{modifies_start, writes_modifies}
 use Rattle.volume.proofs.copy.copy_block.Goals as goal
 
 pub returns-in_default-clause-modified : goal.returns-in_default-clause-modified

@@ -1,7 +1,7 @@
 use Rattle.std.proofs.Common.{◌≡◌, ◌<◌, ◌≤◌}
-use Rattle.blockdisk.specs.Disk.{Modifies, SameDisk, SameOutside}
-use Rattle.changeset.specs.Reads.{OnlyReads}
-use Rattle.volume.specs.Copying.{ArePartlyCopied}
+use Rattle.blockdisk.specs.Common.{Modifies, SameDisk, SameOutside}
+use Rattle.changeset.specs.Common.{OnlyReads}
+use Rattle.volume.specs.Common.{ArePartlyCopied}
 use Rattle.volume.proofs.copy.copy_blocks.Given as goal
 
 abbrev pub invariant-loop-n : goal.invariant-loop-n

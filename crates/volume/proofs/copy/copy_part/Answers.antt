@@ -1,5 +1,5 @@
 use Rattle.std.proofs.Common.{◌<◌, ◌≤◌}
-use Rattle.blockdisk.specs.Laws.{modifies_near, near_sync}
+use Rattle.blockdisk.specs.Common.{modifies_near, near_sync}
 use Rattle.volume.proofs.copy.copy_part.Goals as goal
 
 pub returns-in_err-copy_blocks-clause-near : goal.returns-in_err-copy_blocks-clause-near

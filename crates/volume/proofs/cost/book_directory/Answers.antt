@@ -1,10 +1,9 @@
 use Rattle.std.proofs.Common.{map, length, sym, ap, subst, arith}
 use Rattle.std.specs.List.{AllByRecursion}
-use Rattle.meaning.specs.Maps.{total}
-use Rattle.volume.specs.Cores.{known_version}
-use Rattle.volume.specs.Known.{IsWholeVersion, cost_of_version}
-use Rattle.volume.proofs.Lookups.{viewed_at}
-use Rattle.volume.proofs.Costing.{chain_short, few_blocks, sum_more, sum_within, booked_more}
+use Rattle.spec_image.specs.Common.{total}
+use Rattle.volume.specs.Common.{known_version, IsWholeVersion, cost_of_version}
+use Rattle.volume.proofs.Shared.Lookups.{viewed_at}
+use Rattle.volume.proofs.Shared.Costing.{chain_short, few_blocks, sum_more, sum_within, booked_more}
 use Rattle.volume.proofs.cost.book_directory.Goals as goal
 
 pub overflow_cast-blocks : goal.overflow_cast-blocks

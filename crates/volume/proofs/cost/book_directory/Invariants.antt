@@ -1,7 +1,6 @@
 use Rattle.std.proofs.Common.{◌≡◌, ◌+◌, length, map, take}
-use Rattle.meaning.specs.Maps.{total}
-use Rattle.volume.specs.Cores.{known_version}
-use Rattle.volume.specs.Known.{cost_of_version}
+use Rattle.spec_image.specs.Common.{total}
+use Rattle.volume.specs.Common.{known_version, cost_of_version}
 use Rattle.volume.proofs.cost.book_directory.Given as goal
 
 abbrev pub invariant-loop-version : goal.invariant-loop-version

@@ -1,11 +1,9 @@
 use Rattle.std.proofs.Common.{◌+◌, ℕ, map, take, length, sym, ap, subst, ◌∙◌, arith}
-use Rattle.meaning.specs.Regions.{IsVolumeSize}
+use Rattle.spec_image.specs.Common.{IsVolumeSize, total}
 use Rattle.std.proofs.lemmas.List.{length-map}
-use Rattle.meaning.specs.Maps.{total}
-use Rattle.volume.specs.Cores.{known_directory, master_view}
-use Rattle.volume.specs.Known.{IsWholeDirectory, cost_of_directory}
-use Rattle.volume.proofs.Lookups.{viewed_at}
-use Rattle.volume.proofs.Costing.{chain_short, booked_fits, sum_more, sum_within, booked_more}
+use Rattle.volume.specs.Common.{known_directory, master_view, IsWholeDirectory, cost_of_directory}
+use Rattle.volume.proofs.Shared.Lookups.{viewed_at}
+use Rattle.volume.proofs.Shared.Costing.{chain_short, booked_fits, sum_more, sum_within, booked_more}
 use Rattle.volume.proofs.cost.book_map.Goals as goal
 
 pub overflow_cast-blocks : goal.overflow_cast-blocks

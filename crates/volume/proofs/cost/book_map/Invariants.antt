@@ -1,7 +1,6 @@
 use Rattle.std.proofs.Common.{◌≡◌, ◌+◌, length, map, take}
-use Rattle.meaning.specs.Maps.{total}
-use Rattle.volume.specs.Cores.{known_directory}
-use Rattle.volume.specs.Known.{cost_of_directory}
+use Rattle.spec_image.specs.Common.{total}
+use Rattle.volume.specs.Common.{known_directory, cost_of_directory}
 use Rattle.volume.proofs.cost.book_map.Given as goal
 
 abbrev pub invariant-loop-directory : goal.invariant-loop-directory

@@ -1,30 +1,24 @@
-use Rattle.std.proofs.Common.{◌≡◌, ◌+◌, ◌≤◌, ◌++◌, ◌∷◌, [], ℕ, List, true, map, slice_get, slice_set}
-use Rattle.std.proofs.Common.{option_to_list, Some, None, IfSome, IfNone, IsSome, refl, sym, ap, subst, ◌∙◌, arith}
+use Rattle.std.proofs.Common.{◌≡◌, ◌+◌, ◌≤◌, ◌++◌, ◌∷◌, [], ℕ, List, true, map, slice_get, slice_set, option_to_list}
+use Rattle.std.proofs.Common.{Some, None, IfSome, IfNone, IsSome, refl, sym, ap, subst, ◌∙◌, arith}
 use Rattle.std.specs.FinMap.Entries.{find}
-use Rattle.meaning.specs.Files.{name_cmp}
-use Rattle.directory.specs.Edits.{StandsAt, IsReserve, inserted}
-use Rattle.directory.specs.Chains.{viewed}
-use Rattle.volume.specs.Cores.{file_view}
-use Rattle.volume.specs.LiveCores.{core_of, live_directory}
+use Rattle.spec_image.specs.Common.{name_cmp, insert, from_entries, times}
+use Rattle.directory.specs.Common.{StandsAt, IsReserve, inserted, viewed}
+use Rattle.volume.specs.Common.{file_view, core_of, live_directory, blocks_reached, PutsInUse, MakesCurrent}
 use Rattle.volume.specs.declared.live.LiveVersion.{LiveVersion}
 use Rattle.volume.specs.declared.pending.PendingVersion.{PendingVersion}
-use Rattle.volume.proofs.MakingCurrent.{vacant_stays, directory_there, directory_read, known_place, keys_place}
-use Rattle.volume.proofs.MakingCurrent.{is_directory}
-use Rattle.volume.proofs.MakingCurrent.{as_many_keys, within_space, blocks_booked, grown_free, may_retire}
-use Rattle.volume.proofs.MakingCurrent.{used_sound, used_held, used_clear, changed_many, new_stands, chain_grown}
-use Rattle.volume.proofs.BecomingCurrent.{made_current_by}
+use Rattle.volume.proofs.Publishing.MakingCurrent.{vacant_stays, directory_there, directory_read, known_place}
+use Rattle.volume.proofs.Publishing.MakingCurrent.{keys_place, is_directory, as_many_keys, within_space}
+use Rattle.volume.proofs.Publishing.MakingCurrent.{blocks_booked, grown_free, may_retire, used_sound, used_held}
+use Rattle.volume.proofs.Publishing.MakingCurrent.{used_clear, changed_many, new_stands, chain_grown}
+use Rattle.volume.proofs.Publishing.BecomingCurrent.{made_current_by}
 use Rattle.std.specs.Vec.{with_item}
-use Rattle.meaning.specs.Maps.{insert, from_entries, times}
-use Rattle.alloctab.specs.TableState.{bit, holds}
-use Rattle.retrieval.specs.Runs.{ribs_of}
-use Rattle.retrieval.specs.Versions.{VersionState}
+use Rattle.alloctab.specs.Common.{bit, holds}
+use Rattle.retrieval.specs.Common.{ribs_of, VersionState}
 use Rattle.retrieval.proofs.RibCounts.{ribs_few}
-use Rattle.volume.specs.Known.{blocks_reached}
-use Rattle.volume.specs.Publishing.{PutsInUse, MakesCurrent}
 use Rattle.volume.specs.declared.live.LiveMap.{LiveMap}
-use Rattle.meaning.proofs.MapLaws.{some_same}
+use Rattle.spec_image.proofs.Common.{some_same}
+use Rattle.volume.proofs.Publishing.Supplying.{is_there}
 use Rattle.volume.proofs.current.make_current.Goals as goal
-use Rattle.volume.proofs.Supplying.{is_there}
 
 pub place_of-place-requires : goal.place_of-place-requires
 place_of-place-requires c =

@@ -1,8 +1,8 @@
 use Rattle.std.proofs.Common.{◌<◌, length, ◌∙◌, arith}
 use Rattle.std.proofs.lemmas.List.{length-map}
-use Rattle.volume.specs.Cores.{file_view}
-use Rattle.volume.proofs.MakingCurrent.{index_is}
-use Rattle.volume.proofs.RemovingLists.{swap_removed}
+use Rattle.volume.specs.Common.{file_view}
+use Rattle.volume.proofs.Publishing.MakingCurrent.{index_is}
+use Rattle.directory.proofs.EditedEntries.{swap_removed}
 use Rattle.volume.proofs.delete.remove_entry.Goals as goal
 
 pub returns-clause-keys : goal.returns-clause-keys

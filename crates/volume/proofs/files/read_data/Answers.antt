@@ -1,12 +1,11 @@
 use Rattle.std.proofs.Common.{IsErrOf, ◌<◌, ◌∙◌, subst, sym, arith}
 use Rattle.std.proofs.lemmas.Result.{err_from_is_err_and}
 use Rattle.std.specs.List.{AllByRecursion}
-use Rattle.blockdisk.specs.Disk.{IsWholeBlock}
-use Rattle.meaning.specs.Maps.{times}
-use Rattle.meaning.specs.Faults.{InSpace}
+use Rattle.blockdisk.specs.Common.{IsWholeBlock}
+use Rattle.spec_image.specs.Common.{times, InSpace}
 use Rattle.changeset.proofs.Reading.{passed_on}
-use Rattle.volume.proofs.DisksAsked.{keeps_disk_served, keeps_disk_on}
-use Rattle.volume.proofs.RunsRead.{in_run, runs_more, each_stands, whole_before}
+use Rattle.volume.proofs.Shared.DisksAsked.{keeps_disk_served, keeps_disk_on}
+use Rattle.volume.proofs.Shared.RunsRead.{in_run, runs_more, each_stands, whole_before}
 use Rattle.volume.specs.declared.error.VolumeError.TheVariants.{BadData, Device}
 use Rattle.volume.proofs.files.read_data.Goals as goal
 

@@ -1,8 +1,8 @@
 use Rattle.std.proofs.Common.{take}
 use Rattle.std.specs.List.{AllByRecursion}
-use Rattle.blockdisk.specs.Disk.{IsWholeBlock}
-use Rattle.retrieval.specs.Runs.{blocks_of_runs}
-use Rattle.volume.specs.DiskAnswers.{KeepsDisk}
+use Rattle.blockdisk.specs.Common.{IsWholeBlock}
+use Rattle.retrieval.specs.Common.{blocks_of_runs}
+use Rattle.volume.specs.Common.{KeepsDisk}
 use Rattle.volume.proofs.files.read_data.Given as goal
 
 abbrev pub invariant-loop-run : goal.invariant-loop-run

@@ -1,20 +1,17 @@
 use Rattle.std.proofs.Common.{◌<◌, ◌∷◌, ◌++◌, ℕ, sym, subst, ◌∙◌, ◌≡◌, Err, IsErrOf}
 use Rattle.std.specs.List.{AllByRecursion}
 use Rattle.std.proofs.lemmas.Result.{err_from_is_err_and}
-use Rattle.blockdisk.specs.Laws.{same_contents}
-use Rattle.blockdisk.specs.Disk.{Contents, IsWholeBlock}
-use Rattle.meaning.specs.Layouts.{layout_number}
-use Rattle.meaning.specs.Faults.{InSpace}
-use Rattle.volume.specs.FileReading.{IsVersionRefusal, IsDataRefusal, IsFileRefusal}
+use Rattle.blockdisk.specs.Common.{same_contents, Contents, IsWholeBlock}
+use Rattle.spec_image.specs.Common.{layout_number, InSpace}
+use Rattle.volume.specs.Common.{IsVersionRefusal, IsDataRefusal, IsFileRefusal, NamesInSpace}
 use Rattle.volume.specs.declared.error.VolumeError.TheVariants.{Device, BadRetrieval, BlockTwice, NoMemory, BadData}
-use Rattle.volume.specs.FaultsFound.{NamesInSpace}
-use Rattle.volume.proofs.DisksAsked.{keeps_disk_served, keeps_disk_ok, keeps_disk_on, keeps_disk_handed}
-use Rattle.volume.proofs.FoundDirectories.{all_behind_all, all_times_at}
-use Rattle.volume.proofs.Handing.{handed, version_named, data_named, named_on}
-use Rattle.volume.proofs.Marking.{all_weaker}
-use Rattle.volume.proofs.Finding.{refusal, refused_on, version_wider, data_wider, file_found, reached_twice}
-use Rattle.volume.proofs.Finding.{damaged_data}
+use Rattle.volume.proofs.Shared.DisksAsked.{keeps_disk_served, keeps_disk_ok, keeps_disk_on, keeps_disk_handed}
+use Rattle.volume.proofs.Shared.Handing.{handed, version_named, data_named, named_on}
+use Rattle.volume.proofs.Shared.Marking.{all_weaker}
+use Rattle.volume.proofs.Starting.Finding.{refusal, refused_on, version_wider, data_wider, file_found, reached_twice}
+use Rattle.volume.proofs.Starting.Finding.{damaged_data}
 use Rattle.changeset.proofs.Reading.{passed_on}
+use Rattle.spec_image.proofs.Common.{all_append, each_times}
 use Rattle.volume.proofs.files.read_file.Goals as goal
 
 pub returns-in_err-stored-clause-twice : goal.returns-in_err-stored-clause-twice
@@ -129,9 +126,9 @@ pub returns-in-Err-clause-named : goal.returns-in-Err-clause-named
 returns-in-Err-clause-named g c =
     let size = (g.D.Disk.state c.args.disk.now).size in
     let v = c.in_ok-stored.stored.version in
-    all_times_at (InSpace size) (c.args.prime ∷ (v.ribs ++ v.blocks)) c.in-Err.block (
+    each_times (InSpace size) (c.args.prime ∷ (v.ribs ++ v.blocks)) c.in-Err.block (
       c.requires.inside,
-      all_behind_all (InSpace size) v.ribs v.blocks c.in_ok-stored.ensures.ribs_inside
+      all_append (InSpace size) v.ribs v.blocks c.in_ok-stored.ensures.ribs_inside
           c.in_ok-stored.ensures.blocks_inside,
     )
     (c.mark_version.ensures.among c.in-Err.block (cc))

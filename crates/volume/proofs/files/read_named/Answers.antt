@@ -1,8 +1,8 @@
 use Rattle.std.proofs.Common.{inl, inr}
-use Rattle.meaning.specs.Layouts.{layout_number}
-use Rattle.volume.proofs.OtherPlaces.{differ, names_differ, other_place}
-use Rattle.volume.proofs.files.read_named.Goals as goal
+use Rattle.spec_image.specs.Common.{layout_number}
+use Rattle.volume.proofs.Shared.OtherPlaces.{differ, names_differ, other_place}
 use Rattle.volume.proofs.files.read_named.Goals.{then-ne-via-then-ne, then-ne-via-else-ne+then-ne-2}
+use Rattle.volume.proofs.files.read_named.Goals as goal
 
 pub returns-then-ne-clause-bad_version : goal.returns-then-ne-clause-bad_version
 returns-then-ne-clause-bad_version g c h k is =

@@ -1,9 +1,8 @@
 use Rattle.std.proofs.Common.{subst}
-use Rattle.blockdisk.specs.Disk.{Near}
-use Rattle.blockdisk.specs.Laws.{leaves_start, near_self}
-use Rattle.meaning.specs.Regions.{IsVolumeSize}
-use Rattle.volume.specs.Homes.{IsInitBlock}
-use Rattle.volume.proofs.FreshVolume.{fresh_has_map, fresh_rest}
+use Rattle.blockdisk.specs.Common.{Near, leaves_start, near_self}
+use Rattle.spec_image.specs.Common.{IsVolumeSize}
+use Rattle.volume.specs.Common.{IsInitBlock}
+use Rattle.volume.proofs.Starting.FreshVolume.{fresh_has_map, fresh_rest}
 use Rattle.volume.proofs.fresh.init_layout.Given
 use Rattle.volume.proofs.fresh.init_layout.Goals as goal
 

@@ -1,9 +1,9 @@
 use Rattle.std.proofs.Common.{ℕ, ◌*◌, List, [], ◌∷◌, ◌++◌, refl, sym, ◌∙◌, ap, arith}
 use Rattle.std.proofs.lemmas.List.{take_more_set, take_all}
 use Rattle.std.proofs.Math.ListN.{length-set}
-use Rattle.alloctab.specs.TableBlocks.{number_of, words_of}
+use Rattle.alloctab.specs.Common.{number_of, words_of}
 use Rattle.alloctab.proofs.WordLaws.{words_none, words_more, table_words_are}
-use Rattle.volume.specs.Homes.{bit_below}
+use Rattle.volume.specs.Common.{bit_below}
 use Rattle.volume.proofs.fresh.table_block.Goals as goal
 
 pub loop-place-init : goal.loop-place-init

@@ -1,6 +1,6 @@
 use Rattle.std.proofs.Common.{◌≡◌, ◌*◌, length, take}
-use Rattle.alloctab.specs.TableBlocks.{words_of}
-use Rattle.volume.specs.Homes.{bit_below}
+use Rattle.alloctab.specs.Common.{words_of}
+use Rattle.volume.specs.Common.{bit_below}
 use Rattle.volume.proofs.fresh.table_block.Given as goal
 
 abbrev pub invariant-loop-place : goal.invariant-loop-place

@@ -1,6 +1,6 @@
 use Rattle.std.proofs.Common.{◌≡◌, ◌<◌, ◌^◌}
-use Rattle.alloctab.specs.TableBlocks.{number_of}
-use Rattle.volume.specs.Homes.{bit_below}
+use Rattle.alloctab.specs.Common.{number_of}
+use Rattle.volume.specs.Common.{bit_below}
 use Rattle.volume.proofs.fresh.table_word.Given as goal
 
 abbrev pub invariant-loop-place : goal.invariant-loop-place

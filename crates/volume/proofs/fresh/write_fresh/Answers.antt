@@ -1,8 +1,8 @@
 use Rattle.std.proofs.Common.{ℕ, ◌<◌, ◌≤◌, Some, refl, ◌∙◌, ap, arith}
-use Rattle.blockdisk.specs.Laws.{same_disk_start, same_disk_on, modifies_start, modifies_write}
-use Rattle.meaning.specs.Layouts.{layout_number}
-use Rattle.volume.specs.Homes.{fresh_words}
-use Rattle.volume.proofs.FreshVolume.{written_more}
+use Rattle.blockdisk.specs.Common.{same_disk_start, same_disk_on, modifies_start, modifies_write}
+use Rattle.spec_image.specs.Common.{layout_number}
+use Rattle.volume.specs.Common.{fresh_words}
+use Rattle.volume.proofs.Starting.FreshVolume.{written_more}
 use Rattle.volume.proofs.fresh.write_fresh.Goals as goal
 
 pub loop-n-init : goal.loop-n-init

@@ -1,7 +1,7 @@
 use Rattle.std.proofs.Common.{◌≡◌, ◌<◌, ◌≤◌, ℕ, Some}
-use Rattle.blockdisk.specs.Disk.{Modifies, SameDisk}
-use Rattle.meaning.specs.Layouts.{layout_number}
-use Rattle.volume.specs.Homes.{fresh_words}
+use Rattle.blockdisk.specs.Common.{Modifies, SameDisk}
+use Rattle.spec_image.specs.Common.{layout_number}
+use Rattle.volume.specs.Common.{fresh_words}
 use Rattle.volume.proofs.fresh.write_fresh.Given as goal
 
 abbrev pub invariant-loop-n : goal.invariant-loop-n

@@ -1,12 +1,10 @@
 use Rattle.std.proofs.Common.{◌≡◌, List, map, Some, sym, ap, subst, ◌∙◌}
 use Rattle.std.specs.List.{AllByRecursion}
 use Rattle.std.specs.FinMap.Entries.{find}
-use Rattle.meaning.specs.Directories.{FileEntry}
-use Rattle.meaning.specs.Files.{name_cmp}
-use Rattle.volume.specs.Cores.{file_view}
-use Rattle.volume.specs.LiveCores.{live_directory}
-use Rattle.volume.proofs.Lookups.{viewed_at}
-use Rattle.volume.proofs.Listing.{sorted_there, line_more}
+use Rattle.spec_image.specs.Common.{FileEntry, name_cmp}
+use Rattle.volume.specs.Common.{file_view, live_directory}
+use Rattle.volume.proofs.Shared.Lookups.{viewed_at}
+use Rattle.volume.proofs.Shared.Listing.{sorted_there, line_more}
 use Rattle.volume.proofs.list.directory_lines.Goals as goal
 
 pub push_line-requires-clause-there : goal.push_line-requires-clause-there

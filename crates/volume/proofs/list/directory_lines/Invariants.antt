@@ -1,8 +1,6 @@
 use Rattle.std.proofs.Common.{map, take}
 use Rattle.std.specs.List.{AllZip}
-use Rattle.volume.specs.Cores.{file_view}
-use Rattle.volume.specs.LiveCores.{live_directory}
-use Rattle.volume.specs.Queries.{IsLine}
+use Rattle.volume.specs.Common.{file_view, live_directory, IsLine}
 use Rattle.volume.proofs.list.directory_lines.Given as goal
 
 abbrev pub invariant-loop-entry : goal.invariant-loop-entry

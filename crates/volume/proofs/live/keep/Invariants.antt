@@ -1,9 +1,8 @@
 use Rattle.std.proofs.Common.{◌≡◌, ℕ, map, length, take, IfSome}
 use Rattle.std.specs.List.{AllZip}
-use Rattle.meaning.specs.Maps.{total}
-use Rattle.volume.specs.Cores.{known_directory}
-use Rattle.volume.specs.Live.{IsKeyed, IsFirstRead, current_reaches, entry_reaches, slot}
-use Rattle.volume.specs.LiveCores.{live_directory}
+use Rattle.spec_image.specs.Common.{total}
+use Rattle.volume.specs.Common.{known_directory, IsKeyed, IsFirstRead, current_reaches, entry_reaches, slot}
+use Rattle.volume.specs.Common.{live_directory}
 use Rattle.volume.proofs.live.keep.Given as goal
 
 abbrev pub invariant-loop-directory : goal.invariant-loop-directory

@@ -3,12 +3,10 @@ use Rattle.std.proofs.lemmas.Iterator.{YieldsList-from_slice, YieldsList-from_zi
 use Rattle.std.proofs.lemmas.Iterator.Adapters.{YieldsList-from_vec}
 use Rattle.std.proofs.lemmas.Iterator.Consumers.{YieldsList-turn, YieldsList-end}
 use Rattle.std.proofs.lemmas.List.{length_push}
-use Rattle.volume.specs.Cores.{file_view, known_version}
-use Rattle.meaning.specs.Maps.{total}
-use Rattle.volume.specs.Known.{reaches_in_entries}
-use Rattle.volume.specs.Live.{IsCurrent, current_reaches}
-use Rattle.volume.proofs.Keeping.{zip_at, zip_all, zip_same, next_keyed, next_known, next_current, next_read, put_stay}
-use Rattle.volume.proofs.Keeping.{first_read}
+use Rattle.volume.specs.Common.{file_view, known_version, reaches_in_entries, IsCurrent, current_reaches}
+use Rattle.spec_image.specs.Common.{total}
+use Rattle.volume.proofs.Shared.Keeping.{zip_at, zip_all, zip_same, next_keyed, next_known, next_current, next_read}
+use Rattle.volume.proofs.Shared.Keeping.{put_stay, first_read}
 use Rattle.volume.proofs.live.keep_versions.Goals as goal
 
 pub loop-entry-preserved : goal.loop-entry-preserved

@@ -1,10 +1,8 @@
 use Rattle.std.proofs.Common.{◌≡◌, ℕ, ◌+◌, Some, map, filter_map, length, take, IfSome}
 use Rattle.std.specs.List.{AllZip}
-use Rattle.meaning.specs.Maps.{total}
-use Rattle.volume.specs.Known.{reaches_in_entries}
-use Rattle.volume.specs.Cores.{file_view, known_version}
-use Rattle.volume.specs.Live.{IsCurrent, IsFirstRead, current_reaches, slot}
-use Rattle.volume.specs.LiveCores.{known_at}
+use Rattle.spec_image.specs.Common.{total}
+use Rattle.volume.specs.Common.{reaches_in_entries, file_view, known_version, IsCurrent, IsFirstRead, current_reaches}
+use Rattle.volume.specs.Common.{slot, known_at}
 use Rattle.volume.specs.declared.live.LiveVersion.{LiveVersion}
 use Rattle.volume.proofs.live.keep_versions.Given as goal
 

@@ -1,6 +1,6 @@
 use Rattle.std.proofs.Common.{◌≡◌, ◌+◌, ℕ, take}
-use Rattle.meaning.specs.Maps.{times}
-use Rattle.alloctab.specs.TableState.{holds}
+use Rattle.spec_image.specs.Common.{times}
+use Rattle.alloctab.specs.Common.{holds}
 use Rattle.volume.proofs.live.unhold_all.Given as goal
 
 abbrev pub invariant-loop-block : goal.invariant-loop-block

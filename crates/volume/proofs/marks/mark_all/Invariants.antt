@@ -1,6 +1,6 @@
 use Rattle.std.proofs.Common.{◌≡◌, ◌+◌, ℕ, length, take}
-use Rattle.meaning.specs.Maps.{times}
-use Rattle.alloctab.specs.Lists.{digit_at}
+use Rattle.spec_image.specs.Common.{times}
+use Rattle.alloctab.specs.Common.{digit_at}
 use Rattle.volume.proofs.marks.mark_all.Given as goal
 
 abbrev pub invariant-loop-block : goal.invariant-loop-block

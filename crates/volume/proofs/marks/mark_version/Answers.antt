@@ -2,10 +2,10 @@ use Rattle.std.proofs.Common.{◌≡◌, ◌+◌, ◌<◌, ℕ, [], ◌∷◌, �
 use Rattle.std.proofs.lemmas.Result.{err_from_is_err_and}
 use Rattle.std.specs.List.{AllByRecursion}
 use Rattle.std.proofs.Math.ListN.{length-set}
-use Rattle.meaning.specs.Maps.{times}
-use Rattle.meaning.proofs.Lists.{times_here}
-use Rattle.alloctab.specs.Lists.{digit_at}
-use Rattle.volume.proofs.Marking.{digit-marked, times_parts, on_ok}
+use Rattle.spec_image.specs.Common.{times}
+use Rattle.spec_image.proofs.Common.{times_here}
+use Rattle.alloctab.specs.Common.{digit_at}
+use Rattle.volume.proofs.Shared.Marking.{digit-marked, times_parts, on_ok}
 use Rattle.changeset.proofs.Reading.{passed_on}
 use Rattle.volume.proofs.marks.mark_version.Goals as goal
 

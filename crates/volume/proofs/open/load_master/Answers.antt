@@ -1,11 +1,10 @@
 use Rattle.std.proofs.Common.{inl, inr, Err, ap, ◌∙◌}
-use Rattle.meaning.specs.Faults.{InSpace}
-use Rattle.meaning.specs.Layouts.{layout_number}
-use Rattle.volume.specs.FaultsFound.{NamesInSpace, SettledRefuses}
-use Rattle.volume.proofs.Handing.{by_chain}
-use Rattle.volume.proofs.FoundDirectories.{all_times_at}
-use Rattle.volume.proofs.FaultyMaps.{master_fault, master_twice}
-use Rattle.volume.proofs.Quotas.{chain_carries, quota_refused}
+use Rattle.spec_image.specs.Common.{InSpace, layout_number}
+use Rattle.volume.specs.Common.{NamesInSpace, SettledRefuses}
+use Rattle.volume.proofs.Shared.Handing.{by_chain}
+use Rattle.volume.proofs.Starting.FaultyMaps.{master_fault, master_twice}
+use Rattle.volume.proofs.Starting.Quotas.{chain_carries, quota_refused}
+use Rattle.spec_image.proofs.Common.{each_times}
 use Rattle.volume.proofs.open.load_master.Goals as goal
 
 pub returns-in-Err-clause-fault : goal.returns-in-Err-clause-fault
@@ -33,12 +32,12 @@ returns-in-Err-refuse_quotas-clause-fault g c h home =
     (λ n is. let refused = c.in-Err-refuse_quotas.is ∙ ap Err is in
     master_fault s.size s.contents (layout_number c.args.layout) c.args.first n c.requires.volume home
     (c.refuse_quotas.ensures.bad n refused s.size s.contents c.args.first (c.in-Ok.ensures.walk h)
-    (all_times_at (InSpace s.size) c.in-Ok.chain.blocks n c.in-Ok.ensures.inside
+    (each_times (InSpace s.size) c.in-Ok.chain.blocks n c.in-Ok.ensures.inside
     (c.refuse_quotas.ensures.named n refused))))
 
 pub returns-in-Err-refuse_quotas-clause-named : goal.returns-in-Err-refuse_quotas-clause-named
 returns-in-Err-refuse_quotas-clause-named g c =
     let s = g.D.Disk.state c.args.disk.now in
     quota_refused (NamesInSpace s.size) c.in-Err-refuse_quotas.error c.in-Err-refuse_quotas.ensures.only
-    (λ n is. all_times_at (InSpace s.size) c.in-Ok.chain.blocks n c.in-Ok.ensures.inside
+    (λ n is. each_times (InSpace s.size) c.in-Ok.chain.blocks n c.in-Ok.ensures.inside
     (c.refuse_quotas.ensures.named n (c.in-Err-refuse_quotas.is ∙ ap Err is)))

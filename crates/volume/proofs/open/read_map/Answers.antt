@@ -1,26 +1,18 @@
 use Rattle.std.proofs.Common.{◌≡◌, ℕ, map, length, sym, refl, ap, subst, ◌∙◌, Err, IsErrOf}
 use Rattle.std.proofs.lemmas.List.{length-map}
 use Rattle.std.proofs.lemmas.Result.{err_from_is_err_and}
-use Rattle.blockdisk.specs.Disk.{Contents}
-use Rattle.blockdisk.specs.Laws.{same_contents}
-use Rattle.meaning.specs.Home.{IsHome}
-use Rattle.alloctab.specs.Inside.{InTable}
-use Rattle.alloctab.specs.Lists.{digit_at}
-use Rattle.alloctab.specs.TableState.{TableState}
-use Rattle.directory.specs.Chains.{viewed}
-use Rattle.directory.specs.ChainLaws.{chain_weaker}
-use Rattle.meaning.specs.Layouts.{layout_number}
-use Rattle.volume.specs.Cores.{master_view, known_directory}
-use Rattle.volume.specs.Known.{cost_of_known}
-use Rattle.volume.specs.Homes.{home_in}
-use Rattle.volume.specs.Found.{IsOnlySpace, IsMapFound, IsRightFor, IsWrongFor}
-use Rattle.volume.specs.FaultsFound.{NamesInSpace, SettledRefuses}
+use Rattle.blockdisk.specs.Common.{Contents, same_contents}
+use Rattle.spec_image.specs.Common.{IsHome, layout_number}
+use Rattle.alloctab.specs.Common.{InTable, digit_at, TableState}
+use Rattle.directory.specs.Common.{viewed, chain_weaker}
+use Rattle.volume.specs.Common.{master_view, known_directory, cost_of_known, home_in, IsOnlySpace, IsMapFound}
+use Rattle.volume.specs.Common.{IsRightFor, IsWrongFor, NamesInSpace, SettledRefuses}
 use Rattle.volume.specs.declared.error.VolumeError.TheVariants.{Device}
-use Rattle.volume.proofs.DisksAsked.{reads_disk_served, reads_disk_ok, reads_disk_on, reads_disk_handed}
-use Rattle.volume.proofs.Handing.{handed, found_on, home_named, table_named, named_on}
-use Rattle.volume.proofs.FoundMaps.{map_found, map_held, table_fault}
-use Rattle.volume.proofs.LayoutLimits.{wide_entry}
-use Rattle.volume.proofs.Opening.{table_refused, right_bits, read_whole, read_booked}
+use Rattle.volume.proofs.Shared.DisksAsked.{reads_disk_served, reads_disk_ok, reads_disk_on, reads_disk_handed}
+use Rattle.volume.proofs.Shared.Handing.{handed, found_on, home_named, table_named, named_on}
+use Rattle.volume.proofs.Starting.FoundMaps.{map_found, map_held, table_fault}
+use Rattle.volume.proofs.Shared.LayoutLimits.{wide_entry}
+use Rattle.volume.proofs.Starting.Opening.{table_refused, right_bits, read_whole, read_booked}
 use Rattle.volume.proofs.open.read_map.Goals as goal
 
 pub returns-in_err-master-clause-fault : goal.returns-in_err-master-clause-fault

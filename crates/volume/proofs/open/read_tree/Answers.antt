@@ -1,21 +1,16 @@
 use Rattle.std.proofs.Common.{◌<◌, ℕ, List, map, sym, ap, subst, ◌∙◌, ◌≡◌, Err, IsErrOf}
 use Rattle.std.proofs.lemmas.Result.{err_from_is_err_and}
-use Rattle.blockdisk.specs.Laws.{same_contents}
-use Rattle.meaning.specs.Directories.{MasterEntry, master_words}
-use Rattle.meaning.specs.Layouts.{layout_number}
-use Rattle.meaning.specs.Maps.{times}
-use Rattle.meaning.specs.Faults.{InSpace, IsMasterEntryOf}
-use Rattle.alloctab.specs.Lists.{digit_at}
-use Rattle.directory.specs.Chains.{nodes_of, viewed}
-use Rattle.directory.specs.ChainLaws.{chain_items, numbers_of}
-use Rattle.volume.specs.Cores.{master_view}
-use Rattle.volume.specs.Found.{IsOnlySpace}
-use Rattle.volume.specs.FaultsFound.{NamesInSpace, IsFaultOfDirectories, SettledRefuses}
+use Rattle.blockdisk.specs.Common.{same_contents}
+use Rattle.spec_image.specs.Common.{MasterEntry, master_words, layout_number, times, InSpace, IsMasterEntryOf}
+use Rattle.alloctab.specs.Common.{digit_at}
+use Rattle.directory.specs.Common.{nodes_of, viewed, chain_items, numbers_of}
+use Rattle.volume.specs.Common.{master_view, IsOnlySpace, NamesInSpace, IsFaultOfDirectories, SettledRefuses}
 use Rattle.volume.specs.declared.error.VolumeError.TheVariants.{Device}
-use Rattle.volume.proofs.DisksAsked.{reads_disk_served, reads_disk_ok, reads_disk_on, reads_disk_handed, reads_disk_of}
-use Rattle.volume.proofs.Handing.{handed, found_named, named_on}
-use Rattle.volume.proofs.FoundDirectories.{all_times_at}
-use Rattle.volume.proofs.FaultyMaps.{directories_fault}
+use Rattle.volume.proofs.Shared.DisksAsked.{reads_disk_served, reads_disk_ok, reads_disk_on, reads_disk_handed}
+use Rattle.volume.proofs.Shared.DisksAsked.{reads_disk_of}
+use Rattle.volume.proofs.Shared.Handing.{handed, found_named, named_on}
+use Rattle.volume.proofs.Starting.FaultyMaps.{directories_fault}
+use Rattle.spec_image.proofs.Common.{each_times}
 use Rattle.volume.proofs.open.read_tree.Goals as goal
 
 pub returns-in_err-directories-clause-fault : goal.returns-in_err-directories-clause-fault
@@ -51,7 +46,7 @@ returns-clause-space g c =
     let now = g.D.Disk.state c.load_master.new.disk in
     let size = c.load_master.ensures.disk.same.size in
     let before : IsOnlySpace s.size c.load_master.new.reached = λ n some.
-    all_times_at (InSpace s.size) c.in_ok-master.master.blocks n c.in_ok-master.ensures.inside
+    each_times (InSpace s.size) c.in_ok-master.master.blocks n c.in_ok-master.ensures.inside
     (subst (λ (k : ℕ). 0 < k) (c.in_ok-master.ensures.marked n) some) in
     subst (λ (k : ℕ). IsOnlySpace k c.read_directories.new.reached) size
     (c.in_ok-directories.ensures.space (subst (λ (k : ℕ). IsOnlySpace k c.load_master.new.reached) (sym size) before))

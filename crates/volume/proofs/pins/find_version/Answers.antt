@@ -1,10 +1,9 @@
 use Rattle.std.proofs.Common.{inr, map, refl, sym, ap, ◌∙◌, arith}
 use Rattle.std.proofs.lemmas.List.{length-map}
-use Rattle.meaning.proofs.MapLaws.{some_same}
-use Rattle.volume.specs.Cores.{master_view, file_view}
-use Rattle.volume.specs.LiveCores.{live_directory}
-use Rattle.volume.proofs.Answering.{placed}
-use Rattle.volume.proofs.LiveLookups.{as_many, keyed_at, kept_at, current_at}
+use Rattle.spec_image.proofs.Common.{some_same}
+use Rattle.volume.specs.Common.{master_view, file_view, live_directory}
+use Rattle.volume.proofs.Shared.Answering.{placed}
+use Rattle.volume.proofs.Shared.LiveLookups.{as_many, keyed_at, kept_at, current_at}
 use Rattle.volume.proofs.pins.find_version.Goals as goal
 
 pub at-requires : goal.at-requires

@@ -1,60 +1,55 @@
 use Rattle.std.proofs.Common.{◌≡◌, ℕ, List, length, Some, true, Err, refl, sym, subst, ◌∙◌}
 use Rattle.std.specs.List.{AllByRecursion}
-use Rattle.meaning.specs.Files.{File, Files}
-use Rattle.meaning.specs.Log.{IsTarget, targets}
-use Rattle.meaning.specs.Retrieval.{HasBody}
-use Rattle.volume.specs.Edits.{IsEdited}
-use Rattle.volume.specs.Live.{pending_at}
-use Rattle.volume.specs.LiveCores.{core_of}
-use Rattle.volume.specs.Publishing.{file_of, files_published}
+use Rattle.spec_image.specs.Common.{File, Files, IsTarget, targets, HasBody}
+use Rattle.volume.specs.Common.{IsEdited, pending_at, core_of, file_of, files_published}
 use Rattle.volume.specs.declared.error.CallError.TheVariants.{Device}
 use Rattle.volume.specs.declared.pending.PendingVersion.{PendingVersion}
-use Rattle.volume.proofs.PuttingCore.{some_of}
-use Rattle.volume.proofs.PublishingBlocks.{made_current_of, retrieval_inside, retrieval_apart, retrieval_nonzero}
-use Rattle.volume.proofs.PublishingBlocks.{version_words, version_enough, version_fits, puts_in_range}
-use Rattle.volume.proofs.PublishingTransactions.{ok_is, published_ended, published_edited, published_sound}
+use Rattle.volume.proofs.Publishing.Blocks.{made_current_of, retrieval_inside, retrieval_apart, retrieval_nonzero}
+use Rattle.volume.proofs.Publishing.Blocks.{version_words, version_enough, version_fits, puts_in_range}
+use Rattle.volume.proofs.Publishing.Transactions.{ok_is, published_ended, published_edited, published_sound}
+use Rattle.spec_image.proofs.Common.{some_is}
 use Rattle.volume.proofs.publish.publish_written.Given
 use Rattle.volume.proofs.publish.publish_written.Goals as goal
 
 pub write_retrieval_blocks-written-requires-clause-inside :
     goal.write_retrieval_blocks-written-requires-clause-inside
 write_retrieval_blocks-written-requires-clause-inside g c =
-    let there = some_of (pending_at (core_of c.args.map.now).pending c.args.key) c.requires.there in
+    let there = some_is (pending_at (core_of c.args.map.now).pending c.args.key) c.requires.there in
     let made = made_current_of c.requires.sound (c.make_current-current.ensures there.0 there.1) c.in-Some.ensures in
     retrieval_inside c.requires.sound.whole made
 
 pub write_retrieval_blocks-written-requires-clause-apart :
     goal.write_retrieval_blocks-written-requires-clause-apart
 write_retrieval_blocks-written-requires-clause-apart g c =
-    let there = some_of (pending_at (core_of c.args.map.now).pending c.args.key) c.requires.there in
+    let there = some_is (pending_at (core_of c.args.map.now).pending c.args.key) c.requires.there in
     let made = made_current_of c.requires.sound (c.make_current-current.ensures there.0 there.1) c.in-Some.ensures in
     retrieval_apart c.requires.sound.whole made
 
 pub write_retrieval_blocks-written-requires-clause-nonzero :
     goal.write_retrieval_blocks-written-requires-clause-nonzero
 write_retrieval_blocks-written-requires-clause-nonzero g c =
-    let there = some_of (pending_at (core_of c.args.map.now).pending c.args.key) c.requires.there in
+    let there = some_is (pending_at (core_of c.args.map.now).pending c.args.key) c.requires.there in
     let made = made_current_of c.requires.sound (c.make_current-current.ensures there.0 there.1) c.in-Some.ensures in
     retrieval_nonzero c.requires.sound.whole made
 
 pub write_retrieval_blocks-written-requires-clause-words :
     goal.write_retrieval_blocks-written-requires-clause-words
 write_retrieval_blocks-written-requires-clause-words g c =
-    let there = some_of (pending_at (core_of c.args.map.now).pending c.args.key) c.requires.there in
+    let there = some_is (pending_at (core_of c.args.map.now).pending c.args.key) c.requires.there in
     let made = made_current_of c.requires.sound (c.make_current-current.ensures there.0 there.1) c.in-Some.ensures in
     version_words c.requires.sound.whole made
 
 pub write_retrieval_blocks-written-requires-clause-enough :
     goal.write_retrieval_blocks-written-requires-clause-enough
 write_retrieval_blocks-written-requires-clause-enough g c =
-    let there = some_of (pending_at (core_of c.args.map.now).pending c.args.key) c.requires.there in
+    let there = some_is (pending_at (core_of c.args.map.now).pending c.args.key) c.requires.there in
     let made = made_current_of c.requires.sound (c.make_current-current.ensures there.0 there.1) c.in-Some.ensures in
     version_enough c.requires.sound.whole made
 
 pub write_retrieval_blocks-written-requires-clause-fit :
     goal.write_retrieval_blocks-written-requires-clause-fit
 write_retrieval_blocks-written-requires-clause-fit g c =
-    let there = some_of (pending_at (core_of c.args.map.now).pending c.args.key) c.requires.there in
+    let there = some_is (pending_at (core_of c.args.map.now).pending c.args.key) c.requires.there in
     let made = made_current_of c.requires.sound (c.make_current-current.ensures there.0 there.1) c.in-Some.ensures in
     version_fits c.requires.sound.whole made
 
@@ -64,7 +59,7 @@ ended : (g : Given.Over) (c : goal.Then-is_err g) (become : Files File → Files
     → IsEdited (g.D.Disk.state c.args.disk.now) (g.D.Disk.state c.write_retrieval_blocks-written.new.disk)
     (core_of c.args.map.now) (core_of c.make_current-current.new.core) become true (Err Device)
 ended g c become =
-    let there = some_of (pending_at (core_of c.args.map.now).pending c.args.key) c.requires.there in
+    let there = some_is (pending_at (core_of c.args.map.now).pending c.args.key) c.requires.there in
     let made = made_current_of c.requires.sound (c.make_current-current.ensures there.0 there.1) c.in-Some.ensures in
     published_ended c.requires.sound made (λ h d left. g.met.D.Disk.only_now c.args.disk.now d h left)
     c.write_retrieval_blocks-written.ensures.same c.write_retrieval_blocks-written.ensures.modified become
@@ -83,7 +78,7 @@ returns-then-is_err-clause-homes g c = (ended g c (λ f. f)).files.homes
 
 pub commit_edit-requires-clause-in_range : goal.commit_edit-requires-clause-in_range
 commit_edit-requires-clause-in_range g c =
-    let there = some_of (pending_at (core_of c.args.map.now).pending c.args.key) c.requires.there in
+    let there = some_is (pending_at (core_of c.args.map.now).pending c.args.key) c.requires.there in
     let made = made_current_of c.requires.sound (c.make_current-current.ensures there.0 there.1) c.in-Some.ensures in
     subst (λ (n : ℕ). AllByRecursion (IsTarget n) (targets c.make_current-current.new.set))
     (sym c.write_retrieval_blocks-written.ensures.same.size) (puts_in_range c.requires.sound.whole made)
@@ -111,7 +106,7 @@ with_words : (g : Given.Over) (c : goal.After-commit_edit g) → (g.D.Disk.state
     × IsEdited (g.D.Disk.state c.args.disk.now) (g.D.Disk.state c.commit_edit.new.disk) (core_of c.args.map.now)
     (core_of c.make_current-current.new.core) become c.commit_edit.new.failed c.commit_edit.result
 with_words g c h' =
-    let there = some_of (pending_at (core_of c.args.map.now).pending c.args.key) c.requires.there in
+    let there = some_is (pending_at (core_of c.args.map.now).pending c.args.key) c.requires.there in
     let p = there.0 in
     let h = c.write_retrieval_blocks-written.ensures.same.was_honest (c.commit_edit.ensures.same.was_honest h') in
     let has = c.requires.sound.written h refl c.args.key p there.1 in (
@@ -121,7 +116,7 @@ with_words g c h' =
 
 pub returns-clause-sound : goal.returns-clause-sound
 returns-clause-sound g c =
-    let there = some_of (pending_at (core_of c.args.map.now).pending c.args.key) c.requires.there in
+    let there = some_is (pending_at (core_of c.args.map.now).pending c.args.key) c.requires.there in
     let made = made_current_of c.requires.sound (c.make_current-current.ensures there.0 there.1) c.in-Some.ensures in
     published_sound c.requires.sound made (λ h d left. g.met.D.Disk.only_now c.args.disk.now d h left)
     c.write_retrieval_blocks-written.ensures.same c.write_retrieval_blocks-written.ensures.modified

@@ -1,10 +1,8 @@
 use Rattle.std.proofs.Common.{◌≡◌, map, Some, option_copied, refl, sym, ap, ◌∙◌, arith}
 use Rattle.std.proofs.lemmas.List.{length-map}
-use Rattle.volume.specs.Cores.{file_view}
-use Rattle.volume.specs.Known.{IsWholeVersion}
-use Rattle.volume.specs.Live.{slot, as_known}
-use Rattle.meaning.proofs.MapLaws.{some_none, some_same}
-use Rattle.volume.proofs.LiveLookups.{as_many, kept_at, standing_at}
+use Rattle.volume.specs.Common.{file_view, IsWholeVersion, slot, as_known}
+use Rattle.spec_image.proofs.Common.{some_none, some_same}
+use Rattle.volume.proofs.Shared.LiveLookups.{as_many, kept_at, standing_at}
 use Rattle.volume.proofs.query.named_facts.Goals as goal
 
 pub at-requires : goal.at-requires

@@ -1,12 +1,9 @@
 use Rattle.std.proofs.Common.{◌≡◌, ◌/◌, slice_index_or, sym, subst, map, nat_cmp}
 use Rattle.std.specs.List.{AllByRecursion}
-use Rattle.meaning.specs.Directories.{master_words}
-use Rattle.meaning.specs.Faults.{IsMasterEntryOf}
-use Rattle.meaning.specs.Layouts.{layout_number}
-use Rattle.directory.specs.Loading.{IsBadChain}
-use Rattle.volume.specs.Cores.{master_view}
-use Rattle.volume.specs.Quotas.{HasNoQuota}
-use Rattle.volume.proofs.Quotas.{plain_entries, quota_block, quota_among, quota_bad}
+use Rattle.spec_image.specs.Common.{master_words, IsMasterEntryOf, layout_number}
+use Rattle.directory.specs.Common.{IsBadChain}
+use Rattle.volume.specs.Common.{master_view, HasNoQuota}
+use Rattle.volume.proofs.Starting.Quotas.{plain_entries, quota_block, quota_among, quota_bad}
 use Rattle.volume.proofs.quota.refuse_quotas.Goals as goal
 
 pub returns-in-Some-clause-named : goal.returns-in-Some-clause-named

@@ -1,11 +1,10 @@
 use Rattle.std.proofs.Common.{rules, ◌∷◌, ◌++◌}
 use Rattle.std.proofs.lemmas.Result.{err_from_is_err_and}
-use Rattle.meaning.specs.Layouts.{layout_number}
-use Rattle.meaning.specs.Stands.{place_of}
-use Rattle.volume.specs.FaultsFound.{NamesInSpace, IsFaultOfFile}
-use Rattle.meaning.specs.Faults.{InSpace}
-use Rattle.volume.proofs.FoundDirectories.{space_more, all_behind_all}
-use Rattle.volume.proofs.Handing.{handed, file_met_by}
+use Rattle.spec_image.specs.Common.{layout_number, place_of, InSpace}
+use Rattle.volume.specs.Common.{NamesInSpace, IsFaultOfFile}
+use Rattle.volume.proofs.Starting.FoundDirectories.{space_more}
+use Rattle.volume.proofs.Shared.Handing.{handed, file_met_by}
+use Rattle.spec_image.proofs.Common.{all_append}
 use Rattle.volume.proofs.read.add_file.Goals as goal
 
 pub returns-in_err-stored-clause-fault : goal.returns-in_err-stored-clause-fault
@@ -43,7 +42,7 @@ returns-clause-space g c only =
     let v = c.in_ok-stored.stored.version in
     space_more s.size c.args.reached.now c.read_file.new.reached (c.args.turn.now.entry.prime ∷ (v.ribs ++ v.blocks)) only (
       c.requires.inside,
-      all_behind_all (InSpace s.size) v.ribs v.blocks c.in_ok-stored.ensures.ribs_inside
+      all_append (InSpace s.size) v.ribs v.blocks c.in_ok-stored.ensures.ribs_inside
           c.in_ok-stored.ensures.blocks_inside,
     ) c.in_ok-stored.ensures.marks
 

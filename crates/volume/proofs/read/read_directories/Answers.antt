@@ -1,24 +1,20 @@
-use Rattle.std.proofs.Common.{◌≡◌, ◌+◌, ℕ, List, [], map, take, drop, length, refl, sym, ap, subst, ◌∙◌, arith}
-use Rattle.std.proofs.Common.{Err, IsErrOf}
+use Rattle.std.proofs.Common.{◌≡◌, ◌+◌, ℕ, List, [], map, take, drop, length, refl, sym, ap, subst, ◌∙◌, arith, Err}
+use Rattle.std.proofs.Common.{IsErrOf}
 use Rattle.std.proofs.lemmas.Result.{err_from_is_err_and}
 use Rattle.std.specs.List.{AllByRecursion}
-use Rattle.blockdisk.specs.Laws.{same_contents}
-use Rattle.meaning.specs.Layouts.{layout_number}
-use Rattle.meaning.specs.Faults.{InSpace, IsMasterEntryOf}
-use Rattle.meaning.specs.Directories.{MasterEntry}
-use Rattle.meaning.specs.Maps.{total}
-use Rattle.alloctab.specs.Lists.{digit_at}
+use Rattle.blockdisk.specs.Common.{same_contents}
+use Rattle.spec_image.specs.Common.{layout_number, InSpace, IsMasterEntryOf, MasterEntry, total}
+use Rattle.alloctab.specs.Common.{digit_at}
 use Rattle.volume.specs.declared.error.VolumeError.TheVariants.{Device}
-use Rattle.volume.specs.Cores.{master_view, known_directory}
-use Rattle.volume.specs.Known.{KnownDirectory, reaches_in_known, IsWholeDirectory}
-use Rattle.volume.specs.Found.{IsOnlySpace, IsAdded, AreDirectoriesRead}
-use Rattle.volume.specs.FaultsFound.{NamesInSpace, IsFaultOfDirectory, IsFaultOfDirectories}
-use Rattle.volume.proofs.DisksAsked.{keeps_disk_start, keeps_disk_served, keeps_disk_on, keeps_disk_handed}
-use Rattle.volume.proofs.Handing.{handed, found_on, named_on}
-use Rattle.volume.proofs.Lookups.{viewed_at, viewed_split}
-use Rattle.volume.proofs.Reaching.{total_marked}
-use Rattle.volume.proofs.FoundDirectories.{no_directories, directories_go_on, all_added}
-use Rattle.volume.proofs.FaultyDirectories.{directory_fault}
+use Rattle.volume.specs.Common.{master_view, known_directory, KnownDirectory, reaches_in_known, IsWholeDirectory}
+use Rattle.volume.specs.Common.{IsOnlySpace, IsAdded, AreDirectoriesRead, NamesInSpace, IsFaultOfDirectory}
+use Rattle.volume.specs.Common.{IsFaultOfDirectories}
+use Rattle.volume.proofs.Shared.DisksAsked.{keeps_disk_start, keeps_disk_served, keeps_disk_on, keeps_disk_handed}
+use Rattle.volume.proofs.Shared.Handing.{handed, found_on, named_on}
+use Rattle.volume.proofs.Shared.Lookups.{viewed_at, viewed_split}
+use Rattle.volume.proofs.Shared.Reaching.{total_marked}
+use Rattle.volume.proofs.Starting.FoundDirectories.{no_directories, directories_go_on, all_added}
+use Rattle.volume.proofs.Starting.FaultyDirectories.{directory_fault}
 use Rattle.volume.proofs.read.read_directories.Goals as goal
 
 pub add_directory-requires-clause-inside : goal.add_directory-requires-clause-inside

@@ -1,12 +1,9 @@
 use Rattle.std.proofs.Common.{◌≡◌, ℕ, ◌+◌, map, take, length}
 use Rattle.std.specs.List.{AllByRecursion}
-use Rattle.meaning.specs.Layouts.{layout_number}
-use Rattle.meaning.specs.Maps.{total}
-use Rattle.alloctab.specs.Lists.{digit_at}
-use Rattle.volume.specs.DiskAnswers.{KeepsDisk}
-use Rattle.volume.specs.Cores.{master_view, known_directory}
-use Rattle.volume.specs.Known.{reaches_in_known, IsWholeDirectory}
-use Rattle.volume.specs.Found.{IsOnlySpace, AreDirectoriesRead}
+use Rattle.spec_image.specs.Common.{layout_number, total}
+use Rattle.alloctab.specs.Common.{digit_at}
+use Rattle.volume.specs.Common.{KeepsDisk, master_view, known_directory, reaches_in_known, IsWholeDirectory}
+use Rattle.volume.specs.Common.{IsOnlySpace, AreDirectoriesRead}
 use Rattle.volume.proofs.read.read_directories.Given as goal
 
 abbrev pub invariant-loop-entry : goal.invariant-loop-entry

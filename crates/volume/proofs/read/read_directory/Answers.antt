@@ -2,22 +2,18 @@ use Rattle.std.proofs.Common.{ℕ, List, map, length, sym, ap, subst, ◌∙◌,
 use Rattle.std.specs.List.{AllByRecursion}
 use Rattle.std.proofs.lemmas.Result.{err_from_is_err_and}
 use Rattle.std.proofs.lemmas.List.{length-map}
-use Rattle.blockdisk.specs.Disk.{Contents}
-use Rattle.blockdisk.specs.Laws.{same_contents}
-use Rattle.meaning.specs.Layouts.{layout_number}
-use Rattle.meaning.specs.Faults.{InSpace}
-use Rattle.meaning.specs.Directories.{FileEntry}
-use Rattle.alloctab.specs.Lists.{digit_at}
-use Rattle.directory.specs.Chains.{viewed}
-use Rattle.volume.specs.Cores.{file_view, known_version}
-use Rattle.volume.specs.Found.{IsOnlySpace, AreFilesRead}
-use Rattle.volume.specs.FaultsFound.{NamesInSpace, IsFaultOfFiles, IsFaultOfDirectory}
+use Rattle.blockdisk.specs.Common.{Contents, same_contents}
+use Rattle.spec_image.specs.Common.{layout_number, InSpace, FileEntry}
+use Rattle.alloctab.specs.Common.{digit_at}
+use Rattle.directory.specs.Common.{viewed}
+use Rattle.volume.specs.Common.{file_view, known_version, IsOnlySpace, AreFilesRead, NamesInSpace, IsFaultOfFiles}
+use Rattle.volume.specs.Common.{IsFaultOfDirectory}
 use Rattle.volume.specs.declared.error.VolumeError.TheVariants.{Device}
-use Rattle.volume.proofs.DisksAsked.{keeps_disk_served, keeps_disk_ok, keeps_disk_on, keeps_disk_handed}
-use Rattle.volume.proofs.Handing.{handed, found_on, named_on}
-use Rattle.volume.proofs.FoundDirectories.{directory_found, space_more}
-use Rattle.volume.proofs.FaultyDirectories.{files_fault}
-use Rattle.volume.proofs.LayoutLimits.{entry_quota}
+use Rattle.volume.proofs.Shared.DisksAsked.{keeps_disk_served, keeps_disk_ok, keeps_disk_on, keeps_disk_handed}
+use Rattle.volume.proofs.Shared.Handing.{handed, found_on, named_on}
+use Rattle.volume.proofs.Starting.FoundDirectories.{directory_found, space_more}
+use Rattle.volume.proofs.Starting.FaultyDirectories.{files_fault}
+use Rattle.volume.proofs.Shared.LayoutLimits.{entry_quota}
 use Rattle.volume.proofs.read.read_directory.Goals as goal
 
 pub returns-in_err-chain-clause-fault : goal.returns-in_err-chain-clause-fault

@@ -1,23 +1,16 @@
 use Rattle.std.proofs.Common.{◌+◌, List, map, ap, subst, sym, ◌∙◌}
 use Rattle.std.proofs.lemmas.Result.{err_from_is_err_and}
 use Rattle.std.specs.List.{AllByRecursion}
-use Rattle.alloctab.specs.Lists.{digit_at}
-use Rattle.meaning.specs.Directories.{FileEntry}
-use Rattle.meaning.specs.Faults.{InSpace}
-use Rattle.meaning.specs.Files.{name_cmp}
-use Rattle.meaning.specs.Layouts.{layout_number}
-use Rattle.meaning.specs.Maps.{EachOnce}
-use Rattle.meaning.proofs.Names.{name_exact, name_total}
+use Rattle.alloctab.specs.Common.{digit_at}
+use Rattle.spec_image.specs.Common.{FileEntry, InSpace, name_cmp, layout_number, EachOnce}
+use Rattle.spec_image.proofs.Common.{name_exact, name_total}
 use Rattle.volume.specs.declared.turns.Turn.{Turn}
-use Rattle.volume.specs.Cores.{file_view}
-use Rattle.volume.specs.Turns.{turn_view, placed_known}
-use Rattle.volume.specs.Known.{IsWholeVersion, reaches_in_entries}
-use Rattle.volume.specs.Found.{AreFilesRead}
-use Rattle.volume.specs.FaultsFound.{IsFaultOfFiles}
-use Rattle.volume.proofs.Handing.{handed, found_on}
-use Rattle.volume.proofs.ReadTurns.{as_many_versions, entries_moved, fault_moved, places_read, read_the_same}
-use Rattle.volume.proofs.ReadTurns.{reached_the_same, whole_the_same}
-use Rattle.volume.proofs.Reordered.{all_moved, once_moved}
+use Rattle.volume.specs.Common.{file_view, turn_view, placed_known, IsWholeVersion, reaches_in_entries, AreFilesRead}
+use Rattle.volume.specs.Common.{IsFaultOfFiles}
+use Rattle.volume.proofs.Shared.Handing.{handed, found_on}
+use Rattle.volume.proofs.Starting.ReadTurns.{as_many_versions, entries_moved, fault_moved, places_read, read_the_same}
+use Rattle.volume.proofs.Starting.ReadTurns.{reached_the_same, whole_the_same}
+use Rattle.volume.proofs.Shared.Reordered.{all_moved, once_moved}
 use Rattle.volume.proofs.read.read_files.Goals as goal
 
 pub read_turns-requires-clause-inside : goal.read_turns-requires-clause-inside

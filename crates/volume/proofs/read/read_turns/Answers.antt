@@ -1,23 +1,18 @@
 use Rattle.std.proofs.Common.{◌+◌, ℕ, map, take, drop, sym, ap, subst, ◌∙◌, ◌≡◌, Err, IsErrOf}
 use Rattle.std.proofs.lemmas.Result.{err_from_is_err_and}
-use Rattle.blockdisk.specs.Laws.{same_contents}
-use Rattle.meaning.specs.Layouts.{layout_number}
-use Rattle.meaning.specs.Stands.{place_of}
-use Rattle.meaning.specs.Faults.{InSpace}
-use Rattle.meaning.specs.Directories.{FileEntry}
-use Rattle.alloctab.specs.Lists.{digit_at}
-use Rattle.volume.specs.Turns.{turn_view, placed_known}
-use Rattle.volume.specs.FaultsFound.{NamesInSpace, IsFaultOfFile, IsFaultOfFiles}
+use Rattle.blockdisk.specs.Common.{same_contents}
+use Rattle.spec_image.specs.Common.{layout_number, place_of, InSpace, FileEntry}
+use Rattle.alloctab.specs.Common.{digit_at}
+use Rattle.volume.specs.Common.{turn_view, placed_known, NamesInSpace, IsFaultOfFile, IsFaultOfFiles, IsWholeVersion}
+use Rattle.volume.specs.Common.{IsOnlySpace}
 use Rattle.volume.specs.declared.error.VolumeError.TheVariants.{Device}
-use Rattle.volume.proofs.DisksAsked.{keeps_disk_served, keeps_disk_on, keeps_disk_handed}
-use Rattle.volume.proofs.Handing.{handed, found_on, named_on}
-use Rattle.volume.proofs.Lookups.{viewed_at, viewed_split}
-use Rattle.volume.specs.Known.{IsWholeVersion}
-use Rattle.volume.specs.Found.{IsOnlySpace}
-use Rattle.volume.proofs.FoundDirectories.{all_added}
-use Rattle.volume.proofs.Reaching.{entries_marked}
-use Rattle.volume.proofs.FoundFiles.{file_fault, files_go_on}
-use Rattle.volume.proofs.ReadTurns.{places_more}
+use Rattle.volume.proofs.Shared.DisksAsked.{keeps_disk_served, keeps_disk_on, keeps_disk_handed}
+use Rattle.volume.proofs.Shared.Handing.{handed, found_on, named_on}
+use Rattle.volume.proofs.Shared.Lookups.{viewed_at, viewed_split}
+use Rattle.volume.proofs.Starting.FoundDirectories.{all_added}
+use Rattle.volume.proofs.Shared.Reaching.{entries_marked}
+use Rattle.volume.proofs.Starting.FoundFiles.{file_fault, files_go_on}
+use Rattle.volume.proofs.Starting.ReadTurns.{places_more}
 use Rattle.volume.proofs.read.read_turns.Goals as goal
 
 pub add_file-requires-clause-inside : goal.add_file-requires-clause-inside

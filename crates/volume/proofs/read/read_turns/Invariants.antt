@@ -1,11 +1,9 @@
 use Rattle.std.proofs.Common.{◌≡◌, ℕ, ◌+◌, map, take, length}
 use Rattle.std.specs.List.{AllByRecursion}
-use Rattle.alloctab.specs.Lists.{digit_at}
-use Rattle.meaning.specs.Layouts.{layout_number}
-use Rattle.volume.specs.DiskAnswers.{KeepsDisk}
-use Rattle.volume.specs.Turns.{turn_view, placed_known}
-use Rattle.volume.specs.Known.{reaches_in_entries, IsWholeVersion}
-use Rattle.volume.specs.Found.{IsOnlySpace, AreFilesRead}
+use Rattle.alloctab.specs.Common.{digit_at}
+use Rattle.spec_image.specs.Common.{layout_number}
+use Rattle.volume.specs.Common.{KeepsDisk, turn_view, placed_known, reaches_in_entries, IsWholeVersion, IsOnlySpace}
+use Rattle.volume.specs.Common.{AreFilesRead}
 use Rattle.volume.proofs.read.read_turns.Given as goal
 
 abbrev pub invariant-loop-turn : goal.invariant-loop-turn

@@ -1,14 +1,12 @@
 use Rattle.std.proofs.Common.{◌≡◌, slice_set, refl, sym, subst}
 use Rattle.std.specs.Vec.{with_item}
-use Rattle.meaning.specs.Files.{name_cmp}
-use Rattle.directory.specs.Chains.{viewed}
-use Rattle.directory.specs.Edits.{IsReserve}
-use Rattle.volume.specs.Cores.{file_view}
-use Rattle.volume.specs.LiveCores.{live_directory}
+use Rattle.spec_image.specs.Common.{name_cmp}
+use Rattle.directory.specs.Common.{viewed, IsReserve}
+use Rattle.volume.specs.Common.{file_view, live_directory}
 use Rattle.volume.specs.declared.live.LiveMap.{LiveMap}
-use Rattle.volume.proofs.Arriving.{known_here, directory_here, as_many_keys, known_fit, chain_booked, chain_room}
-use Rattle.volume.proofs.Arriving.{grown_free, use_held, use_clear, takes_for, arrives}
-use Rattle.volume.proofs.MakingCurrent.{directory_there, directory_read}
+use Rattle.volume.proofs.RenamingAcross.Arriving.{known_here, directory_here, as_many_keys, known_fit, chain_booked}
+use Rattle.volume.proofs.RenamingAcross.Arriving.{chain_room, grown_free, use_held, use_clear, takes_for, arrives}
+use Rattle.volume.proofs.Publishing.MakingCurrent.{directory_there, directory_read}
 use Rattle.volume.proofs.rename_across.arrive.Goals as goal
 
 pub growth_at-more-requires-clause-few : goal.growth_at-more-requires-clause-few

@@ -1,9 +1,9 @@
 use Rattle.std.proofs.Common.{ap, subst, ◌∙◌}
-use Rattle.changeset.specs.Puts.{replaced}
-use Rattle.meaning.proofs.MapLaws.{some_same}
+use Rattle.changeset.specs.Common.{replaced}
+use Rattle.spec_image.proofs.Common.{some_same}
 use Rattle.volume.specs.declared.live.LiveVersion.{LiveVersion}
-use Rattle.volume.specs.Moving.{IsPrimeMoved}
-use Rattle.volume.proofs.Renamings.{slot_moved}
+use Rattle.volume.specs.Common.{IsPrimeMoved}
+use Rattle.volume.proofs.RenamingWithin.Renamings.{slot_moved}
 use Rattle.volume.proofs.rename_within.move_version.Goals as goal
 
 pub returns-clause-moved : goal.returns-clause-moved

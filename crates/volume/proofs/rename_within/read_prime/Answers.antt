@@ -1,6 +1,6 @@
 use Rattle.std.proofs.Common.{List, ℕ, refl, sym, subst, ◌∙◌}
-use Rattle.meaning.proofs.MapLaws.{some_same}
-use Rattle.volume.specs.PrimeBlocks.{IsFilePrime}
+use Rattle.spec_image.proofs.Common.{some_same}
+use Rattle.volume.specs.Common.{IsFilePrime}
 use Rattle.volume.proofs.rename_within.read_prime.Goals as goal
 
 pub returns-then-not-is_file_prime-clause-broken : goal.returns-then-not-is_file_prime-clause-broken

@@ -1,23 +1,18 @@
 use Rattle.std.proofs.Common.{◌≡◌, inl, inr, ℕ, Err, IsErrOf, refl, sym, subst, ◌∙◌}
-use Rattle.blockdisk.specs.Disk.{NoneOpen}
-use Rattle.blockdisk.specs.Laws.{same_contents}
-use Rattle.changeset.specs.Crashes.{IsRecovered}
+use Rattle.blockdisk.specs.Common.{NoneOpen, same_contents}
+use Rattle.changeset.specs.Common.{IsRecovered}
 use Rattle.changeset.specs.declared.error.LogError.TheVariants.{Device as LogDevice}
-use Rattle.meaning.specs.Log.{with_puts}
-use Rattle.meaning.specs.Files.{File, Files}
-use Rattle.meaning.specs.Layouts.{layout_number, pack_of, StandsOn}
-use Rattle.meaning.proofs.Layouts.{layout_is}
-use Rattle.meaning.specs.Stands.{DiskMap}
+use Rattle.spec_image.specs.Common.{with_puts, File, Files, layout_number, pack_of, StandsOn, DiskMap}
+use Rattle.spec_image.proofs.Common.{layout_is}
 use Rattle.volume.specs.declared.error.VolumeError.TheVariants.{BadLog, Device}
 use Rattle.volume.specs.declared.map.DiskMap.{DiskMap as CoreMap}
-use Rattle.volume.specs.Cores.{known_of}
-use Rattle.volume.specs.Known.{IsHeld}
-use Rattle.volume.specs.FaultsFound.{SettledRefuses, Refuses}
-use Rattle.volume.specs.Rest.{IsAtRest, RestsAt, StandsLike, StandsLikeBefore}
-use Rattle.volume.proofs.Handing.{found_on, named_on}
-use Rattle.volume.proofs.Packs.{homes_layout}
-use Rattle.volume.proofs.Starting.{ok_on, ok_always, crash_recovered, synced_recovered, crash_read, synced_read}
-use Rattle.volume.proofs.Starting.{rest_known, rest_files, stood_before, closed_refuses, lost_refuses}
+use Rattle.volume.specs.Common.{known_of, IsHeld, SettledRefuses, Refuses, IsAtRest, RestsAt, StandsLike}
+use Rattle.volume.specs.Common.{StandsLikeBefore}
+use Rattle.volume.proofs.Shared.Handing.{found_on, named_on}
+use Rattle.volume.proofs.Shared.Packs.{homes_layout}
+use Rattle.volume.proofs.Starting.Starts.{ok_on, ok_always, crash_recovered, synced_recovered, crash_read}
+use Rattle.volume.proofs.Starting.Starts.{synced_read, rest_known, rest_files, stood_before, closed_refuses}
+use Rattle.volume.proofs.Starting.Starts.{lost_refuses}
 use Rattle.volume.proofs.start.read_volume.Goals as goal
 
 pub returns-in-Ok-clause-crash : goal.returns-in-Ok-clause-crash

@@ -1,12 +1,11 @@
 use Rattle.std.proofs.Common.{refl, sym, subst, ◌∙◌}
 use Rattle.std.proofs.lemmas.Option.{get_or_from_slice_get}
-use Rattle.meaning.proofs.MapLaws.{some_same}
-use Rattle.volume.specs.LiveCores.{core_of}
-use Rattle.volume.specs.Publishing.{IsSupplied}
+use Rattle.spec_image.proofs.Common.{some_same}
+use Rattle.volume.specs.Common.{core_of, IsSupplied}
 use Rattle.volume.specs.declared.pending.PendingVersion.{PendingVersion}
-use Rattle.volume.proofs.MakingCurrent.{place_within}
-use Rattle.volume.proofs.MakingHeld.{element_at}
-use Rattle.volume.proofs.Supplying.{is_there, supplied}
+use Rattle.volume.proofs.Publishing.MakingCurrent.{place_within}
+use Rattle.volume.proofs.Shared.Held.{element_at}
+use Rattle.volume.proofs.Publishing.Supplying.{is_there, supplied}
 use Rattle.volume.proofs.supplies.find_supplies.Goals as goal
 
 -- src/supplies.rt:108:9

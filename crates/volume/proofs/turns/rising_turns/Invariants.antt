@@ -1,6 +1,6 @@
 use Rattle.std.proofs.Common.{◌≡◌, map, take}
 use Rattle.std.specs.List.{enumerate_from}
-use Rattle.volume.specs.Turns.{numbered_entry}
+use Rattle.volume.specs.Common.{numbered_entry}
 use Rattle.volume.proofs.turns.rising_turns.Given as goal
 
 abbrev pub invariant-loop-place : goal.invariant-loop-place

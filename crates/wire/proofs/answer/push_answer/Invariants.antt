@@ -1,5 +1,5 @@
 use Rattle.std.proofs.Common.{◌≡◌, ◌+◌, ◌*◌, ◌≤◌, ◌++◌, length, take, vec_len, vec_capacity}
-use Rattle.words36.specs.Blocks.{block_bytes}
+use Rattle.words36.specs.Common.{block_bytes}
 use Rattle.wire.specs.Records.{answer_record, record_bytes}
 use Rattle.wire.proofs.answer.push_answer.Given as goal
 

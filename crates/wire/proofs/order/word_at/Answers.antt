@@ -1,5 +1,5 @@
 use Rattle.std.proofs.Common.{◌≡◌, ◌∙◌}
-use Rattle.words36.specs.Blocks.{number_at}
+use Rattle.words36.specs.Common.{number_at}
 use Rattle.words36.proofs.BlockLaws.{number_at-group}
 use Rattle.wire.proofs.order.word_at.Goals as goal
 

@@ -1,6 +1,6 @@
 use Rattle.std.proofs.Common.{arith, rules, ◌≡◌, ◌++◌, ◌∷◌, [], ◌<◌, All, length, take, drop, min, append_assoc}
 use Rattle.std.proofs.lemmas.List.Elements.{All-drop}
-use Rattle.words36.specs.Ascii.{packed}
+use Rattle.words36.specs.Common.{packed}
 use Rattle.words36.proofs.AsciiLaws.{IsAscii, packed-step, unpacked-packed}
 use Rattle.words36.proofs.ascii.pack_ascii.Goals as goal
 

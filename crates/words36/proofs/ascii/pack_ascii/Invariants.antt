@@ -1,5 +1,5 @@
 use Rattle.std.proofs.Common.{◌≡◌, ◌++◌, All, length}
-use Rattle.words36.specs.Ascii.{packed}
+use Rattle.words36.specs.Common.{packed}
 use Rattle.words36.proofs.AsciiLaws.{IsAscii}
 use Rattle.words36.proofs.ascii.pack_ascii.Given as goal
 

@@ -2,7 +2,7 @@ use Rattle.std.proofs.Common.{arith, ◌<◌, ◌≤◌, length}
 use Rattle.std.proofs.lemmas.Grind.{common_steps}
 use Rattle.std.proofs.lemmas.List.{take_all, get_or_read}
 use Rattle.std.proofs.lemmas.List.Elements.{All-more}
-use Rattle.words36.specs.Words.{IsWord}
+use Rattle.words36.specs.Common.{IsWord}
 use Rattle.words36.proofs.AsciiLaws.{packed-unpacked}
 use Rattle.words36.proofs.ascii.unpack_ascii.Goals as goal
 

@@ -1,6 +1,5 @@
 use Rattle.std.proofs.Common.{◌≡◌, take, All}
-use Rattle.words36.specs.Ascii.{unpacked}
-use Rattle.words36.specs.Words.{IsWord}
+use Rattle.words36.specs.Common.{unpacked, IsWord}
 use Rattle.words36.proofs.ascii.unpack_ascii.Given as goal
 
 abbrev pub invariant-loop-word : goal.invariant-loop-word

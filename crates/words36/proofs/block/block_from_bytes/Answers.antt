@@ -1,5 +1,5 @@
 use Rattle.std.proofs.Common.{◌≡◌, ◌^◌, ◌≤◌, ap, Ok, arith}
-use Rattle.words36.specs.Blocks.{number_at}
+use Rattle.words36.specs.Common.{number_at}
 use Rattle.words36.proofs.BlockLaws.{block_bytes-read, read_alone, not_block}
 use Rattle.words36.proofs.block.block_from_bytes.Goals as goal
 

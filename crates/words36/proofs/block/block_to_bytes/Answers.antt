@@ -1,7 +1,7 @@
 use Rattle.std.proofs.Common.{arith, subst, All}
 use Rattle.std.proofs.lemmas.List.{take_all}
 use Rattle.std.proofs.lemmas.List.Elements.{All-more}
-use Rattle.words36.specs.Words.{IsWord}
+use Rattle.words36.specs.Common.{IsWord}
 use Rattle.words36.proofs.BlockLaws.{put-more, put-all}
 use Rattle.words36.proofs.block.block_to_bytes.Goals as goal
 

@@ -1,6 +1,5 @@
 use Rattle.std.proofs.Common.{◌≡◌, ◌*◌, length, take, All}
-use Rattle.words36.specs.Words.{IsWord}
-use Rattle.words36.specs.Blocks.{block_bytes}
+use Rattle.words36.specs.Common.{IsWord, block_bytes}
 use Rattle.words36.proofs.block.block_to_bytes.Given as goal
 
 abbrev pub invariant-loop-place : goal.invariant-loop-place

@@ -1,6 +1,5 @@
 use Rattle.std.proofs.Common.{ℕ, ◌<◌}
-use Rattle.words36.specs.Words.{IsWord}
-use Rattle.words36.specs.Blocks.{number_at}
+use Rattle.words36.specs.Common.{IsWord, number_at}
 use Rattle.words36.proofs.block.first_bad_word.Given as goal
 
 abbrev pub invariant-loop-place : goal.invariant-loop-place

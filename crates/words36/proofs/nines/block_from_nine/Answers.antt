@@ -1,6 +1,6 @@
 use Rattle.std.proofs.Common.{◌∙◌, ◌+◌, ◌*◌, ap, arith, refl}
 use Rattle.std.proofs.lemmas.List.{length-set}
-use Rattle.words36.specs.Nines.{nine_bytes}
+use Rattle.words36.specs.Common.{nine_bytes}
 use Rattle.words36.proofs.NineLaws.{pair_read, all_read, bytes_of_pairs, block_read}
 use Rattle.words36.proofs.nines.block_from_nine.Goals as goal
 

@@ -1,5 +1,5 @@
 use Rattle.std.proofs.Common.{◌≡◌, ◌-◌, ◌*◌, ◌++◌, length, take, drop}
-use Rattle.words36.specs.Nines.{nine_words, pairs_in}
+use Rattle.words36.specs.Common.{nine_words, pairs_in}
 use Rattle.words36.proofs.nines.block_from_nine.Given as goal
 
 abbrev pub invariant-loop-pair : goal.invariant-loop-pair

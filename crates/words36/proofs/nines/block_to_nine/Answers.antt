@@ -1,8 +1,7 @@
 use Rattle.std.proofs.Common.{◌≡◌, ◌∙◌, ◌*◌, ◌+◌, ap, arith, subst, All}
 use Rattle.std.proofs.lemmas.List.{take_all}
 use Rattle.std.proofs.lemmas.List.Elements.{All-more}
-use Rattle.words36.specs.Words.{IsWord}
-use Rattle.words36.specs.Nines.{pairs_in}
+use Rattle.words36.specs.Common.{IsWord, pairs_in}
 use Rattle.words36.proofs.NineLaws.{pair_put, all_put, pairs_of_bytes}
 use Rattle.words36.proofs.nines.block_to_nine.Goals as goal
 

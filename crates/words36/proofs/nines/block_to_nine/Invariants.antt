@@ -1,6 +1,5 @@
 use Rattle.std.proofs.Common.{◌≡◌, ◌*◌, ◌++◌, length, take, drop, All}
-use Rattle.words36.specs.Words.{IsWord}
-use Rattle.words36.specs.Nines.{nine_bytes}
+use Rattle.words36.specs.Common.{IsWord, nine_bytes}
 use Rattle.words36.proofs.nines.block_to_nine.Given as goal
 
 abbrev pub invariant-loop-pair : goal.invariant-loop-pair

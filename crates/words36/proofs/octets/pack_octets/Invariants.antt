@@ -1,5 +1,5 @@
 use Rattle.std.proofs.Common.{◌≡◌, ◌++◌, length}
-use Rattle.words36.specs.Octets.{octets_packed}
+use Rattle.words36.specs.Common.{octets_packed}
 use Rattle.words36.proofs.octets.pack_octets.Given as goal
 
 abbrev pub invariant-loop-rest : goal.invariant-loop-rest

@@ -1,6 +1,6 @@
 use Rattle.std.proofs.Common.{arith, subst}
 use Rattle.std.proofs.lemmas.List.{take_all}
-use Rattle.words36.specs.OctetReading.{HasRead}
+use Rattle.words36.specs.Common.{HasRead}
 use Rattle.words36.proofs.OctetReaderLaws.{found_are, none_are}
 use Rattle.words36.proofs.octets.unpack_octets.Goals as goal
 

@@ -1,5 +1,5 @@
 use Rattle.std.proofs.Common.{arith, refl, ◌≡◌}
-use Rattle.words36.specs.Sixbit.{sixbit, code}
+use Rattle.words36.specs.Common.{sixbit, code}
 use Rattle.words36.proofs.Digits.{leading-none, leading-more, leading_6}
 use Rattle.words36.proofs.SixbitLaws.{ArePassed-more, front-lt, put_code, characters-sixbit}
 use Rattle.words36.proofs.sixbit.sixbit_of.Goals as goal

@@ -1,5 +1,5 @@
 use Rattle.std.proofs.Common.{◌≡◌}
-use Rattle.words36.specs.Sixbit.{code}
+use Rattle.words36.specs.Common.{code}
 use Rattle.words36.proofs.Digits.{leading}
 use Rattle.words36.proofs.SixbitLaws.{ArePassed}
 use Rattle.words36.proofs.sixbit.sixbit_of.Given as goal

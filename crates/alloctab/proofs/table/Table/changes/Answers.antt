@@ -1,12 +1,9 @@
 use Rattle.std.proofs.Common.{◌≡◌, ◌⊎◌, ◌+◌, ◌≤◌, List, length, sym, ◌∙◌, ap, subst}
 use Rattle.std.specs.List.{AllByRecursion}
-use Rattle.meaning.specs.declared.put.Put.{Put}
-use Rattle.meaning.specs.Log.{with_puts, targets, IsTarget}
-use Rattle.meaning.specs.Regions.{table_start}
-use Rattle.changeset.specs.Puts.{IsPutIn}
-use Rattle.alloctab.specs.TableState.{TableState, IsTable, bit, changed_blocks}
-use Rattle.alloctab.specs.Words.{word_bit}
-use Rattle.alloctab.specs.Changes.{SpellsTable, IsChangedBlock}
+use Rattle.spec_image.specs.declared.put.Put.{Put}
+use Rattle.spec_image.specs.Common.{with_puts, targets, IsTarget, table_start}
+use Rattle.changeset.specs.Common.{IsPutIn}
+use Rattle.alloctab.specs.Common.{TableState, IsTable, bit, changed_blocks, word_bit, SpellsTable, IsChangedBlock}
 use Rattle.alloctab.proofs.ChangeLaws.{table_changes, table_changes_are, put_changes, others_changes, targets_changes}
 use Rattle.alloctab.proofs.ChangeLaws.{few_changes, in_range_changes, spells_changes}
 use Rattle.alloctab.proofs.KeptLaws.{sound as kept_sound, bits_are}

@@ -1,8 +1,7 @@
 use Rattle.std.proofs.Common.{◌+◌, ◌/◌, [], ◌∷◌, ◌∙◌, ap, subst, false, refl, rules}
 use Rattle.std.proofs.lemmas.List.{get_or_read}
-use Rattle.meaning.specs.Maps.{times}
-use Rattle.alloctab.specs.TableState.{TableState, IsTable, bit}
-use Rattle.alloctab.specs.TableLaws.{bit-freed}
+use Rattle.spec_image.specs.Common.{times}
+use Rattle.alloctab.specs.Common.{TableState, IsTable, bit, bit-freed}
 use Rattle.alloctab.proofs.KeptLaws.{kept_bit, with_bit_is, sound}
 use Rattle.alloctab.proofs.table.Table.clear.Goals as goal
 

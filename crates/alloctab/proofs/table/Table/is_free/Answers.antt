@@ -1,5 +1,5 @@
 use Rattle.std.proofs.Common.{subst}
-use Rattle.alloctab.specs.TableState.{IsTable}
+use Rattle.alloctab.specs.Common.{IsTable}
 use Rattle.alloctab.proofs.KeptLaws.{sound}
 use Rattle.alloctab.proofs.table.Table.is_free.Goals as goal
 

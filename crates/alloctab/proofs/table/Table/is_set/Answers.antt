@@ -1,6 +1,5 @@
 use Rattle.std.proofs.Common.{ℕ, List, sym, ◌∙◌, ap}
-use Rattle.alloctab.specs.TableState.{TableState, bit}
-use Rattle.alloctab.specs.Words.{word_bit}
+use Rattle.alloctab.specs.Common.{TableState, bit, word_bit}
 use Rattle.alloctab.proofs.FlagLaws.{bit_is}
 use Rattle.alloctab.proofs.table.Table.is_set.Goals as goal
 

@@ -1,9 +1,6 @@
 use Rattle.std.proofs.Common.{◌≡◌, ℕ, ◌*◌, List, length, replicate, sym, ◌∙◌, ap, subst, arith, rules}
 use Rattle.std.proofs.lemmas.List.{with_items_is}
-use Rattle.alloctab.specs.Lists.{digit_at}
-use Rattle.alloctab.specs.Words.{word_bit, flags, IsClearFrom}
-use Rattle.alloctab.specs.Kept.{IsKept}
-use Rattle.alloctab.specs.Reading.{IsTableOf}
+use Rattle.alloctab.specs.Common.{digit_at, word_bit, flags, IsClearFrom, IsKept, IsTableOf}
 use Rattle.alloctab.proofs.KeptLaws.{sound, kept_loaded, table_read, zeros}
 use Rattle.alloctab.proofs.table.Table.load.Goals as goal
 

@@ -1,6 +1,5 @@
 use Rattle.std.proofs.Common.{◌/◌, ◌∙◌, ap, subst, true, true≢false, rules, arith}
-use Rattle.alloctab.specs.TableState.{TableState, IsTable, bit}
-use Rattle.alloctab.specs.TableLaws.{bit-taken}
+use Rattle.alloctab.specs.Common.{TableState, IsTable, bit, bit-taken}
 use Rattle.alloctab.proofs.KeptLaws.{kept_bit, with_bit_is, sound}
 use Rattle.alloctab.proofs.table.Table.set.Goals as goal
 

@@ -1,6 +1,6 @@
 use Rattle.std.proofs.Common.{⊎_elim, subst, rules}
 use Rattle.std.proofs.lemmas.Bool.{cases_lt}
-use Rattle.alloctab.specs.TableState.{IsTable}
+use Rattle.alloctab.specs.Common.{IsTable}
 use Rattle.alloctab.proofs.KeptLaws.{sound, right_past}
 use Rattle.alloctab.proofs.table.Table.wrong_block.Goals as goal
 

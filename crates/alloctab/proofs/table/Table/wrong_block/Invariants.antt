@@ -1,6 +1,5 @@
 use Rattle.std.proofs.Common.{◌≡◌, ℕ, ◌<◌}
-use Rattle.alloctab.specs.TableState.{bit}
-use Rattle.alloctab.specs.Reached.{wanted_bit}
+use Rattle.alloctab.specs.Common.{bit, wanted_bit}
 use Rattle.alloctab.proofs.table.Table.wrong_block.Given as goal
 
 abbrev pub invariant-loop-k : goal.invariant-loop-k

@@ -1,8 +1,6 @@
 use Rattle.std.proofs.Common.{◌<◌, [], length, subst, arith}
 use Rattle.std.proofs.lemmas.List.{get_or_read}
-use Rattle.blockdisk.specs.Calls.{IsWrite}
-use Rattle.blockdisk.specs.Disk.{IsInRun}
-use Rattle.blockdisk.specs.RunLaws.{write_of_one}
+use Rattle.blockdisk.specs.Common.{IsWrite, IsInRun, write_of_one}
 use Rattle.blockcache.proofs.Held.{held_outside}
 use Rattle.blockcache.proofs.cache.CachedDisk.write_run.Goals as goal
 

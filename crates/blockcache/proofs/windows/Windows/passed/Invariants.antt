@@ -1,5 +1,5 @@
 use Rattle.std.proofs.Common.{◌<◌, ◌≤◌, ℕ, None, IsSome}
-use Rattle.blockdisk.specs.Disk.{AreVerified, Contents}
+use Rattle.blockdisk.specs.Common.{AreVerified, Contents}
 use Rattle.blockcache.specs.Window.{AreSeen, words_near}
 use Rattle.blockcache.proofs.windows.Windows.passed.Given as goal
 

@@ -1,5 +1,5 @@
 use Rattle.std.proofs.Common.{◌≡◌, length}
-use Rattle.blockdisk.specs.RunLaws.{IsPartRead}
+use Rattle.blockdisk.specs.Common.{IsPartRead}
 use Rattle.blockdisk.proofs.disk.Disk.read_run.Given as goal
 
 abbrev pub invariant-loop-place : goal.invariant-loop-place

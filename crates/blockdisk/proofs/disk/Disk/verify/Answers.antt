@@ -1,6 +1,5 @@
 use Rattle.std.proofs.Common.{◌≡◌, ◌+◌, length, subst}
-use Rattle.blockdisk.specs.Calls.{IsRead}
-use Rattle.blockdisk.specs.VerifyLaws.{read_whole, verify_on}
+use Rattle.blockdisk.specs.Common.{IsRead, read_whole, verify_on}
 use Rattle.blockdisk.proofs.disk.Disk.verify.Goals as goal
 
 pub loop-n-preserved : goal.loop-n-preserved

@@ -1,5 +1,5 @@
 use Rattle.std.proofs.Common.{Ok, None}
-use Rattle.blockdisk.specs.Calls.{IsVerify}
+use Rattle.blockdisk.specs.Common.{IsVerify}
 use Rattle.blockdisk.proofs.disk.Disk.verify.Given as goal
 
 abbrev pub invariant-loop-n : goal.invariant-loop-n

@@ -1,8 +1,7 @@
 use Rattle.std.proofs.Common.{◌+◌, ◌∙◌, Some, [], ⊎_elim, length, get_or, ap, sym, refl, arith}
 use Rattle.std.proofs.lemmas.Bool.{cases_eq}
 use Rattle.std.proofs.lemmas.List.{get_or_read}
-use Rattle.blockdisk.specs.Disk.{IsInRun}
-use Rattle.blockdisk.specs.Laws.{modifies_start, modifies_write, same_disk_start, same_disk_on}
+use Rattle.blockdisk.specs.Common.{IsInRun, modifies_start, modifies_write, same_disk_start, same_disk_on}
 use Rattle.blockdisk.proofs.disk.Disk.write_run.Goals as goal
 
 pub loop-place-init : goal.loop-place-init

@@ -1,5 +1,5 @@
 use Rattle.std.proofs.Common.{◌≡◌, ◌+◌, ◌<◌, ℕ, Some, [], length, get_or}
-use Rattle.blockdisk.specs.Disk.{IsInRun, Modifies, SameDisk}
+use Rattle.blockdisk.specs.Common.{IsInRun, Modifies, SameDisk}
 use Rattle.blockdisk.proofs.disk.Disk.write_run.Given as goal
 
 abbrev pub invariant-loop-place : goal.invariant-loop-place

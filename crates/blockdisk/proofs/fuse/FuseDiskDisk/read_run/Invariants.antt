@@ -1,7 +1,5 @@
 use Rattle.std.proofs.Common.{◌≡◌, length}
-use Rattle.blockdisk.specs.Fuse.{fused}
-use Rattle.blockdisk.specs.Fused.{HavePassed}
-use Rattle.blockdisk.specs.RunLaws.{IsPartRead}
+use Rattle.blockdisk.specs.Common.{fused, HavePassed, IsPartRead}
 use Rattle.blockdisk.proofs.fuse.FuseDiskDisk.read_run.Given as goal
 
 abbrev pub invariant-loop-place : goal.invariant-loop-place

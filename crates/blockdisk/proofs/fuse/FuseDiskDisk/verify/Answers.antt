@@ -1,7 +1,6 @@
 use Rattle.std.proofs.Common.{◌≡◌, ◌+◌, ◌-◌, ⊎_elim, Err, length, ap, subst, arith}
 use Rattle.std.proofs.lemmas.Bool.{cases_lt}
-use Rattle.blockdisk.specs.Fused.{fuse_state, HavePassed}
-use Rattle.blockdisk.specs.VerifyLaws.{read_whole, verify_on}
+use Rattle.blockdisk.specs.Common.{fuse_state, HavePassed, read_whole, verify_on}
 use Rattle.blockdisk.specs.declared.fault.Fault.TheVariants.{Device}
 use Rattle.blockdisk.proofs.FuseRuns.{no_fault, read_passed, read_failed}
 use Rattle.blockdisk.proofs.fuse.FuseDiskDisk.verify.Goals as goal

@@ -1,7 +1,5 @@
 use Rattle.std.proofs.Common.{◌≡◌, ◌≤◌, ◌-◌, Ok, None}
-use Rattle.blockdisk.specs.Calls.{IsVerify}
-use Rattle.blockdisk.specs.Fuse.{fused}
-use Rattle.blockdisk.specs.Fused.{HavePassed}
+use Rattle.blockdisk.specs.Common.{IsVerify, fused, HavePassed}
 use Rattle.blockdisk.proofs.fuse.FuseDiskDisk.verify.Given as goal
 
 abbrev pub invariant-loop-n : goal.invariant-loop-n

@@ -1,9 +1,8 @@
 use Rattle.std.proofs.Common.{◌+◌, ◌∙◌, OnErr, Err, [], length, refl, sym, ap, subst}
 use Rattle.std.proofs.lemmas.List.{get_or_read}
 use Rattle.std.proofs.lemmas.Result.{err_from_is_err_and}
-use Rattle.blockdisk.specs.Calls.{IsRunWrite}
-use Rattle.blockdisk.specs.Fused.{fuse_state, HasFailedWrite}
-use Rattle.blockdisk.specs.RunLaws.{no_part_write, part_write_next, part_write_ends}
+use Rattle.blockdisk.specs.Common.{IsRunWrite, fuse_state, HasFailedWrite, no_part_write, part_write_next}
+use Rattle.blockdisk.specs.Common.{part_write_ends}
 use Rattle.blockdisk.proofs.FuseRuns.{none_passed, write_passed, write_failed}
 use Rattle.blockdisk.proofs.fuse.FuseDiskDisk.write_run.Goals as goal
 

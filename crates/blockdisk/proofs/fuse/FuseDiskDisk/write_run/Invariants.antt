@@ -1,7 +1,5 @@
 use Rattle.std.proofs.Common.{◌≡◌}
-use Rattle.blockdisk.specs.Fuse.{fused}
-use Rattle.blockdisk.specs.Fused.{HavePassed}
-use Rattle.blockdisk.specs.RunLaws.{IsPartWrite}
+use Rattle.blockdisk.specs.Common.{fused, HavePassed, IsPartWrite}
 use Rattle.blockdisk.proofs.fuse.FuseDiskDisk.write_run.Given as goal
 
 abbrev pub invariant-loop-place : goal.invariant-loop-place

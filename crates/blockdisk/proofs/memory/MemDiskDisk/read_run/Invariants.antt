@@ -1,5 +1,5 @@
 use Rattle.std.proofs.Common.{◌≡◌, ◌+◌, ◌<◌, ℕ, Some, [], length, get_or}
-use Rattle.blockdisk.specs.Memory.{held}
+use Rattle.blockdisk.specs.Common.{held}
 use Rattle.blockdisk.proofs.memory.MemDiskDisk.read_run.Given as goal
 
 abbrev pub invariant-loop-place : goal.invariant-loop-place

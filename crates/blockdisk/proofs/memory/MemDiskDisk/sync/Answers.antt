@@ -1,7 +1,6 @@
 use Rattle.std.proofs.Common.{◌≡◌, ℕ, ◌<◌, Bool, false, List, [], ◌∷◌, ◌++◌, length, replicate, vec_len, sym, ◌∙◌, ap}
 use Rattle.std.proofs.Common.{subst, arith}
-use Rattle.blockdisk.specs.Disk.{Syncs}
-use Rattle.blockdisk.specs.Memory.{Memory, memory_state, IsReplayed}
+use Rattle.blockdisk.specs.Common.{Syncs, Memory, memory_state, IsReplayed}
 use Rattle.std.proofs.lemmas.List.{length-replicate}
 use Rattle.blockdisk.specs.declared.memory.DiskCall.{DiskCall}
 use Rattle.blockdisk.specs.declared.memory.DiskCall.TheVariants.{Sync}

@@ -1,7 +1,6 @@
 use Rattle.std.proofs.Common.{◌≡◌, ◌∙◌, ⊎_elim, length, subst, sym, arith}
 use Rattle.std.proofs.lemmas.Bool.{cases_eq}
-use Rattle.blockdisk.specs.Disk.{IsWholeBlock}
-use Rattle.blockdisk.specs.Memory.{Memory, held}
+use Rattle.blockdisk.specs.Common.{IsWholeBlock, Memory, held}
 use Rattle.blockdisk.proofs.memory.MemDiskDisk.verify.Goals as goal
 
 pub loop-n-preserved : goal.loop-n-preserved

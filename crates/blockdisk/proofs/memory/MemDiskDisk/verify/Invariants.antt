@@ -1,6 +1,5 @@
 use Rattle.std.proofs.Common.{◌≡◌, ◌≤◌, ◌<◌, ℕ}
-use Rattle.blockdisk.specs.Disk.{IsWholeBlock}
-use Rattle.blockdisk.specs.Memory.{held}
+use Rattle.blockdisk.specs.Common.{IsWholeBlock, held}
 use Rattle.blockdisk.proofs.memory.MemDiskDisk.verify.Given as goal
 
 abbrev pub invariant-loop-n : goal.invariant-loop-n

@@ -1,7 +1,6 @@
 use Rattle.std.proofs.Common.{◌≡◌, ◌<◌, true, false, List, [], ◌∷◌, ◌++◌, length, Some, slice_set, sym, ap, subst}
 use Rattle.std.proofs.Common.{arith}
-use Rattle.blockdisk.specs.Disk.{Writes}
-use Rattle.blockdisk.specs.Memory.{Memory, memory_state, IsReplayed}
+use Rattle.blockdisk.specs.Common.{Writes, Memory, memory_state, IsReplayed}
 use Rattle.blockdisk.specs.declared.memory.DiskCall.{DiskCall}
 use Rattle.blockdisk.specs.declared.memory.DiskCall.TheVariants.{Write}
 use Rattle.blockdisk.proofs.Record.{writes_written, replayed_written}

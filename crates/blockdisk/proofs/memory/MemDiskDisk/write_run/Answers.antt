@@ -1,9 +1,7 @@
 use Rattle.std.proofs.Common.{◌≡◌, ◌+◌, ◌<◌, ◌∙◌, Ok, Err, [], length, get_or, refl, sym, ap, subst, arith}
 use Rattle.std.proofs.lemmas.List.{get_or_read}
 use Rattle.std.proofs.lemmas.Result.{err_from_is_err_and}
-use Rattle.blockdisk.specs.Calls.{IsRunWrite}
-use Rattle.blockdisk.specs.Memory.{memory_state, written}
-use Rattle.blockdisk.specs.RunLaws.{no_part_write, part_write_next, part_write_ends}
+use Rattle.blockdisk.specs.Common.{IsRunWrite, memory_state, written, no_part_write, part_write_next, part_write_ends}
 use Rattle.blockdisk.proofs.Record.{run_more, write_call, write_sizes}
 use Rattle.blockdisk.proofs.memory.MemDiskDisk.write_run.Goals as goal
 

@@ -1,6 +1,5 @@
 use Rattle.std.proofs.Common.{◌≡◌, ◌+◌, length, take}
-use Rattle.blockdisk.specs.Memory.{memory_state, run_written}
-use Rattle.blockdisk.specs.RunLaws.{IsPartWrite}
+use Rattle.blockdisk.specs.Common.{memory_state, run_written, IsPartWrite}
 use Rattle.blockdisk.proofs.memory.MemDiskDisk.write_run.Given as goal
 
 abbrev pub invariant-loop-place : goal.invariant-loop-place

@@ -1,7 +1,6 @@
 use Rattle.std.proofs.Common.{◌≡◌, List, sym, subst, Result, Ok, Err, OnOk, OnErr}
-use Rattle.meaning.specs.declared.put.Put.{Put}
-use Rattle.changeset.specs.Puts.{AreDistinct, replaced}
-use Rattle.changeset.specs.PutLaws.{distinct_replaced}
+use Rattle.spec_image.specs.declared.put.Put.{Put}
+use Rattle.changeset.specs.Common.{AreDistinct, replaced, distinct_replaced}
 use Rattle.changeset.proofs.change_set.ChangeSet.put.Goals as goal
 
 distinct_put : {T E : Type 0} (answer : Result T E) (old now : List Put) (new : Put) → AreDistinct old

@@ -1,6 +1,6 @@
 use Rattle.std.proofs.Common.{subst, ◌≡◌, ◌∷◌, [], List, ℕ, cond}
-use Rattle.meaning.specs.Lines.{TooLong, without_return}
-use Rattle.commands.specs.PartialLines.{text_line, line_list}
+use Rattle.spec_language.specs.Common.{TooLong, without_return}
+use Rattle.commands.specs.Common.{text_line, line_list}
 use Rattle.commands.proofs.LineLaws.{line_ended}
 use Rattle.commands.proofs.input.PartialLine.ended.Goals as goal
 

@@ -1,7 +1,6 @@
 use Rattle.std.proofs.Common.{subst, sym}
-use Rattle.meaning.specs.Plans.{deposits}
-use Rattle.commands.specs.Asking.{HasDone}
-use Rattle.commands.specs.Monitors.{machine_of}
+use Rattle.spec_language.specs.Common.{deposits}
+use Rattle.commands.specs.Common.{HasDone, machine_of}
 use Rattle.commands.proofs.AtOnce.{words_done}
 use Rattle.commands.proofs.monitored.MonitorFileService.deposit_all.Goals as goal
 

@@ -1,6 +1,5 @@
 use Rattle.std.proofs.Common.{sym, subst}
-use Rattle.blockdisk.specs.Disk.{Still}
-use Rattle.blockdisk.specs.Laws.{still_start}
+use Rattle.blockdisk.specs.Common.{Still, still_start}
 use Rattle.commands.proofs.ServedMonitors.{event_kept}
 use Rattle.commands.proofs.monitored.MonitorFileService.event.Goals as goal
 

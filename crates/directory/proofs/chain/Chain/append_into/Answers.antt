@@ -1,6 +1,6 @@
 use Rattle.std.proofs.Common.{IfSome, length, ap, map, sym, subst, ◌∙◌}
 use Rattle.std.proofs.lemmas.List.{map_push}
-use Rattle.directory.specs.Spares.{IsSpareFor}
+use Rattle.directory.specs.Common.{IsSpareFor}
 use Rattle.directory.proofs.Reserves.{room_block}
 use Rattle.directory.proofs.Steps.{appended_sound, appended_put}
 use Rattle.directory.proofs.chain.Chain.append_into.Goals as goal

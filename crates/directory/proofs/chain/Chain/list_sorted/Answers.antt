@@ -1,5 +1,5 @@
 use Rattle.std.proofs.Common.{map, sym, ap, subst, ◌∙◌, arith}
-use Rattle.directory.specs.Indexes.{IsIndex}
+use Rattle.directory.specs.Common.{IsIndex}
 use Rattle.directory.proofs.Listing.{listed_whole, listed_more, place_inside}
 use Rattle.directory.proofs.chain.Chain.list_sorted.Goals as goal
 

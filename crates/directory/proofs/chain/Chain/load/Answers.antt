@@ -1,12 +1,10 @@
 use Rattle.std.proofs.Common.{◌<◌, ⊎_elim, refl, ap, map, sym, subst, ◌∙◌, arith}
 use Rattle.std.proofs.lemmas.Result.{err_from_is_err_and}
 use Rattle.std.specs.List.{AllByRecursion}
-use Rattle.blockdisk.specs.Laws.{same_disk_start, same_disk_on}
-use Rattle.meaning.specs.Faults.{InSpace}
+use Rattle.blockdisk.specs.Common.{same_disk_start, same_disk_on}
+use Rattle.spec_image.specs.Common.{InSpace, LeadsAlong}
 use Rattle.directory.specs.declared.error.DirectoryError.TheVariants.{BadDirectory, BlockTwice}
-use Rattle.meaning.specs.Walks.{LeadsAlong}
-use Rattle.directory.specs.Chains.{IsOn, nodes_of}
-use Rattle.directory.specs.Loading.{IsTwiceInChain}
+use Rattle.directory.specs.Common.{IsOn, nodes_of, IsTwiceInChain}
 use Rattle.directory.proofs.ChainReading.{reads_start, loading_starts, loading_less, loading_on, fewer, bad_chain}
 use Rattle.directory.proofs.ChainReading.{twice_in_chain, reads_moved, bad_moved, bad_of, loaded_walk, loaded_on}
 use Rattle.directory.proofs.ChainReading.{whole_not_bad, whole_not_twice}

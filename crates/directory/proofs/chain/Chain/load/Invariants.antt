@@ -1,7 +1,7 @@
 use Rattle.std.proofs.Common.{◌≡◌, map}
-use Rattle.blockdisk.specs.Disk.{SameDisk}
-use Rattle.changeset.specs.Reads.{OnlyReads}
-use Rattle.directory.specs.Spares.{HasPlaces}
+use Rattle.blockdisk.specs.Common.{SameDisk}
+use Rattle.changeset.specs.Common.{OnlyReads}
+use Rattle.directory.specs.Common.{HasPlaces}
 use Rattle.directory.proofs.ChainReading.{IsLoading, unmarked}
 use Rattle.directory.proofs.chain.Chain.load.Given as goal
 

@@ -1,6 +1,5 @@
 use Rattle.std.proofs.Common.{sym, subst, ◌∙◌}
-use Rattle.directory.specs.Chains.{IsChain, viewed}
-use Rattle.directory.specs.Edits.{PutsChain}
+use Rattle.directory.specs.Common.{IsChain, viewed, PutsChain}
 use Rattle.directory.proofs.Steps.{replaced_sound, replaced_put}
 use Rattle.directory.proofs.chain.Chain.replace.Goals as goal
 

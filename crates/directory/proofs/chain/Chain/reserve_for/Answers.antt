@@ -1,5 +1,5 @@
 use Rattle.std.proofs.Common.{length, ap, subst}
-use Rattle.directory.specs.Spares.{IsSpareFor}
+use Rattle.directory.specs.Common.{IsSpareFor}
 use Rattle.directory.proofs.Reserves.{found_reserve}
 use Rattle.directory.proofs.chain.Chain.reserve_for.Goals as goal
 

@@ -1,5 +1,5 @@
 use Rattle.std.proofs.Common.{ap, ◌∙◌}
-use Rattle.meaning.specs.Costs.{directory_cost}
+use Rattle.spec_image.specs.Common.{directory_cost}
 use Rattle.directory.proofs.Steps.{removed_entries, removed_sound, removed_put}
 use Rattle.directory.proofs.chain.Chain.take_out.Goals as goal
 

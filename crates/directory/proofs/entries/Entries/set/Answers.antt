@@ -1,6 +1,6 @@
 use Rattle.std.proofs.Common.{map, slice_set, sym, ap, subst, ◌∙◌}
 use Rattle.std.proofs.lemmas.List.{map-set}
-use Rattle.directory.specs.Indexes.{IsIndex}
+use Rattle.directory.specs.Common.{IsIndex}
 use Rattle.directory.proofs.entries.Entries.set.Goals as goal
 
 pub invariant_of-self : goal.invariant_of-self

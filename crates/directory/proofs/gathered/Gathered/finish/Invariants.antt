@@ -1,6 +1,6 @@
 use Rattle.std.proofs.Common.{◌≡◌, ◌++◌}
 use Rattle.std.specs.Vec.{vec_len, vec_capacity}
-use Rattle.directory.specs.Spares.{HasPlaces}
+use Rattle.directory.specs.Common.{HasPlaces}
 use Rattle.directory.proofs.gathered.Gathered.finish.Given as goal
 
 abbrev pub invariant-loop-place : goal.invariant-loop-place

@@ -1,5 +1,5 @@
 use Rattle.std.proofs.Common.{arith}
-use Rattle.filser.specs.Sparing.{SparesErrors, SparesOutput}
+use Rattle.filser.specs.Common.{SparesErrors, SparesOutput}
 use Rattle.filser.proofs.Naming.{named_all, named_more}
 use Rattle.filser.proofs.sparing.FreeStreams.of_names.Goals as goal
 

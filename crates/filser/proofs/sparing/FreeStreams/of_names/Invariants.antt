@@ -1,5 +1,5 @@
 use Rattle.std.proofs.Common.{IsTrue, All, take}
-use Rattle.filser.specs.Sparing.{SparesErrors, SparesOutput}
+use Rattle.filser.specs.Common.{SparesErrors, SparesOutput}
 use Rattle.filser.proofs.sparing.FreeStreams.of_names.Given as goal
 
 abbrev pub invariant-loop-name : goal.invariant-loop-name

@@ -2,17 +2,17 @@
 use Rattle.std.proofs.Common.{[], ◌∷◌, refl}
 use Rattle.std.proofs.raw_atomic.Walks.{proved}
 use mir.Val.{vstruct, vnil}
-use types.Kit.{‵, raw, ◌⊛◌, ◌$◌, ◌∵◌, !, qed, move, keep, split, suffices, done}
-use types.Run.{no_more, returns, enter}
-use types.Part.{agg}
-use types.ByLocal.{alloc_all, pass_all, free_all, look_at, sets}
 use denote.RattleType.{owns}
 use denote.Shadow.{pure_i}
 use denote.Triple.Entry.{alive}
 use denote.Triple.Walked.{says, Stays, walk_of, ends_at}
+use Rattle.imagefile.proofs.call_record.CallRecord.new.Statement.{statement}
+use types.Kit.{‵, raw, ◌⊛◌, ◌$◌, ◌∵◌, !, qed, move, keep, split, suffices, done}
+use types.Run.{no_more, returns, enter}
+use types.Part.{agg}
+use types.ByLocal.{alloc_all, pass_all, free_all, look_at, sets}
 use Rattle.imagefile.specs.contracts.call_record.CallRecord as record_type
 use Rattle.imagefile.specs.contracts.call_record.CallRecord.new as f
-use Rattle.imagefile.proofs.call_record.CallRecord.new.Statement.{statement}
 use Rattle.imagefile.proofs.call_record.CallRecord.new.Code as code
 
 abbrev stayed : Stays f.ended.signature.params f.ended.kept

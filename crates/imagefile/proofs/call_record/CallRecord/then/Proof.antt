@@ -3,10 +3,6 @@ use Rattle.std.proofs.Common.{[], ◌∷◌, refl}
 use Rattle.std.proofs.raw_atomic.Walks.{proved}
 use mir.Syntax.{named}
 use mir.Val.{vptr, vstruct, vnil}
-use types.Kit.{‵, raw, ◌⊛◌, ◌$◌, ◌∵◌, !, qed, move, keep, split, suffices, done}
-use types.Run.{no_more, returns, enter}
-use types.Part.{agg}
-use types.ByLocal.{alloc_all, pass_all, free_all, look_at, sets}
 use denote.Exit.{yes}
 use denote.RattleType.{owns}
 use denote.Ref.{shr_vals, shr_Tells}
@@ -14,11 +10,15 @@ use denote.Shadow.{pure_i}
 use denote.Signature.{plain, types_at, named_lft}
 use denote.Triple.Entry.{alive}
 use denote.Triple.Walked.{says, stay_none_ref, Stays, walk_of, ends_at, Goes-none_ref}
-use Rattle.imagefile.specs.CallMade.{spelled_call}
+use Rattle.imagefile.specs.Common.{spelled_call}
+use Rattle.imagefile.proofs.call_record.CallRecord.then.Statement.{statement}
+use types.Kit.{‵, raw, ◌⊛◌, ◌$◌, ◌∵◌, !, qed, move, keep, split, suffices, done}
+use types.Run.{no_more, returns, enter}
+use types.Part.{agg}
+use types.ByLocal.{alloc_all, pass_all, free_all, look_at, sets}
 use Rattle.imagefile.specs.contracts.call_record.CallRecord as record_type
 use Rattle.imagefile.specs.contracts.call_record.CallMade as call_type
 use Rattle.imagefile.specs.contracts.call_record.CallRecord.then as f
-use Rattle.imagefile.proofs.call_record.CallRecord.then.Statement.{statement}
 use Rattle.imagefile.proofs.call_record.CallRecord.then.Code as code
 
 abbrev stayed : Stays f.ended.signature.params f.ended.kept

@@ -3,7 +3,7 @@ use Rattle.std.proofs.Common.{rules, get_or-take, length-take, length-drop}
 use Rattle.std.proofs.lemmas.Bool.{cases_lt}
 use Rattle.std.proofs.lemmas.List.{places}
 use borrow.Rule.Slice.PartMut.{put_mid}
-use Rattle.imagefile.specs.File.{window}
+use Rattle.imagefile.specs.Common.{window}
 use Rattle.imagefile.proofs.FileLaws.{same_on, keeps_on, window-at}
 use Rattle.imagefile.proofs.Record.{window-list}
 use Rattle.imagefile.proofs.host.HostFileDurable.read_at.Goals as goal

@@ -1,5 +1,5 @@
 use Rattle.std.proofs.Common.{◌≡◌, ℕ, ◌+◌, ◌-◌, ◌<◌, ◌≤◌, length, get_or}
-use Rattle.imagefile.specs.File.{SameFile, FileKeeps}
+use Rattle.imagefile.specs.Common.{SameFile, FileKeeps}
 use Rattle.imagefile.proofs.host.HostFileDurable.read_at.Given as goal
 
 abbrev pub invariant-loop-done : goal.invariant-loop-done

@@ -1,5 +1,5 @@
 use Rattle.std.proofs.Common.{◌≡◌, ◌-◌, ◌<◌, ◌≤◌, length, take}
-use Rattle.imagefile.specs.File.{SameFile, FileWrites, window}
+use Rattle.imagefile.specs.Common.{SameFile, FileWrites, window}
 use Rattle.imagefile.proofs.host.HostFileDurable.write_at.Given as goal
 
 abbrev pub invariant-loop-done : goal.invariant-loop-done

@@ -1,8 +1,4 @@
-use Rattle.imagefile.specs.SeekingFile.{system_of, unseen_of}
-use Rattle.imagefile.specs.HostCalls.{history_of}
-use Rattle.imagefile.specs.Host.{with_failures}
-use Rattle.imagefile.specs.Recorded.{recorded}
-use Rattle.imagefile.specs.Supposition.{unseen_in}
+use Rattle.imagefile.specs.Common.{system_of, unseen_of, history_of, with_failures, recorded, unseen_in}
 use Rattle.imagefile.proofs.Began.{opened_began}
 use Rattle.imagefile.proofs.image.ImageDisk+HostFile.open_file.Goals as goal
 

@@ -1,5 +1,5 @@
 use Rattle.std.proofs.Common.{◌≡◌, ◌+◌, length, arith, subst, IfOk}
-use Rattle.blockdisk.specs.Disk.{IsWithin}
+use Rattle.blockdisk.specs.Common.{IsWithin}
 use Rattle.imagefile.proofs.image.ImageDiskDisk.read_run.Goals as goal
 
 pub read_blocks_through-requires-clause-fits : goal.read_blocks_through-requires-clause-fits

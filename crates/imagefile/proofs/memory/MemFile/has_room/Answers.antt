@@ -1,6 +1,6 @@
 use Rattle.std.proofs.Common.{◌≡◌, ◌∙◌, ℕ, ◌<◌, ◌≤◌, length, sym, ap, arith}
 use Rattle.std.proofs.lemmas.Bool.{leb-true, le-leb, ltb-true, lt-ltb}
-use Rattle.imagefile.specs.Memory.{FileMemory, memory_of, IsFileReplayed}
+use Rattle.imagefile.specs.Common.{FileMemory, memory_of, IsFileReplayed}
 use Rattle.imagefile.proofs.Record.{length-spelled}
 use Rattle.imagefile.proofs.memory.MemFile.has_room.Goals as goal
 

@@ -1,5 +1,5 @@
 use Rattle.std.proofs.Common.{◌≡◌, refl, arith, sym, subst}
-use Rattle.imagefile.specs.Memory.{bytes_in, IsFileReplayed, memory_of, begun}
+use Rattle.imagefile.specs.Common.{bytes_in, IsFileReplayed, memory_of, begun}
 use Rattle.imagefile.proofs.Record.{begins, replayed_begun}
 use Rattle.imagefile.proofs.memory.MemFile.new.Goals as goal
 

@@ -1,7 +1,6 @@
-use Rattle.std.proofs.Common.{◌≡◌, ◌∙◌, ◌+◌, ◌-◌, ◌≤◌, ℕ, List, length, get_or, take, drop, sym, ap, arith, get_or-take}
-use Rattle.std.proofs.Common.{get_or-drop, length-take, length-drop}
-use Rattle.imagefile.specs.File.{window}
-use Rattle.imagefile.specs.Memory.{FileMemory}
+use Rattle.std.proofs.Common.{◌≡◌, ◌∙◌, ◌+◌, ◌-◌, ◌≤◌, ℕ, List, length, get_or, take, drop, sym, ap, arith}
+use Rattle.std.proofs.Common.{get_or-take, get_or-drop, length-take, length-drop}
+use Rattle.imagefile.specs.Common.{window, FileMemory}
 use Rattle.imagefile.proofs.Record.{window-list}
 use Rattle.imagefile.proofs.memory.MemFileDurable.read_at.Goals as goal
 

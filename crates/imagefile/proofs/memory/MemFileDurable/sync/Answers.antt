@@ -1,6 +1,6 @@
 use Rattle.std.proofs.Common.{◌≡◌, ◌∙◌, ◌<◌, false, length, replicate, sym, ap, subst, arith, vec_len}
-use Rattle.imagefile.specs.File.{FileSyncs}
-use Rattle.imagefile.specs.Memory.{FileMemory, memory_of, memory_state, IsFileReplayed, bytes_synced, bytes_in}
+use Rattle.imagefile.specs.Common.{FileSyncs, FileMemory, memory_of, memory_state, IsFileReplayed, bytes_synced}
+use Rattle.imagefile.specs.Common.{bytes_in}
 use Rattle.imagefile.proofs.Record.{made_synced, syncs_synced, replayed_synced, synced_in, length-spelled}
 use Rattle.imagefile.proofs.memory.MemFileDurable.sync.Goals as goal
 

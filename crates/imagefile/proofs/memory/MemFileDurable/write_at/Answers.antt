@@ -1,8 +1,6 @@
 use Rattle.std.proofs.Common.{◌≡◌, ◌∙◌, ◌+◌, ◌<◌, ◌≤◌, length, refl, sym, ap, subst, arith, length-append}
-use Rattle.imagefile.specs.File.{FileWrites, window}
-use Rattle.imagefile.specs.Memory.{FileMemory, memory_of, memory_state}
-use Rattle.imagefile.specs.Memory.{IsFileReplayed, HasRoom, write_refused, bytes_written}
-use Rattle.imagefile.specs.Memory.{bytes_in}
+use Rattle.imagefile.specs.Common.{FileWrites, window, FileMemory, memory_of, memory_state, IsFileReplayed, HasRoom}
+use Rattle.imagefile.specs.Common.{write_refused, bytes_written, bytes_in}
 use Rattle.imagefile.proofs.Record.{made_written, made_refused, writes_written, writes_refused, put_written}
 use Rattle.imagefile.proofs.Record.{replayed_written, replayed_refused, length-put, length-spelled, written_in}
 use Rattle.imagefile.proofs.memory.MemFileDurable.write_at.Goals as goal

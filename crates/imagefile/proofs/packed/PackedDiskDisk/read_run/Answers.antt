@@ -1,5 +1,5 @@
 use Rattle.std.proofs.Common.{◌≡◌, ◌+◌, length, arith, subst, IfOk}
-use Rattle.blockdisk.specs.Disk.{IsWithin}
+use Rattle.blockdisk.specs.Common.{IsWithin}
 use Rattle.imagefile.proofs.packed.PackedDiskDisk.read_run.Goals as goal
 
 pub read_blocks-requires-clause-fits : goal.read_blocks-requires-clause-fits

@@ -1,8 +1,6 @@
 use Rattle.std.proofs.Common.{◌≡◌, List, length, take, IfOk, sym, subst}
-use Rattle.imagefile.specs.File.{FileWrites, window}
-use Rattle.imagefile.specs.Calls.{Call}
-use Rattle.imagefile.specs.Recorded.{IsHonestRecord, after_calls, recorded}
-use Rattle.imagefile.specs.SeekingFile.{system_of, unseen_of}
+use Rattle.imagefile.specs.Common.{FileWrites, window, Call, IsHonestRecord, after_calls, recorded, system_of}
+use Rattle.imagefile.specs.Common.{unseen_of}
 use Rattle.imagefile.proofs.CallLaws.{write_said, writes_said}
 use Rattle.imagefile.proofs.seeking.SeekingFileFileCalls.write_some.Goals as goal
 

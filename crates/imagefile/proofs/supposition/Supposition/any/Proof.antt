@@ -1,21 +1,21 @@
 -- `any` makes a value of no bytes, with an empty file for what it supposes: no contract says which it is.
 use Rattle.std.proofs.Common.{List, [], ◌∷◌, refl}
 use Rattle.std.proofs.raw_atomic.Walks.{proved}
+use mir.Val.{vstruct, vnil}
+use denote.RattleType.{owns}
+use denote.Shadow.{pure_i}
+use denote.Triple.Entry.{alive}
+use denote.Triple.Walked.{Stays, walk_of, ends_at}
+use Rattle.imagefile.proofs.supposition.Supposition.any.Statement.{statement}
 use seplogic.Ra.Ura.{Ura}
 use base.Logic.{SProp, sep, emp, via, comm∗, emp∗}
-use mir.Val.{vstruct, vnil}
 use types.Logic.{Logic}
 use types.Kit.{Item, prop, Step, step, ‵, raw, ◌⊛◌, ◌$◌, ◌∵◌, !, qed, move, keep, split, suffices, done}
 use types.Run.{no_more, returns, enter}
 use types.Part.{agg}
 use types.ByLocal.{alloc_all, pass_all, free_all, look_at, sets}
-use denote.RattleType.{owns}
-use denote.Shadow.{pure_i}
-use denote.Triple.Entry.{alive}
-use denote.Triple.Walked.{Stays, walk_of, ends_at}
 use Rattle.imagefile.specs.contracts.supposition.Supposition as record_type
 use Rattle.imagefile.specs.contracts.supposition.Supposition.any as f
-use Rattle.imagefile.proofs.supposition.Supposition.any.Statement.{statement}
 use Rattle.imagefile.proofs.supposition.Supposition.any.Code as code
 
 abbrev stayed : Stays f.ended.signature.params f.ended.kept

@@ -1,8 +1,8 @@
 use Rattle.std.proofs.Common.{◌≡◌, ◌∙◌, None, Bool, true, false, ap, subst, arith}
-use Rattle.meaning.specs.Jobs.{slot}
-use Rattle.monitor.proofs.Slots.{slot_there, set_same}
-use Rattle.monitor.proofs.job.Jobs.reset.Goals as goal
+use Rattle.spec_machine.specs.Common.{slot}
+use Rattle.monitor.proofs.Shared.Slots.{slot_there, set_same}
 use Rattle.monitor.proofs.job.Jobs.reset.Goals.{in-Some, in-None}
+use Rattle.monitor.proofs.job.Jobs.reset.Goals as goal
 
 not_both : (b : Bool) → b ≡ true → b ≡ false → ⊥
 not_both b is isnt = cc

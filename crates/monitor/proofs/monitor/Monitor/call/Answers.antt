@@ -1,22 +1,16 @@
 use Rattle.std.proofs.Common.{◌≡◌, ◌≤◌, ◌+◌, ℕ, Some, refl, ap, subst, ◌∙◌, sym}
-use Rattle.meaning.specs.Jobs as machine
-use Rattle.meaning.specs.Jobs.{State, job_at}
-use Rattle.meaning.specs.Layouts.{layout_number, pack_of}
-use Rattle.meaning.specs.Retrieval.{date_limit}
-use Rattle.meaning.specs.Runs.{Service, Serving, Answers}
-use Rattle.meaning.specs.Step.{last_date}
-use Rattle.meaning.specs.declared.call.Call.TheVariants.{In}
-use Rattle.meaning.specs.declared.call.Reply.TheVariants.{NoMemory, Device, Failed, DateRange, Refused}
-use Rattle.monitor.specs.Calls.{KeepsCore}
-use Rattle.blockdisk.specs.Disk.{LeavesOnly}
-use Rattle.meaning.specs.Crashes.{StandsForEither}
-use Rattle.meaning.specs.declared.call.Event.TheVariants.{Call as Calls}
-use Rattle.monitor.specs.Serving.{Serves}
-use Rattle.monitor.proofs.Apart.{IsApart, IsStill, in_still, apart}
-use Rattle.monitor.proofs.EventCrashes.{untouched_event, call_event}
-use Rattle.monitor.proofs.Called.{called_late, all_same}
-use Rattle.monitor.proofs.Dates.{late_in, timely_in}
-use Rattle.monitor.specs.Refusals.{IsRefused}
+use Rattle.spec_machine.specs.Common.{State, job_at, Service, Serving, Answers, last_date, StandsForEither}
+use Rattle.spec_image.specs.Common.{layout_number, pack_of, date_limit}
+use Rattle.spec_machine.specs.declared.call.Call.TheVariants.{In}
+use Rattle.spec_machine.specs.declared.call.Reply.TheVariants.{NoMemory, Device, Failed, DateRange, Refused}
+use Rattle.monitor.specs.Common.{KeepsCore, Serves, IsRefused}
+use Rattle.blockdisk.specs.Common.{LeavesOnly}
+use Rattle.spec_machine.specs.declared.call.Event.TheVariants.{Call as Calls}
+use Rattle.monitor.proofs.Shared.Apart.{IsApart, IsStill, in_still, apart}
+use Rattle.monitor.proofs.Events.EventCrashes.{untouched_event, call_event}
+use Rattle.monitor.proofs.Shared.Called.{called_late, all_same}
+use Rattle.monitor.proofs.Shared.Dates.{late_in, timely_in}
+use Rattle.spec_machine.specs.Jobs as machine
 use Rattle.monitor.proofs.monitor.Monitor.call.Goals as goal
 
 pub returns-then-moment-last_date-clause-answered : goal.returns-then-moment-last_date-clause-answered

@@ -1,4 +1,4 @@
-use Rattle.monitor.proofs.ChangedCalls.{for_job}
+use Rattle.monitor.proofs.CoreAreas.Calls.{for_job}
 use Rattle.monitor.proofs.monitor.Monitor.changed_areas.Goals as goal
 
 pub returns-clause-served : goal.returns-clause-served

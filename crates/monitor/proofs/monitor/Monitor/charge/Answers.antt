@@ -1,11 +1,10 @@
 use Rattle.std.proofs.Common.{◌≡◌, ◌∙◌, false, subst}
-use Rattle.meaning.specs.Jobs.{State}
-use Rattle.meaning.specs.Published.{without_serials}
-use Rattle.volume.specs.Rest.{IsSoundCore}
-use Rattle.monitor.specs.QuotaRows.{charge_told}
-use Rattle.monitor.specs.Serving.{IsState}
-use Rattle.monitor.proofs.Knowing.{known}
-use Rattle.monitor.proofs.Limits.{charge_is}
+use Rattle.spec_machine.specs.Common.{State}
+use Rattle.spec_image.specs.Common.{without_serials}
+use Rattle.volume.specs.Common.{IsSoundCore}
+use Rattle.monitor.specs.Common.{charge_told, IsState}
+use Rattle.monitor.proofs.Shared.Knowing.{known}
+use Rattle.monitor.proofs.Shared.Limits.{charge_is}
 use Rattle.monitor.proofs.monitor.Monitor.charge.Goals as goal
 
 pub returns : goal.returns

@@ -1,7 +1,6 @@
 use Rattle.std.proofs.Common.{subst, sym, ◌∙◌}
-use Rattle.monitor.specs.Deposits.{DepositsBy}
-use Rattle.monitor.specs.Serving.{AreKeyed, AreReading}
-use Rattle.monitor.proofs.Depositing.{holds_on, core_keyed, core_reading, deposits_by}
+use Rattle.monitor.specs.Common.{DepositsBy, AreKeyed, AreReading}
+use Rattle.monitor.proofs.Events.Depositing.{holds_on, core_keyed, core_reading, deposits_by}
 use Rattle.monitor.proofs.monitor.Monitor.deposit_all.Goals as goal
 
 pub invariant_of-self : goal.invariant_of-self

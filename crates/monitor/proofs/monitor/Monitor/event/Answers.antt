@@ -1,13 +1,11 @@
 use Rattle.std.proofs.Common.{refl, sym, ap, subst, ◌∙◌}
-use Rattle.blockdisk.specs.Disk.{LeavesOnly}
-use Rattle.meaning.specs.Crashes.{StandsForEither}
-use Rattle.meaning.specs.Layouts.{pack_of}
-use Rattle.meaning.specs.Runs.{Service, Serving, Answers}
-use Rattle.monitor.specs.Serving.{Serves}
-use Rattle.monitor.specs.Events.{IsDecided, IsNoCall, IsLightEvent}
-use Rattle.monitor.proofs.Apart.{leaves_others}
-use Rattle.monitor.proofs.EventCrashes.{untouched_event, of_other}
-use Rattle.monitor.proofs.ServedEvents.{call_answered}
+use Rattle.blockdisk.specs.Common.{LeavesOnly}
+use Rattle.spec_machine.specs.Common.{StandsForEither, Service, Serving, Answers}
+use Rattle.spec_image.specs.Common.{pack_of}
+use Rattle.monitor.specs.Common.{Serves, IsDecided, IsNoCall, IsLightEvent}
+use Rattle.monitor.proofs.Shared.Apart.{leaves_others}
+use Rattle.monitor.proofs.Events.EventCrashes.{untouched_event, of_other}
+use Rattle.monitor.proofs.Shared.ServedEvents.{call_answered}
 use Rattle.monitor.proofs.monitor.Monitor.event.Goals as goal
 
 pub returns-in-Call-clause-answered : goal.returns-in-Call-clause-answered

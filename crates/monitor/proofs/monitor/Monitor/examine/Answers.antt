@@ -1,9 +1,9 @@
 use Rattle.std.proofs.Common.{subst, sym, ◌∙◌}
-use Rattle.meaning.specs.Runs.{Service, Answers}
-use Rattle.meaning.specs.declared.call.Event.TheVariants.{Examine}
-use Rattle.meaning.specs.Layouts.{pack_of}
-use Rattle.monitor.specs.Serving.{Serves}
-use Rattle.monitor.proofs.CoreWords.{examine_answered}
+use Rattle.spec_machine.specs.Common.{Service, Answers}
+use Rattle.spec_machine.specs.declared.call.Event.TheVariants.{Examine}
+use Rattle.spec_image.specs.Common.{pack_of}
+use Rattle.monitor.specs.Common.{Serves}
+use Rattle.monitor.proofs.Events.CoreWords.{examine_answered}
 use Rattle.monitor.proofs.monitor.Monitor.examine.Goals as goal
 
 pub returns-clause-answered : goal.returns-clause-answered

@@ -1,11 +1,11 @@
 use Rattle.std.proofs.Common.{◌+◌, ◌<◌, ℕ, subst, sym, ◌∙◌, slice_index}
 use Rattle.std.specs.Prelude.{IfSome}
-use Rattle.meaning.specs.Layouts.{pack_of}
-use Rattle.meaning.specs.Runs.{Service, Answers}
-use Rattle.meaning.specs.declared.call.Event.TheVariants.{Examine}
-use Rattle.meaning.specs.declared.call.Reply.TheVariants.{Value}
-use Rattle.monitor.specs.Serving.{Serves}
-use Rattle.monitor.proofs.CoreWords.{all_answered}
+use Rattle.spec_image.specs.Common.{pack_of}
+use Rattle.spec_machine.specs.Common.{Service, Answers}
+use Rattle.spec_machine.specs.declared.call.Event.TheVariants.{Examine}
+use Rattle.spec_machine.specs.declared.call.Reply.TheVariants.{Value}
+use Rattle.monitor.specs.Common.{Serves}
+use Rattle.monitor.proofs.Events.CoreWords.{all_answered}
 use Rattle.monitor.proofs.monitor.Monitor.examine_all.Goals as goal
 
 pub returns-clause-answered : goal.returns-clause-answered

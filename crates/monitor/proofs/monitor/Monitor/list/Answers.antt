@@ -1,13 +1,12 @@
 use Rattle.std.proofs.Common.{◌≡◌, ◌∙◌, refl, sym, ap, subst, inl, Result, Ok, Err, List}
-use Rattle.meaning.specs.declared.entry.Entry.{Entry}
-use Rattle.meaning.specs.declared.call.Reply.{Reply}
-use Rattle.meaning.specs.declared.call.Reply.TheVariants.{Refused}
-use Rattle.meaning.specs.Published.{without_serials}
-use Rattle.meaning.specs.Runs.{Service, Lists}
-use Rattle.monitor.specs.Serving.{Serves}
-use Rattle.monitor.specs.Sides.{jobs_of}
-use Rattle.monitor.proofs.Answering.{in_state, slot_of, contrary}
-use Rattle.monitor.proofs.Listing.{absent, forbidden, given, unlisted}
+use Rattle.spec_image.specs.declared.entry.Entry.{Entry}
+use Rattle.spec_machine.specs.declared.call.Reply.{Reply}
+use Rattle.spec_machine.specs.declared.call.Reply.TheVariants.{Refused}
+use Rattle.spec_image.specs.Common.{without_serials}
+use Rattle.spec_machine.specs.Common.{Service, Lists}
+use Rattle.monitor.specs.Common.{Serves, jobs_of}
+use Rattle.monitor.proofs.Shared.Answering.{in_state, slot_of, contrary}
+use Rattle.monitor.proofs.Events.Listing.{absent, forbidden, given, unlisted}
 use Rattle.monitor.proofs.monitor.Monitor.list.Goals as goal
 
 pub returns-in-Err-clause-listed : goal.returns-in-Err-clause-listed

@@ -1,9 +1,9 @@
 use Rattle.std.proofs.Common.{subst, sym, ◌∙◌}
-use Rattle.meaning.specs.Layouts.{pack_of}
-use Rattle.meaning.specs.Runs.{Service, Answers}
-use Rattle.meaning.specs.declared.call.Event.TheVariants.{Login}
-use Rattle.monitor.specs.Serving.{Serves}
-use Rattle.monitor.proofs.Answering.{login_answered, on_disk}
+use Rattle.spec_image.specs.Common.{pack_of}
+use Rattle.spec_machine.specs.Common.{Service, Answers}
+use Rattle.spec_machine.specs.declared.call.Event.TheVariants.{Login}
+use Rattle.monitor.specs.Common.{Serves}
+use Rattle.monitor.proofs.Shared.Answering.{login_answered, on_disk}
 use Rattle.monitor.proofs.monitor.Monitor.login.Goals as goal
 
 pub returns-clause-answered : goal.returns-clause-answered

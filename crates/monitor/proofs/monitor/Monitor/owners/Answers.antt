@@ -1,10 +1,8 @@
 use Rattle.std.proofs.Common.{◌≡◌, ◌∙◌, subst}
-use Rattle.meaning.specs.Jobs.{State}
-use Rattle.meaning.specs.Maps.{keys}
-use Rattle.meaning.specs.Published.{without_serials}
-use Rattle.meaning.specs.Runs.{Serving}
-use Rattle.monitor.specs.Serving.{Serves}
-use Rattle.monitor.proofs.Listing.{owners_without}
+use Rattle.spec_machine.specs.Common.{State, Serving}
+use Rattle.spec_image.specs.Common.{keys, without_serials}
+use Rattle.monitor.specs.Common.{Serves}
+use Rattle.monitor.proofs.Events.Listing.{owners_without}
 use Rattle.monitor.proofs.monitor.Monitor.owners.Goals as goal
 
 pub returns-in-Ok-clause-value : goal.returns-in-Ok-clause-value

@@ -1,18 +1,15 @@
 use Rattle.std.proofs.Common.{◌≡◌, ◌+◌, ℕ, Some, refl, ap, subst, sym, ◌∙◌}
-use Rattle.meaning.specs.Jobs.{slot}
-use Rattle.meaning.specs.Layouts.{layout_number, pack_in, pack_of}
-use Rattle.meaning.specs.Retrieval.{date_limit}
-use Rattle.meaning.specs.Runs.{Service, Answers}
-use Rattle.meaning.specs.declared.call.Call.TheVariants.{Reset}
-use Rattle.meaning.specs.declared.call.Event.TheVariants.{Call as Calls}
-use Rattle.meaning.specs.declared.call.Reply.TheVariants.{Done, NoJob, DateRange}
-use Rattle.meaning.proofs.SlotLaws.{slot-set_other}
-use Rattle.monitor.specs.Serving.{Serves}
-use Rattle.monitor.specs.Sides.{reset_job}
-use Rattle.monitor.proofs.Answering.{late}
-use Rattle.monitor.proofs.Dates.{late_in, timely_in}
-use Rattle.monitor.proofs.Dropped.{leaves_none}
-use Rattle.monitor.proofs.Resetting.{reset_row, nobody_row, reset_leads}
+use Rattle.spec_machine.specs.Common.{slot, Service, Answers}
+use Rattle.spec_image.specs.Common.{layout_number, pack_in, pack_of, date_limit}
+use Rattle.spec_machine.specs.declared.call.Call.TheVariants.{Reset}
+use Rattle.spec_machine.specs.declared.call.Event.TheVariants.{Call as Calls}
+use Rattle.spec_machine.specs.declared.call.Reply.TheVariants.{Done, NoJob, DateRange}
+use Rattle.spec_machine.proofs.Common.{slot-set_other}
+use Rattle.monitor.specs.Common.{Serves, reset_job}
+use Rattle.monitor.proofs.Shared.Answering.{late}
+use Rattle.monitor.proofs.Shared.Dates.{late_in, timely_in}
+use Rattle.monitor.proofs.Shared.Dropped.{leaves_none}
+use Rattle.monitor.proofs.OtherCalls.Resetting.{reset_row, nobody_row, reset_leads}
 use Rattle.monitor.proofs.monitor.Monitor.reset.Goals as goal
 
 pub returns-then-moment-last_date-clause-answered : goal.returns-then-moment-last_date-clause-answered

@@ -1,15 +1,12 @@
-use Rattle.std.proofs.Common.{◌≡◌, ◌∙◌, sym, ap, ℤ, pos, ◌-ℤ◌, ◌-◌, subst}
-use Rattle.std.proofs.Common.{false, to_z, of_z, w64, FitsSigned, ◌<◌, ◌^◌, arith}
+use Rattle.std.proofs.Common.{◌≡◌, ◌∙◌, sym, ap, ℤ, pos, ◌-ℤ◌, ◌-◌, subst, false, to_z, of_z, w64, FitsSigned, ◌<◌}
+use Rattle.std.proofs.Common.{◌^◌, arith}
 use Rattle.std.proofs.lemmas.Int.{to_z-of_z, ints}
 use Rattle.std.specs.Int.Signed.{mag}
-use Rattle.meaning.specs.Layouts.{pack_of}
-use Rattle.meaning.specs.Published.{without_serials}
-use Rattle.meaning.specs.Regions.{space_start}
-use Rattle.meaning.specs.Jobs.{State}
-use Rattle.meaning.specs.Room.{room}
-use Rattle.volume.proofs.Answering.{rest_holds}
-use Rattle.monitor.specs.Serving.{IsState}
-use Rattle.monitor.proofs.Rooms.{booked_is}
+use Rattle.spec_image.specs.Common.{pack_of, without_serials, space_start}
+use Rattle.spec_machine.specs.Common.{State, room}
+use Rattle.volume.proofs.Shared.Answering.{rest_holds}
+use Rattle.monitor.specs.Common.{IsState}
+use Rattle.monitor.proofs.Shared.Rooms.{booked_is}
 use Rattle.monitor.proofs.monitor.Monitor.room.Goals as goal
 
 fits : (z : ℤ) → mag z < 2 ^ 63 → FitsSigned w64 z

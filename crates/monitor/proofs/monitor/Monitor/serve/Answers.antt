@@ -3,11 +3,11 @@ use Rattle.std.proofs.Common.{length-append}
 use Rattle.std.specs.Prelude.{is_ok, if◌then◌else◌}
 use Rattle.std.specs.List.{AllByRecursion}
 use Rattle.std.proofs.lemmas.List.{take_more, take_all}
-use Rattle.blockdisk.specs.Laws.{same_disk_start, same_disk_on}
-use Rattle.meaning.specs.declared.call.Reply.TheVariants.{Device, Failed}
-use Rattle.monitor.specs.Runs.{TellsFault, FailsOnce}
-use Rattle.monitor.proofs.Listed.{Ran, ran_start, ran_still, ran_more, told_more, counted_more, served_more}
-use Rattle.monitor.proofs.Listed.{failed_once, broken_more}
+use Rattle.blockdisk.specs.Common.{same_disk_start, same_disk_on}
+use Rattle.spec_machine.specs.declared.call.Reply.TheVariants.{Device, Failed}
+use Rattle.monitor.specs.Common.{TellsFault, FailsOnce}
+use Rattle.monitor.proofs.Events.Listed.{Ran, ran_start, ran_still, ran_more, told_more, counted_more, served_more}
+use Rattle.monitor.proofs.Events.Listed.{failed_once, broken_more}
 use Rattle.monitor.proofs.monitor.Monitor.serve.Goals as goal
 
 pub loop-event-init : goal.loop-event-init

@@ -1,10 +1,10 @@
 use Rattle.std.proofs.Common.{◌≡◌, ◌≤◌, true, length, take}
 use Rattle.std.specs.List.{AllByRecursion}
 use Rattle.std.specs.Vec.{vec_capacity}
-use Rattle.blockdisk.specs.Disk.{SameDisk, one_more}
-use Rattle.meaning.specs.declared.call.Reply.TheVariants.{Device, Failed}
-use Rattle.monitor.specs.Runs.{TellsFault, FailsOnce}
-use Rattle.monitor.proofs.Listed.{Ran}
+use Rattle.blockdisk.specs.Common.{SameDisk, one_more}
+use Rattle.spec_machine.specs.declared.call.Reply.TheVariants.{Device, Failed}
+use Rattle.monitor.specs.Common.{TellsFault, FailsOnce}
+use Rattle.monitor.proofs.Events.Listed.{Ran}
 use Rattle.monitor.proofs.monitor.Monitor.serve.Given as goal
 
 -- The run so far is that of the events so far, and there is room for the replies that are left.

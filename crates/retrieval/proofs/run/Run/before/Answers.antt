@@ -1,5 +1,5 @@
 use Rattle.std.proofs.Common.{◌≡◌, ◌+◌, ◌-◌, suc, arith}
-use Rattle.meaning.specs.Retrieval.{count_up}
+use Rattle.spec_image.specs.Common.{count_up}
 use Rattle.retrieval.proofs.run.Run.before.Goals as goal
 
 pub returns : goal.returns

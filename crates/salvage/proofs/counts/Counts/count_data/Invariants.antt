@@ -1,5 +1,5 @@
 use Rattle.std.proofs.Common.{◌≡◌, length, take}
-use Rattle.meaning.specs.Maps.{times}
+use Rattle.spec_image.specs.Common.{times}
 use Rattle.salvage.proofs.CountLaws.{Adds}
 use Rattle.salvage.proofs.counts.Counts.count_data.Given as goal
 

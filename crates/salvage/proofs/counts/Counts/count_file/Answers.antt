@@ -1,7 +1,7 @@
 use Rattle.std.proofs.Common.{◌+◌, ◌∷◌, [], ℕ, sym, ap, ◌∙◌, arith}
-use Rattle.meaning.specs.Maps.{times}
-use Rattle.volume.proofs.Marking.{times_parts}
-use Rattle.salvage.specs.Saved.{blocks_of}
+use Rattle.spec_image.specs.Common.{times}
+use Rattle.volume.proofs.Shared.Marking.{times_parts}
+use Rattle.salvage.specs.Common.{blocks_of}
 use Rattle.salvage.proofs.CountLaws.{adds_on}
 use Rattle.salvage.proofs.counts.Counts.count_file.Goals as goal
 

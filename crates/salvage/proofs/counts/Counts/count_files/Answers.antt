@@ -1,6 +1,6 @@
 use Rattle.std.proofs.Common.{◌+◌, ℕ, length, take, refl, sym, subst, ◌∙◌}
-use Rattle.meaning.specs.Maps.{times}
-use Rattle.salvage.specs.Saved.{FitsDisk, blocks_of, claims}
+use Rattle.spec_image.specs.Common.{times}
+use Rattle.salvage.specs.Common.{FitsDisk, blocks_of, claims}
 use Rattle.salvage.proofs.CountLaws.{adds_none, adds_on, adds_same, claims_more, claims_all, fits_at}
 use Rattle.salvage.proofs.counts.Counts.count_files.Goals as goal
 

@@ -1,5 +1,5 @@
 use Rattle.std.proofs.Common.{◌≡◌, length, take}
-use Rattle.salvage.specs.Saved.{claims}
+use Rattle.salvage.specs.Common.{claims}
 use Rattle.salvage.proofs.CountLaws.{Adds}
 use Rattle.salvage.proofs.counts.Counts.count_files.Given as goal
 

@@ -1,5 +1,5 @@
 use Rattle.std.proofs.Common.{◌≡◌, ℕ, ◌<◌, slice_index, take}
-use Rattle.meaning.specs.Maps.{times}
+use Rattle.spec_image.specs.Common.{times}
 use Rattle.salvage.proofs.counts.Counts.shared_among.Given as goal
 
 abbrev pub invariant-loop-block : goal.invariant-loop-block

@@ -1,5 +1,5 @@
 use Rattle.std.proofs.Common.{◌<◌, ◌≤◌, ℕ, length, arith, subst, sym, ◌∙◌}
-use Rattle.meaning.specs.Maps.{times}
+use Rattle.spec_image.specs.Common.{times}
 use Rattle.directory.proofs.ChainPuts.{times_get}
 use Rattle.salvage.proofs.CountLaws.{alone_more, times_all}
 use Rattle.salvage.proofs.counts.Counts.shared_data.Goals as goal

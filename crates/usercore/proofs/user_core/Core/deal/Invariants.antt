@@ -1,5 +1,5 @@
 use Rattle.std.proofs.Common.{◌≡◌, drop, length}
-use Rattle.meaning.specs.Cores.{after_writes, dealt}
+use Rattle.spec_machine.specs.Common.{after_writes, dealt}
 use Rattle.usercore.proofs.user_core.Core.deal.Given as goal
 
 abbrev pub invariant-loop-area : goal.invariant-loop-area

@@ -1,7 +1,7 @@
 use Rattle.std.proofs.Common.{◌≡◌, ◌<◌, ◌≤◌, ◌*◌, ◌-◌, ◌+◌, length}
 use Rattle.std.specs.List.{All}
 use Rattle.arrayvec.specs.ArrayVec.{array_vec_len}
-use Rattle.meaning.specs.CommandLists.{areas_from, word_count}
+use Rattle.spec_machine.specs.Common.{areas_from, word_count}
 use Rattle.usercore.proofs.ListLaws.{prepend}
 use Rattle.usercore.proofs.user_core.Core.dump_list.Given as goal
 

@@ -1,6 +1,5 @@
 use Rattle.std.proofs.Common.{◌≡◌, ◌+◌, ◌++◌, drop, take, length}
-use Rattle.meaning.specs.CommandLists.{word_count}
-use Rattle.meaning.specs.Cores.{joined}
+use Rattle.spec_machine.specs.Common.{word_count, joined}
 use Rattle.usercore.proofs.user_core.Core.gather.Given as goal
 
 abbrev pub invariant-loop-area : goal.invariant-loop-area

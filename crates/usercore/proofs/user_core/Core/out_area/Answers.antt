@@ -1,6 +1,7 @@
-use Rattle.std.proofs.Common.{◌≡◌, ◌∙◌, ◌+◌, ◌≤◌, ap, Some, true, false, length, arith, List, ℕ, [], slice_range, refl}
+use Rattle.std.proofs.Common.{◌≡◌, ◌∙◌, ◌+◌, ◌≤◌, ap, Some, true, false, length, arith, List, ℕ, [], slice_range}
+use Rattle.std.proofs.Common.{refl}
 use Rattle.std.proofs.lemmas.Bool.Decides.{nat_tests}
-use Rattle.usercore.specs.FirstRings.{first_is_good}
+use Rattle.usercore.specs.Common.{first_is_good}
 use Rattle.usercore.proofs.FirstRings.{out_first_good, out_first_bad}
 use Rattle.usercore.proofs.user_core.Core.out_area.Goals as goal
 

@@ -1,6 +1,6 @@
 use Rattle.std.proofs.Common.{◌≡◌, ◌∙◌, ◌+◌, length, subst, sym, arith, ap}
-use Rattle.meaning.specs.Cores.{after_writes, placed}
-use Rattle.usercore.specs.CoreWords.{IsCore}
+use Rattle.spec_machine.specs.Common.{after_writes, placed}
+use Rattle.usercore.specs.Common.{IsCore}
 use Rattle.usercore.proofs.WriteLaws.{overwritten, core_placed}
 use Rattle.usercore.proofs.user_core.Core.overwrite.Goals as goal
 

@@ -1,5 +1,5 @@
 use Rattle.std.proofs.Common.{◌≡◌, take}
-use Rattle.meaning.specs.Cores.{after_writes, placed}
+use Rattle.spec_machine.specs.Common.{after_writes, placed}
 use Rattle.usercore.proofs.user_core.Core.place.Given as goal
 
 abbrev pub invariant-loop-i : goal.invariant-loop-i

@@ -1,8 +1,7 @@
 use Rattle.std.proofs.Common.{◌∙◌, ap, sym, take, Some}
 use Rattle.std.specs.Prelude.{option_map}
-use Rattle.meaning.specs.Cores.{after_writes}
-use Rattle.meaning.specs.Rings.{in_writes, data_words}
-use Rattle.usercore.specs.ByteSizes.{bits_of}
+use Rattle.spec_machine.specs.Common.{after_writes, in_writes, data_words}
+use Rattle.usercore.specs.Common.{bits_of}
 use Rattle.usercore.proofs.WriteLaws.{take_fewer}
 use Rattle.usercore.proofs.FirstRings.{in_has_ring, in_is}
 use Rattle.usercore.proofs.user_core.Core.ring_in.Goals as goal

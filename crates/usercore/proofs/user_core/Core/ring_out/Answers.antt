@@ -1,8 +1,7 @@
 use Rattle.std.proofs.Common.{◌∙◌, ap, sym, Some}
 use Rattle.std.specs.Prelude.{option_map}
-use Rattle.meaning.specs.Cores.{after_writes}
-use Rattle.meaning.specs.Rings.{out_writes}
-use Rattle.usercore.specs.ByteSizes.{bits_of}
+use Rattle.spec_machine.specs.Common.{after_writes, out_writes}
+use Rattle.usercore.specs.Common.{bits_of}
 use Rattle.usercore.proofs.FirstRings.{out_has_ring, out_is}
 use Rattle.usercore.proofs.user_core.Core.ring_out.Goals as goal
 

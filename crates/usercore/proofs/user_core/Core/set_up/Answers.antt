@@ -1,6 +1,6 @@
 use Rattle.std.proofs.Common.{◌≡◌, ◌+◌, ◌*◌, arith}
-use Rattle.meaning.specs.Rings.{buffer_words}
-use Rattle.usercore.specs.ByteSizes.{bits_of}
+use Rattle.spec_machine.specs.Common.{buffer_words}
+use Rattle.usercore.specs.Common.{bits_of}
 use Rattle.usercore.proofs.WriteLaws.{setup_parts}
 use Rattle.usercore.proofs.user_core.Core.set_up.Goals as goal
 

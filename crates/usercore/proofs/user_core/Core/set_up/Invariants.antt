@@ -1,6 +1,5 @@
 use Rattle.std.proofs.Common.{◌≡◌}
-use Rattle.meaning.specs.Cores.{after_writes}
-use Rattle.meaning.specs.Rings.{ring_writes}
+use Rattle.spec_machine.specs.Common.{after_writes, ring_writes}
 use Rattle.usercore.proofs.user_core.Core.set_up.Given as goal
 
 abbrev pub invariant-loop-k : goal.invariant-loop-k

@@ -1,15 +1,14 @@
 use Rattle.std.proofs.Common.{◌≡◌, ◌↔◌, ◌+◌, ◌<◌, ℕ, false, Ok, Err, IsErrOf, refl, sym, ap, subst, ◌∙◌, rules}
-use Rattle.meaning.specs.Layouts.{pack_of}
-use Rattle.meaning.specs.Retrieval.{date_limit}
+use Rattle.spec_image.specs.Common.{pack_of, date_limit}
 use Rattle.std.proofs.lemmas.Result.{err_from_is_err_and}
-use Rattle.meaning.specs.declared.code.ErrorCode.TheVariants.{NameExists, NotFound, NoRoom}
-use Rattle.alloctab.specs.TableState.{space}
-use Rattle.volume.specs.Beginning.{begin_cost, entries_with}
+use Rattle.spec_image.specs.declared.code.ErrorCode.TheVariants.{NameExists, NotFound, NoRoom}
+use Rattle.alloctab.specs.Common.{space}
+use Rattle.volume.specs.Common.{begin_cost, entries_with, core_of}
 use Rattle.volume.specs.declared.error.CallError.TheVariants.{Refused}
-use Rattle.volume.specs.LiveCores.{core_of}
-use Rattle.volume.proofs.BegunFiles.{body_before, begins_with, date_before, handed_on, not_refused, file_known, full_by_file}
-use Rattle.volume.proofs.StillHeld.{begun_sound}
-use Rattle.volume.proofs.SoundVolumes.{volume_stays}
+use Rattle.volume.proofs.Beginning.BegunFiles.{body_before, begins_with, date_before, handed_on, not_refused}
+use Rattle.volume.proofs.Beginning.BegunFiles.{file_known, full_by_file}
+use Rattle.volume.proofs.Shared.StillHeld.{begun_sound}
+use Rattle.volume.proofs.Shared.SoundVolumes.{volume_stays}
 use Rattle.volume.proofs.map.Volume.begin.Goals as goal
 
 pub invariant_of-self-2 : goal.invariant_of-self-2

@@ -1,7 +1,6 @@
 use Rattle.std.proofs.Common.{subst}
-use Rattle.volume.specs.LiveCores.{core_of}
-use Rattle.volume.specs.Rest.{IsSoundCore}
-use Rattle.volume.proofs.Charges.{charge_said}
+use Rattle.volume.specs.Common.{core_of, IsSoundCore}
+use Rattle.volume.proofs.Charging.Charges.{charge_said}
 use Rattle.volume.proofs.map.Volume.charge.Goals as goal
 
 pub returns-clause-value : goal.returns-clause-value

@@ -1,17 +1,13 @@
 use Rattle.std.proofs.Common.{◌≡◌, ◌∙◌, inl, inr, Err, IsErrOf, refl, subst, sym}
-use Rattle.blockdisk.specs.Disk.{LeavesOnly, NoneOpen}
-use Rattle.blockdisk.specs.Laws.{leaves_start, same_contents}
-use Rattle.changeset.specs.Crashes.{IsRecovered}
-use Rattle.meaning.specs.Files.{File, Files}
-use Rattle.meaning.specs.Layouts.{pack_of, StandsOn}
-use Rattle.meaning.specs.Room.{Pack}
-use Rattle.volume.specs.Copying.{AreCopied, HomesComeLast}
-use Rattle.volume.specs.Rest.{RestsAt, StandsLike, StandsLikeBefore}
+use Rattle.blockdisk.specs.Common.{LeavesOnly, NoneOpen, leaves_start, same_contents}
+use Rattle.changeset.specs.Common.{IsRecovered}
+use Rattle.spec_image.specs.Common.{File, Files, pack_of, StandsOn, Pack}
+use Rattle.volume.specs.Common.{AreCopied, HomesComeLast, RestsAt, StandsLike, StandsLikeBefore}
 use Rattle.volume.specs.declared.error.CopyError.TheVariants.{Source}
 use Rattle.volume.specs.declared.error.VolumeError.TheVariants.{Device}
-use Rattle.volume.proofs.CopiedImages.{copy_pack, copy_rests, ok_both, ok_any}
-use Rattle.volume.proofs.ReadWords.{rests_read}
-use Rattle.volume.proofs.Starting.{crash_read, synced_read}
+use Rattle.volume.proofs.Copying.CopiedImages.{copy_pack, copy_rests, ok_both, ok_any}
+use Rattle.volume.proofs.GettingWords.ReadWords.{rests_read}
+use Rattle.volume.proofs.Starting.Starts.{crash_read, synced_read}
 use Rattle.volume.proofs.map.Volume.copy_image.Goals as goal
 
 pub returns-in-Ok-clause-stood : goal.returns-in-Ok-clause-stood

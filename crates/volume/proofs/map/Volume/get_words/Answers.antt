@@ -1,11 +1,10 @@
 use Rattle.std.proofs.Common.{◌≡◌, ◌+◌, ◌-◌, ◌∙◌, None, inr, slice_index, sym, subst}
-use Rattle.meaning.proofs.MapLaws.{some_same}
-use Rattle.retrieval.specs.Versions.{VersionState}
-use Rattle.volume.specs.LiveCores.{core_of}
-use Rattle.volume.specs.Pins.{IsReadable}
-use Rattle.volume.proofs.Opening.{reads_of}
-use Rattle.volume.proofs.ReadWords.{rests_read, sound_read, readable_inside, readable_body, undamaged}
-use Rattle.volume.proofs.SoundVolumes.{volume_goes_on}
+use Rattle.spec_image.proofs.Common.{some_same}
+use Rattle.retrieval.specs.Common.{VersionState}
+use Rattle.volume.specs.Common.{core_of, IsReadable}
+use Rattle.volume.proofs.Starting.Opening.{reads_of}
+use Rattle.volume.proofs.GettingWords.ReadWords.{rests_read, sound_read, readable_inside, readable_body, undamaged}
+use Rattle.volume.proofs.Shared.SoundVolumes.{volume_goes_on}
 use Rattle.volume.proofs.map.Volume.get_words.Goals as goal
 
 pub get_words-requires-clause-inside : goal.get_words-requires-clause-inside

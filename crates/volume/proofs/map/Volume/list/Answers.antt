@@ -1,17 +1,16 @@
 use Rattle.std.proofs.Common.{◌≡◌, map, Err, refl, sym, ap, ◌∙◌, arith}
 use Rattle.std.proofs.lemmas.List.{length-map}
 use Rattle.std.proofs.lemmas.Result.{err_from_is_err_and}
-use Rattle.meaning.specs.declared.code.ErrorCode.TheVariants.{NoDirectory}
-use Rattle.meaning.proofs.MapLaws.{some_none}
+use Rattle.spec_image.specs.declared.code.ErrorCode.TheVariants.{NoDirectory}
+use Rattle.spec_image.proofs.Common.{some_none}
 use Rattle.volume.specs.declared.error.CallError.TheVariants.{Refused, NoMemory}
-use Rattle.volume.specs.Cores.{master_view}
-use Rattle.volume.specs.LiveCores.{core_of, live_directory}
-use Rattle.volume.proofs.Answering.{rest_holds, directory_none, directory_there, placed}
-use Rattle.volume.proofs.Listing.{lines_are, if_ok_on}
+use Rattle.volume.specs.Common.{master_view, core_of, live_directory}
+use Rattle.volume.proofs.Shared.Answering.{rest_holds, directory_none, directory_there, placed}
+use Rattle.volume.proofs.Shared.Listing.{lines_are, if_ok_on}
 use Rattle.volume.specs.declared.error.CallError.{CallError}
-use Rattle.meaning.specs.Stands.{directory_of}
-use Rattle.volume.proofs.LiveLookups.{keyed_at}
-use Rattle.volume.proofs.Finding.{refusal}
+use Rattle.spec_image.specs.Common.{directory_of}
+use Rattle.volume.proofs.Shared.LiveLookups.{keyed_at}
+use Rattle.volume.proofs.Starting.Finding.{refusal}
 use Rattle.volume.proofs.map.Volume.list.Goals as goal
 
 pub returns-in_err-i-clause-refused : goal.returns-in_err-i-clause-refused

@@ -1,12 +1,10 @@
 use Rattle.std.proofs.Common.{refl}
-use Rattle.blockdisk.specs.Laws.{writes_modifies}
-use Rattle.volume.specs.Edits.{IsEdited}
-use Rattle.volume.specs.LiveCores.{core_of}
-use Rattle.volume.specs.Making.{files_made}
-use Rattle.volume.proofs.Edits.{edit_in_range, edited, edited_volume, files_stay}
-use Rattle.volume.proofs.MakingDirectories.{not_written}
-use Rattle.volume.proofs.MakingPlaces.{directory_stays, primes_stay}
-use Rattle.volume.proofs.MakingTransactions.{made_sized, made_edit, made_ended, both_stay}
+use Rattle.blockdisk.specs.Common.{writes_modifies}
+use Rattle.volume.specs.Common.{IsEdited, core_of, files_made}
+use Rattle.volume.proofs.Shared.Edits.{edit_in_range, edited, edited_volume, files_stay}
+use Rattle.volume.proofs.MakingDirectory.MakingDirectories.{not_written}
+use Rattle.volume.proofs.MakingDirectory.Places.{directory_stays, primes_stay}
+use Rattle.volume.proofs.MakingDirectory.Transactions.{made_sized, made_edit, made_ended, both_stay}
 use Rattle.volume.proofs.map.Volume.make_dir.Given
 use Rattle.volume.proofs.map.Volume.make_dir.Goals as goal
 

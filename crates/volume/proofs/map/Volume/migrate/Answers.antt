@@ -1,17 +1,17 @@
 use Rattle.std.proofs.Common.{◌≡◌, ◌⊎◌, Ok, Err, IsErrOf, sym}
 use Rattle.std.proofs.lemmas.Result.{err_from_is_err_and}
-use Rattle.blockdisk.specs.Disk.{Still}
+use Rattle.blockdisk.specs.Common.{Still}
 use Rattle.changeset.proofs.Reading.{passed_on}
-use Rattle.changeset.specs.Crashes.{IsRecovered}
-use Rattle.meaning.specs.Layouts.{layout_number, pack_of}
-use Rattle.meaning.specs.Stands.{files_of}
+use Rattle.changeset.specs.Common.{IsRecovered}
+use Rattle.spec_image.specs.Common.{layout_number, pack_of, files_of}
 use Rattle.volume.specs.declared.error.VolumeError.TheVariants.{Device}
 use Rattle.volume.specs.declared.migrate.Migrated.{Migrated}
 use Rattle.volume.specs.declared.migrate.Migrated.TheVariants.{Done, Already}
-use Rattle.volume.specs.Migrating.{StandsOrRaised}
-use Rattle.volume.proofs.Handing.{handed}
-use Rattle.volume.proofs.Migrations.{each_other, before_raised, synced_on, synced_raised, migrate_leaves, either_before, map_rest}
-use Rattle.volume.proofs.Migrations.{map_first, stood_here, told, rests_already, rests_raised, is_migrated, stood_then}
+use Rattle.volume.specs.Common.{StandsOrRaised}
+use Rattle.volume.proofs.Shared.Handing.{handed}
+use Rattle.volume.proofs.Migrating.Migrations.{each_other, before_raised, synced_on, synced_raised, migrate_leaves}
+use Rattle.volume.proofs.Migrating.Migrations.{either_before, map_rest, map_first, stood_here, told, rests_already}
+use Rattle.volume.proofs.Migrating.Migrations.{rests_raised, is_migrated, stood_then}
 use Rattle.volume.proofs.map.Volume.migrate.Goals as goal
 
 -- Where the reading refused.

@@ -1,13 +1,10 @@
 use Rattle.std.proofs.Common.{◌≡◌, Err, IsErrOf, sym, ap, subst, ◌∙◌, arith}
-use Rattle.volume.specs.Cores.{known_of}
-use Rattle.volume.specs.Known.{IsWholeMap, IsBooked}
-use Rattle.volume.specs.LiveCores.{core_of}
-use Rattle.volume.specs.Rest.{IsAtRest, StandsLike}
+use Rattle.volume.specs.Common.{known_of, IsWholeMap, IsBooked, core_of, IsAtRest, StandsLike, pending_at}
+use Rattle.volume.specs.Common.{IsFirstRead}
 use Rattle.volume.specs.declared.error.VolumeError.TheVariants.{Device}
-use Rattle.volume.specs.Live.{pending_at, IsFirstRead}
-use Rattle.volume.proofs.LiveLookups.{standing_at}
-use Rattle.volume.proofs.LiveOpening.{kept_whole}
-use Rattle.volume.proofs.Starting.{synced_as}
+use Rattle.volume.proofs.Shared.LiveLookups.{standing_at}
+use Rattle.volume.proofs.Starting.LiveOpening.{kept_whole}
+use Rattle.volume.proofs.Starting.Starts.{synced_as}
 use Rattle.volume.proofs.map.Volume.open.Goals as goal
 
 pub invariant_of-result : goal.invariant_of-result

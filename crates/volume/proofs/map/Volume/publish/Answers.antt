@@ -1,24 +1,18 @@
-use Rattle.std.proofs.Common.{◌≡◌, ◌↔◌, ◌⊎◌, ◌+◌, ◌-◌, ◌*◌, ◌<◌, ℕ, length, Err, IsErrOf, IsSome, Some, sym, ap, subst}
-use Rattle.std.proofs.Common.{◌∙◌}
-use Rattle.meaning.specs.Costs.{version_cost}
-use Rattle.meaning.specs.Retrieval.{most_blocks}
-use Rattle.meaning.specs.Splices.{splice, length_after}
-use Rattle.meaning.proofs.MapLaws.{some_same}
-use Rattle.meaning.proofs.SpliceLaws.{length-splice}
-use Rattle.alloctab.specs.TableState.{space}
-use Rattle.volume.specs.Live.{VolumeCore, slot, pending_at}
-use Rattle.volume.specs.LiveCores.{core_of}
-use Rattle.volume.specs.Publishing.{IsPlaced, IsSupplied}
+use Rattle.std.proofs.Common.{◌≡◌, ◌↔◌, ◌⊎◌, ◌+◌, ◌-◌, ◌*◌, ◌<◌, ℕ, length, Err, IsErrOf, IsSome, Some, sym, ap}
+use Rattle.std.proofs.Common.{subst, ◌∙◌}
+use Rattle.spec_image.specs.Common.{version_cost, most_blocks, splice, length_after}
+use Rattle.spec_image.proofs.Common.{some_same, length-splice, some_is}
+use Rattle.alloctab.specs.Common.{space}
+use Rattle.volume.specs.Common.{VolumeCore, slot, pending_at, core_of, IsPlaced, IsSupplied}
 use Rattle.volume.specs.declared.error.CallError.TheVariants.{Refused}
-use Rattle.meaning.specs.declared.code.ErrorCode.TheVariants.{NoRoom}
+use Rattle.spec_image.specs.declared.code.ErrorCode.TheVariants.{NoRoom}
 use Rattle.volume.specs.declared.pending.PendingVersion.{PendingVersion}
-use Rattle.volume.proofs.PuttingCore.{some_of}
-use Rattle.volume.proofs.Publications.{unchanged_leaves, quiet_leaves_either, both_leave, placed_on, supplied_on}
-use Rattle.volume.proofs.Publications.{ribs_on}
-use Rattle.volume.proofs.PublishingSlots.{made_current_readers}
-use Rattle.volume.proofs.HomesKept.{homes_on}
-use Rattle.volume.proofs.Edits.{copies_stay, ok_anyway}
-use Rattle.volume.proofs.SoundVolumes.{not_both, volume_goes_on}
+use Rattle.volume.proofs.Publishing.Publications.{unchanged_leaves, quiet_leaves_either, both_leave, placed_on}
+use Rattle.volume.proofs.Publishing.Publications.{supplied_on, ribs_on}
+use Rattle.volume.proofs.Publishing.Slots.{made_current_readers}
+use Rattle.volume.proofs.Shared.HomesKept.{homes_on}
+use Rattle.volume.proofs.Shared.Edits.{copies_stay, ok_anyway}
+use Rattle.volume.proofs.Shared.SoundVolumes.{not_both, volume_goes_on}
 use Rattle.volume.proofs.map.Volume.publish.Goals as goal
 
 pub returns-in_err-blocks-clause-crash : goal.returns-in_err-blocks-clause-crash
@@ -41,7 +35,7 @@ publish_written-requires-clause-placed g c q here =
     let old = core_of c.self.inside.map in
     let core = core_of c.find_supplies.new.map in
     let same = c.find_supplies.ensures.core in
-    let p = some_of (pending_at old.pending c.args.pending.key)
+    let p = some_is (pending_at old.pending c.args.pending.key)
     (subst (λ m. IsSome (pending_at m.core.pending c.args.pending.key)) (sym c.self.view_is) c.requires.live) in
     let put = c.in-Ok-put.ensures.put p.0 (ap (λ (x : VolumeCore). pending_at x.pending c.args.pending.key) same
     ∙ p.1) in
@@ -56,7 +50,7 @@ publish_written-requires-clause-ribs g c q here =
     let s' = g.D.Disk.state c.put_in_core-put.new.disk in
     let old = core_of c.self.inside.map in
     let same = c.find_supplies.ensures.core in
-    let p = some_of (pending_at old.pending c.args.pending.key)
+    let p = some_is (pending_at old.pending c.args.pending.key)
     (subst (λ m. IsSome (pending_at m.core.pending c.args.pending.key)) (sym c.self.view_is) c.requires.live) in
     let put = c.in-Ok-put.ensures.put p.0 (ap (λ (x : VolumeCore). pending_at x.pending c.args.pending.key) same
     ∙ p.1) in
@@ -70,7 +64,7 @@ publish_written-requires-clause-supplied g c q here =
     let old = core_of c.self.inside.map in
     let core = core_of c.find_supplies.new.map in
     let same = c.find_supplies.ensures.core in
-    let p = some_of (pending_at old.pending c.args.pending.key)
+    let p = some_is (pending_at old.pending c.args.pending.key)
     (subst (λ m. IsSome (pending_at m.core.pending c.args.pending.key)) (sym c.self.view_is) c.requires.live) in
     let put = c.in-Ok-put.ensures.put p.0 (ap (λ (x : VolumeCore). pending_at x.pending c.args.pending.key) same
     ∙ p.1) in
@@ -115,7 +109,7 @@ returns-in-Ok-put-clause-held g c = rw (← c.self.view_is) (λ k v there read.
     let core = core_of c.put_in_core-put.new.map in
     let new = core_of c.publish_written.new.map in
     let same = c.find_supplies.ensures.core in
-    let p = some_of (pending_at old.pending c.args.pending.key)
+    let p = some_is (pending_at old.pending c.args.pending.key)
     (subst (λ m. IsSome (pending_at m.core.pending c.args.pending.key)) (sym c.self.view_is) c.requires.live) in
     let put = c.in-Ok-put.ensures.put p.0 (ap (λ (x : VolumeCore). pending_at x.pending c.args.pending.key) same
     ∙ p.1) in

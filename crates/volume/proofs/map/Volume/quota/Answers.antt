@@ -1,7 +1,6 @@
 use Rattle.std.proofs.Common.{subst, ◌∙◌}
-use Rattle.volume.specs.LiveCores.{core_of}
-use Rattle.volume.specs.Rest.{IsSoundCore}
-use Rattle.volume.proofs.Charges.{quota_is}
+use Rattle.volume.specs.Common.{core_of, IsSoundCore}
+use Rattle.volume.proofs.Charging.Charges.{quota_is}
 use Rattle.volume.proofs.map.Volume.quota.Goals as goal
 
 pub returns-clause-value : goal.returns-clause-value

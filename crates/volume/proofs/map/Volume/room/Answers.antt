@@ -1,10 +1,8 @@
 use Rattle.std.proofs.Common.{◌≡◌, ◌+◌, ◌<◌, ◌^◌, ◌-◌, ◌-ℤ◌, pos, ℕ, w64, sym, ap, subst, ◌∙◌}
 use Rattle.std.proofs.lemmas.Int.{to_z-of_z}
-use Rattle.meaning.specs.Costs.{cost_of_files}
-use Rattle.meaning.specs.Regions.{space_start}
-use Rattle.volume.specs.Live.{cost_beyond}
-use Rattle.volume.specs.LiveCores.{core_of}
-use Rattle.volume.proofs.Answering.{rest_holds, booked_is}
+use Rattle.spec_image.specs.Common.{cost_of_files, space_start}
+use Rattle.volume.specs.Common.{cost_beyond, core_of}
+use Rattle.volume.proofs.Shared.Answering.{rest_holds, booked_is}
 use Rattle.volume.proofs.map.Volume.room.Goals as goal
 
 pub difference-requires : goal.difference-requires

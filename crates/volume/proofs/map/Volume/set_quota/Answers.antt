@@ -1,12 +1,9 @@
 use Rattle.std.proofs.Common.{◌<◌, subst, sym}
-use Rattle.meaning.specs.Layouts.{layout_number}
-use Rattle.meaning.specs.Making.{files_limited}
-use Rattle.meaning.specs.Stands.{quota_limit}
-use Rattle.volume.specs.Edits.{IsEdited}
-use Rattle.volume.specs.LiveCores.{core_of}
-use Rattle.volume.proofs.Edits.{edited_alone, edited_volume, files_stay, not_written_stays}
-use Rattle.volume.proofs.SetQuotaCore.{puts_in_range, not_written, directory_stays, primes_stay}
-use Rattle.volume.proofs.SetQuotaTransactions.{limited_edit}
+use Rattle.spec_image.specs.Common.{layout_number, files_limited, quota_limit}
+use Rattle.volume.specs.Common.{IsEdited, core_of}
+use Rattle.volume.proofs.Shared.Edits.{edited_alone, edited_volume, files_stay, not_written_stays}
+use Rattle.volume.proofs.SettingQuota.Core.{puts_in_range, not_written, directory_stays, primes_stay}
+use Rattle.volume.proofs.SettingQuota.Transactions.{limited_edit}
 use Rattle.volume.proofs.map.Volume.set_quota.Given
 use Rattle.volume.proofs.map.Volume.set_quota.Goals as goal
 

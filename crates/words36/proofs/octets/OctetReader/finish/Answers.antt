@@ -1,6 +1,6 @@
 use Rattle.std.proofs.Common.{rules, ◌≡◌, ◌∙◌, ◌++◌, take, sym, ap}
 use Rattle.std.specs.Prelude.{Some, unwrap_or}
-use Rattle.words36.specs.Octets.{four_octets}
+use Rattle.words36.specs.Common.{four_octets}
 use Rattle.words36.proofs.OctetReaderLaws.{has_found, has_none}
 use Rattle.words36.proofs.octets.OctetReader.finish.Goals as goal
 

@@ -1,9 +1,0 @@
-use Rattle.meaning.proofs.FileChanges.{attributes_changed}
-use Rattle.meaning.proofs.ChangedFiles.{files_attributes}
-use Rattle.meaning.proofs.changes.attributes_change.Goals as goal
-
-pub returns-clause-stands : goal.returns-clause-stands
-returns-clause-stands c = attributes_changed
-
-pub returns-clause-files : goal.returns-clause-files
-returns-clause-files c = files_attributes

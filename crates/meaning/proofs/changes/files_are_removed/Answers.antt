@@ -1,9 +1,0 @@
-use Rattle.meaning.proofs.FileChanges.{removed}
-use Rattle.meaning.proofs.ChangedFiles.{files_removed}
-use Rattle.meaning.proofs.changes.files_are_removed.Goals as goal
-
-pub returns-clause-stands : goal.returns-clause-stands
-returns-clause-stands c = removed
-
-pub returns-clause-files : goal.returns-clause-files
-returns-clause-files c = files_removed

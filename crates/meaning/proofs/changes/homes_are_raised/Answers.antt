@@ -1,9 +1,0 @@
-use Rattle.std.proofs.Common.{refl}
-use Rattle.meaning.proofs.HomeChanges.{homes_raised}
-use Rattle.meaning.proofs.changes.homes_are_raised.Goals as goal
-
-pub returns-clause-stands : goal.returns-clause-stands
-returns-clause-stands c = homes_raised
-
-pub returns-clause-files : goal.returns-clause-files
-returns-clause-files c = λ m to. refl

@@ -1,5 +1,0 @@
-use Rattle.meaning.proofs.VersionEdits.{version_rewritten}
-use Rattle.meaning.proofs.changes.prime_blocks_are_rewritten.Goals as goal
-
-pub returns : goal.returns
-returns c = version_rewritten

@@ -1,9 +1,0 @@
-use Rattle.meaning.specs.Directories.{file_words, IsFileEntry, master_words, IsMasterEntry}
-use Rattle.meaning.proofs.Chains.{directory_kept}
-use Rattle.meaning.proofs.laws.chains_are_kept.Goals as goal
-
-pub returns-clause-files : goal.returns-clause-files
-returns-clause-files c = directory_kept file_words IsFileEntry
-
-pub returns-clause-master : goal.returns-clause-master
-returns-clause-master c = directory_kept master_words IsMasterEntry

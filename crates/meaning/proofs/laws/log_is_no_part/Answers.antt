@@ -1,5 +1,0 @@
-use Rattle.meaning.proofs.DiskMaps.{log_ignored}
-use Rattle.meaning.proofs.laws.log_is_no_part.Goals as goal
-
-pub returns : goal.returns
-returns c = log_ignored

@@ -1,5 +1,0 @@
-use Rattle.meaning.proofs.LookupLaws.{reading_holds}
-use Rattle.meaning.proofs.machine.reading_holds_still.Goals as goal
-
-pub returns-clause-found : goal.returns-clause-found
-returns-clause-found c = reading_holds

@@ -1,5 +1,0 @@
-use Rattle.meaning.proofs.ReaderLaws.{in_room}
-use Rattle.meaning.proofs.machine.reading_takes_no_room.Goals as goal
-
-pub returns : goal.returns
-returns c = in_room

@@ -1,0 +1,5 @@
+-- DeleteDir.
+pub mod Calls
+pub mod States
+pub mod Asked
+pub mod Serving

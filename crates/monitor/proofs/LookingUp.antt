@@ -1,0 +1,4 @@
+-- LOOKUP.
+pub mod LookupAnswers
+pub mod Lookups
+pub mod Calls

@@ -1,0 +1,6 @@
+-- IN.
+pub mod Inputs
+pub mod Words
+pub mod Asking
+pub mod Calls
+pub mod ByJobs

@@ -1,0 +1,2 @@
+-- Rows that are computed: examples of the definitions.
+pub mod MapRows

@@ -1,0 +1,5 @@
+use Rattle.spec_image.proofs.Counting.{set_bits}
+use Rattle.spec_image.proofs.laws.bits_are_counted.Goals as goal
+
+pub returns : goal.returns
+returns c = set_bits

@@ -1,0 +1,34 @@
+-- What files and directories take of a disk's blocks.
+-- A version takes its data blocks, a prime retrieval block, and an extension for each 126 blocks after
+-- the first 112. The cost counts every run of blocks as if it were of one block.
+use Rattle.std.specs.Prelude.{ℕ, ◌+◌, ◌-◌, ◌/◌, max, length}
+use Rattle.spec_image.specs.Maps.{size, sum_over}
+use Rattle.spec_image.specs.Files.{File, Files, Directory}
+
+-- how many blocks so many words take
+abbrev pub blocks_of : ℕ → ℕ
+blocks_of words = (words + 127) / 128
+
+-- what a version of so many blocks costs
+abbrev pub cost_of_blocks : ℕ → ℕ
+cost_of_blocks n = n + 1 + (n - 112 + 125) / 126
+
+-- what a version of so many words costs
+abbrev pub version_cost : ℕ → ℕ
+version_cost words = cost_of_blocks (blocks_of words)
+
+-- what a directory of so many entries costs, and the master directory of so many directories
+abbrev pub directory_cost : ℕ → ℕ
+directory_cost entries = max 1 ((entries + 41) / 42)
+
+-- by how much a directory's cost grows with one entry more, and the master directory's with one directory more
+abbrev pub growth : ℕ → ℕ
+growth entries = directory_cost (entries + 1) - directory_cost entries
+
+-- what a directory costs with all its files
+abbrev pub cost_of_directory : Directory File → ℕ
+cost_of_directory d = directory_cost (size d.files) + sum_over (λ f. version_cost (length f.body)) d.files
+
+-- what files cost: the master directory, the directories and the versions
+abbrev pub cost_of_files : Files File → ℕ
+cost_of_files files = directory_cost (size files) + sum_over cost_of_directory files

@@ -1,0 +1,142 @@
+-- A version of a file on the disk: its prime retrieval block says what it is and where its data lies, by
+-- pointers to runs of blocks; extensions have further pointers. What is retrieved and what body the blocks
+-- hold are two facts, since a reader needs only the second.
+use Rattle.std.specs.Prelude.{◌≡◌, ℕ, suc, zero, ◌+◌, ◌*◌, ◌-◌, ◌/◌, ◌%◌, ◌^◌, ◌<◌, ◌≤◌, ◌⊎◌, ◌==◌, if◌then◌else◌}
+use Rattle.std.specs.Prelude.{List, [], ◌∷◌, ◌++◌, map, length, replicate, take, flat_map, Some}
+use Rattle.std.specs.List.{AllByRecursion, AllZip}
+use Rattle.words36.specs.Common.{join}
+use Rattle.blockdisk.specs.Common.{Contents}
+use Rattle.spec_image.specs.Maps.{times}
+use Rattle.spec_image.specs.Costs.{blocks_of}
+use Rattle.spec_image.specs.Files.{File, Place}
+
+-- what a prime retrieval block says of its version
+pub record Prime : Type 0 where
+  pub place : Place
+  pub protection : ℕ
+  pub mode : ℕ
+  pub time : ℕ
+  pub date : ℕ
+  -- the length of the body in words
+  pub words : ℕ
+
+abbrev pub prime_of : Place → File → Prime
+prime_of place file = record {
+  place = place;
+  protection = file.protection;
+  mode = file.mode;
+  time = file.time;
+  date = file.date;
+  words = length file.body;
+}
+
+-- a run: a count of blocks, and the first of them
+abbrev pub Run : Type 0
+Run = ℕ × ℕ
+
+abbrev pub count_up : ℕ → ℕ → List ℕ
+count_up zero n = []
+count_up (suc k) n = n ∷ count_up k (suc n)
+
+abbrev pub run_blocks : Run → List ℕ
+run_blocks run = count_up run.0 run.1
+
+-- a pointer: the count left, the first block right
+abbrev pub pointer : Run → ℕ
+pointer run = join run.0 run.1
+
+abbrev pub IsRun : Run → Type 0
+IsRun run = (0 < run.0) × (run.0 < 2 ^ 18) × (run.1 < 2 ^ 18)
+
+-- protection in bits 0 to 8, mode in 9 to 12, time in 13 to 23, the low twelve bits of the date in 24 to 35
+abbrev pub attributes : Prime → ℕ
+attributes p = p.protection * 2 ^ 27 + p.mode * 2 ^ 23 + p.time * 2 ^ 12 + p.date % 2 ^ 12
+
+-- the extension left; the date's three high bits, which layout 1 has not, in bits 18 to 20
+abbrev pub extension_word : Prime → ℕ
+extension_word p = join p.place.name.ext (p.date / 2 ^ 12 * 2 ^ 15)
+
+-- RIB in SIXBIT
+abbrev pub prime_word : ℕ
+prime_word = 0o625142000000
+
+-- word 6 is the number of pointers here, word 7 the first extension or 0
+abbrev pub prime_block : Prime → List Run → ℕ → List ℕ
+prime_block p runs next =
+    prime_word ∷ p.place.name.name ∷ extension_word p ∷ attributes p ∷ p.place.ppn ∷ p.words ∷ length runs ∷ next
+    ∷ 0 ∷ 0 ∷ 0 ∷ 0 ∷ 0 ∷ 0 ∷ 0 ∷ 0 ∷ (map pointer runs ++ replicate (112 - length runs) 0)
+
+-- XRB in SIXBIT
+abbrev pub extension_half : ℕ
+extension_half = 0o706242
+
+abbrev pub extension_block : List Run → ℕ → List ℕ
+extension_block runs next = join extension_half (length runs) ∷ next
+    ∷ (map pointer runs ++ replicate (126 - length runs) 0)
+
+-- an extension: its number and its runs
+abbrev pub Extension : Type 0
+Extension = ℕ × List Run
+
+abbrev pub extension_numbers : List Extension → List ℕ
+extension_numbers extensions = map (λ extension. extension.0) extensions
+
+abbrev pub first_extension : List Extension → ℕ
+first_extension [] = 0
+first_extension (extension ∷ extensions) = extension.0
+
+abbrev pub all_runs : List Extension → List Run
+all_runs [] = []
+all_runs (extension ∷ extensions) = extension.1 ++ all_runs extensions
+
+-- Each extension stands on the disk and names the next; one is followed only where its pointers are all used.
+abbrev pub AreExtensions : Contents → List Extension → Type 0
+AreExtensions contents [] = Unit {0}
+AreExtensions contents (extension ∷ extensions) =
+    (contents extension.0 ≡ Some (extension_block extension.1 (first_extension extensions)))
+    × (0 < length extension.1) × (length extension.1 ≤ 126) × (0 < length extensions → length extension.1 ≡ 126)
+    × AllByRecursion IsRun extension.1 × AreExtensions contents extensions
+
+-- dates end where layout 1 has twelve bits for them, and layout 2 fifteen
+abbrev pub date_limit : ℕ → ℕ
+date_limit layout = if layout == 1 then 2 ^ 12 else 2 ^ 15
+
+-- 0, 1, 10, 13, 14 and 17 in octal
+abbrev pub IsMode : ℕ → Type 0
+IsMode m = (m ≡ 0) ⊎ (m ≡ 1) ⊎ (m ≡ 0o10) ⊎ (m ≡ 0o13) ⊎ (m ≡ 0o14) ⊎ (m ≡ 0o17)
+
+-- a file has at most this many blocks
+abbrev pub most_blocks : ℕ
+most_blocks = 16384
+
+-- What a prime block says fits its bits.
+pub record IsPrime (layout : ℕ) (p : Prime) : Type 0 where
+  pub protection : p.protection < 512
+  pub mode : IsMode p.mode
+  pub time : p.time ≤ 1439
+  pub date : p.date < date_limit layout
+  pub few : p.words ≤ most_blocks * 128
+
+-- The prime block and the extensions stand on the disk, and their pointers, joined, are these blocks.
+pub record IsRetrieved (layout : ℕ) (contents : Contents) (p : Prime) (prime : ℕ)
+    (extensions blocks : List ℕ) : Type 0 where
+  pub runs : List Run
+  pub further : List Extension
+  pub fits : IsPrime layout p
+  pub prime_is : contents prime ≡ Some (prime_block p runs (first_extension further))
+  pub few : length runs ≤ 112
+  pub full : 0 < length further → length runs ≡ 112
+  pub extended : AreExtensions contents further
+  pub extensions_are : extension_numbers further ≡ extensions
+  -- a next extension of 0 is none
+  pub nonzero : times 0 extensions ≡ 0
+  pub are_runs : AllByRecursion IsRun runs
+  pub blocks_are : flat_map run_blocks (runs ++ all_runs further) ≡ blocks
+  pub enough : length blocks ≡ blocks_of p.words
+
+-- None of the blocks is damaged, each has 128 words, and their words, joined, begin with the body.
+pub record HasBody (contents : Contents) (blocks body : List ℕ) : Type 0 where
+  pub each : List (List ℕ)
+  pub undamaged : AllZip (λ n words. contents n ≡ Some words) blocks each
+  pub whole : AllByRecursion (λ words. length words ≡ 128) each
+  pub body_is : body ≡ take (length body) (flat_map (λ words. words) each)

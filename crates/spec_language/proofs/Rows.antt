@@ -1,0 +1,4 @@
+-- Rows that are computed: examples of the definitions.
+pub mod TextRows
+pub mod ErrandRows
+pub mod SpelledRows

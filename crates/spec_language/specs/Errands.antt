@@ -1,0 +1,137 @@
+-- Errands: what job 1 asks of the service where it logs in for one thing. A file is got, or put, or directories are
+-- listed.
+use Rattle.std.specs.Prelude.{◌≡◌, ℕ, ℤ, zero, suc, ◌+◌, ◌-◌, ◌*◌, ◌/◌, ◌&&◌, nat_le, Bool, List, [], ◌∷◌, ◌++◌}
+use Rattle.std.specs.Prelude.{length, take, drop, All, Option, Some, None, Result, Ok, Err, codes, flat_map}
+use Rattle.std.specs.Fmt.{decimal, signed_decimal}
+use Rattle.words36.specs.Common.{IsWord, join, packed, word_bytes, octets_packed}
+use Rattle.words36.specs.declared.moment.Moment.{Moment}
+use Rattle.words36.specs.declared.names.FileName.{FileName}
+use Rattle.spec_machine.specs.Common.{disk}
+use Rattle.spec_language.specs.Spellings.{Are}
+use Rattle.spec_language.specs.Texts.{Spoken, line, silent, both_said, complains, refuses, list_said}
+use Rattle.spec_language.specs.Plans.{Plan, Show, Say, each, calls, deposits, names, writes, lists, asks_out}
+use Rattle.spec_language.specs.Plans.{reads_file, ends, ok, open_words, new_words, block_address, blocks_at_once}
+use Rattle.spec_language.specs.Transcripts.{core_words}
+use Rattle.spec_machine.specs.declared.call.Call.TheVariants.{Open, Enter, Outbuf, Close}
+use Rattle.spec_machine.specs.declared.call.Event.{Event}
+use Rattle.spec_machine.specs.declared.call.Reply.{Reply}
+use Rattle.spec_machine.specs.declared.call.Event.TheVariants.{Login, Deposit}
+use Rattle.spec_language.specs.declared.command.Spec.{Spec}
+use Rattle.spec_language.specs.declared.encoding.Encoding.{Encoding}
+use Rattle.spec_language.specs.declared.style.Style.{Style}
+use Rattle.spec_language.specs.declared.encoding.Encoding.TheVariants.{Characters, Words, Octets}
+
+-- a file in the directory of the one who logs in
+abbrev pub own_file : FileName → Spec
+own_file name = record { name = name; owner = None }
+
+-- the job logs in
+abbrev pub enters : ℕ → List Event
+enters owner = Login 1 owner core_words ∷ []
+
+-- A file is got: it is read whole, and then printed or refused.
+abbrev pub gets : Moment → ℕ → Encoding → Spec → Plan
+gets moment owner encoding spec = each moment (enters owner) (reads_file moment encoding spec)
+
+-- Directories are listed, one after the other, by who may look into all of them.
+
+abbrev pub operator : ℕ
+operator = join 1 2
+
+unfoldable pub shows_all : Style → List ℕ → Spoken → Plan
+shows_all style [] said = Say said
+shows_all style (owner ∷ owners) said =
+    Show owner (λ answer. shows_all style owners (both_said said (list_said style owner answer)))
+
+abbrev pub surveys : Moment → Style → List ℕ → Plan
+surveys moment style owners = each moment (enters operator) (shows_all style owners silent)
+
+-- the same where it had to be asked which there are
+abbrev pub surveys_of : Moment → Style → Result (List ℕ) Reply → Plan
+surveys_of moment style (Ok owners) = surveys moment style owners
+surveys_of moment style (Err reply) = Say (refuses reply)
+
+-- A file is put. Its bytes say which words it has, or that they are none: a character is a byte from 1 to 127, since a
+-- null would be lost, and a word has 36 bits. Any bytes of eight bits make words.
+
+abbrev pub is_character : ℕ → Bool
+is_character byte = nat_le 1 byte && nat_le byte 127
+
+abbrev pub AreWords : Encoding → List ℕ → Option (List ℕ) → Type 0
+AreWords Characters bytes (Some words) = Are is_character bytes × (words ≡ packed bytes)
+AreWords Characters bytes None = Are is_character bytes → ⊥
+AreWords Words bytes (Some words) = All IsWord words × (flat_map word_bytes words ≡ bytes)
+AreWords Words bytes None = (words : List ℕ) → All IsWord words → flat_map word_bytes words ≡ bytes → ⊥
+AreWords Octets bytes (Some words) = words ≡ octets_packed bytes
+AreWords Octets bytes None = ⊥
+
+abbrev pub unfit : Encoding → List ℕ
+unfit Characters = codes "?Not ASCII"
+unfit Words = codes "?Bad words"
+unfit Octets = codes "?Bad bytes"
+
+-- Addresses in job 1's core: the header of a ring, and the data of its one buffer, which lies where the rings of a job
+-- begin that has logged in.
+
+abbrev pub header_address : ℕ
+header_address = 0o60
+
+abbrev pub data_address : ℕ
+data_address = 0o143
+
+-- The new file is entered on channel 2: for characters in mode 0, with a ring of one buffer that an OUT brings into
+-- use, else in dump mode.
+abbrev pub creates : Moment → Encoding → Spec → List Event
+creates moment Characters spec =
+    deposits open_words (0 ∷ disk ∷ join header_address 0 ∷ []) ++ calls moment (Open 2 open_words)
+    ∷ (names new_words spec 0 ++ calls moment (Enter 2 new_words) ∷ calls moment (Outbuf 2 1) ∷ asks_out moment ∷ [])
+creates moment Words spec = writes moment spec
+creates moment Octets spec = writes moment spec
+
+-- So many words are the next that are put: the header's byte pointer is at the last character of the last of them, or
+-- the command list names them.
+abbrev pub announces : Moment → Encoding → ℕ → List Event
+announces moment Characters count =
+    Deposit 1 (header_address + 1) (join 0o010700 (data_address - 1 + count)) ∷ asks_out moment ∷ []
+announces moment Words count = lists count ++ asks_out moment ∷ []
+announces moment Octets count = lists count ++ asks_out moment ∷ []
+
+-- where they stand in core
+abbrev pub part_address : Encoding → ℕ
+part_address Characters = data_address
+part_address Words = block_address
+part_address Octets = block_address
+
+abbrev pub fills : Moment → Encoding → List ℕ → List Event
+fills moment encoding part = deposits (part_address encoding) part ++ announces moment encoding (length part)
+
+-- how many words a part has at most: those of a buffer, or of 16 blocks that a command list names
+abbrev pub part_words : Encoding → ℕ
+part_words Characters = 128
+part_words Words = blocks_at_once * 128
+part_words Octets = blocks_at_once * 128
+
+-- how many parts so many words make
+abbrev pub parts_of : Encoding → ℕ → ℕ
+parts_of encoding count = (count + part_words encoding - 1) / part_words encoding
+
+-- words are put in parts, the last of which may be shorter
+unfoldable pub fills_parts : Moment → Encoding → ℕ → List ℕ → Plan → Plan
+fills_parts moment encoding zero words next = next
+fills_parts moment encoding (suc more) words next = each moment
+    (fills moment encoding (take (part_words encoding) words))
+    (fills_parts moment encoding more (drop (part_words encoding) words) next)
+
+abbrev pub fills_all : Moment → Encoding → List ℕ → Plan → Plan
+fills_all moment encoding words next = fills_parts moment encoding (parts_of encoding (length words)) words next
+
+-- nothing is asked where the bytes are none that a file can have
+abbrev pub keeps : Moment → ℕ → Encoding → Spec → Option (List ℕ) → Plan
+keeps moment owner encoding spec None = Say (complains (unfit encoding))
+keeps moment owner encoding spec (Some words) =
+    each moment (enters owner) (each moment (creates moment encoding spec)
+    (fills_all moment encoding words (each moment (calls moment (Close 2 0) ∷ []) (ends moment ok))))
+
+-- What a volume is said to have: so many blocks, and so many that are left, which may be below 0.
+abbrev pub volume_line : ℕ → ℤ → List ℕ
+volume_line blocks room = line (codes "Volume of " ++ decimal blocks ++ codes " blocks, room " ++ signed_decimal room)

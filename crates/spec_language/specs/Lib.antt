@@ -1,0 +1,11 @@
+pub mod Lines
+pub mod Spellings
+pub mod Commands
+pub mod Scripts
+pub mod Texts
+pub mod Plans
+pub mod Transcripts
+pub mod Errands
+pub mod Copies
+pub mod Causes
+pub mod Common

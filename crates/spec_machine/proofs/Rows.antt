@@ -1,0 +1,10 @@
+-- Rows that are computed: examples of the definitions.
+pub mod WritingRows
+pub mod CallRows
+pub mod RightRows
+pub mod UpdateRows
+pub mod RemovalRows
+pub mod RingRows
+pub mod CostRows
+pub mod ChargeRows
+pub mod QuotaRows

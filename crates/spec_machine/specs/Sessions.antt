@@ -1,0 +1,67 @@
+-- Logging in, words of a core, RESET, and the list of a directory.
+use Rattle.std.specs.Prelude.{ℕ, ◌==◌, ◌&&◌, ◌||◌, nat_lt, nat_le, not, Bool, if◌then◌else◌, List, length, map}
+use Rattle.std.specs.Prelude.{replicate, Option, Some, None, slice_index, slice_set, Result, Ok, Err}
+use Rattle.words36.specs.declared.names.FileName.{FileName}
+use Rattle.spec_image.specs.Common.{get, entries, Directory, blocks_of, Version}
+use Rattle.spec_machine.specs.Rights.{may_look, directory_digit}
+use Rattle.spec_machine.specs.Cores.{first_free, rings_begin, with_right}
+use Rattle.spec_machine.specs.Jobs.{Job, State, job_at, all_closed}
+use Rattle.spec_image.specs.declared.entry.Entry.{Entry}
+use Rattle.spec_machine.specs.declared.call.Reply.{Reply}
+use Rattle.spec_machine.specs.declared.call.Reply.TheVariants.{Done, Value, Refused, AddressCheck, NoJob}
+
+abbrev pub is_job_number : ℕ → Bool
+is_job_number n = not (n == 0) && nat_le n 64
+
+abbrev pub login_answer : ℕ → ℕ → Reply
+login_answer n words =
+    if not (is_job_number n) then NoJob
+    else if nat_lt words 0o1000 || nat_lt 0o400000 words then AddressCheck
+    else Done
+
+-- a job that logs in: nothing is left of one that had its number
+abbrev pub new_job : ℕ → ℕ → Job
+new_job ppn words = record {
+  ppn = ppn;
+  core = slice_set (replicate words 0) first_free rings_begin;
+  channels = all_closed;
+}
+
+abbrev pub deposit_answer : Job → ℕ → Reply
+deposit_answer job address = if nat_lt address (length job.core) then Done else AddressCheck
+
+abbrev pub deposit_done : Job → ℕ → ℕ → Job
+deposit_done job address word = record job { core = slice_set job.core address word }
+
+abbrev pub examine_answer : Job → ℕ → Reply
+examine_answer job address = if nat_lt address (length job.core) then Value (slice_index job.core address)
+    else AddressCheck
+
+-- RESET: all channels are closed and what they wrote is dropped, the core kept but for that right half
+abbrev pub resets : Job → Reply × Job
+resets job = (Done, record job { core = with_right job.core first_free rings_begin; channels = all_closed })
+
+-- The list of a directory, by name and then extension.
+
+abbrev pub entry : FileName × Version → Entry
+entry e = record {
+  name = e.0;
+  protection = e.1.file.protection;
+  mode = e.1.file.mode;
+  date = e.1.file.date;
+  time = e.1.file.time;
+  length = length e.1.file.body;
+  blocks = blocks_of (length e.1.file.body);
+}
+
+abbrev pub listed : Job → ℕ → Option (Directory Version) → Result (List Entry) Reply
+listed job owner None = Err (Refused 1)
+listed job owner (Some d) = if may_look (directory_digit d.protection job.ppn owner)
+    then Ok (map entry (entries d.files)) else Err (Refused 2)
+
+abbrev pub list_for : State → Option Job → ℕ → Result (List Entry) Reply
+list_for s None owner = Err NoJob
+list_for s (Some job) owner = listed job owner (get s.files owner)
+
+abbrev pub list : State → ℕ → ℕ → Result (List Entry) Reply
+list s n owner = list_for s (job_at s n) owner

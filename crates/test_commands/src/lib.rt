@@ -1,0 +1,22 @@
+//! Tests of sessions, call scripts and exchanges over a monitor and a disk in memory that no text of lines can play: readers and
+//! writers that fail or go in small pieces, refused allocations, long lines, lines of quotas and what they leave on the
+//! disk, and what is counted. What lines and events come to is played by the program `scenarios`. There is no code here
+//! beside them.
+#![tactic(auto)]
+
+#[cfg(test)]
+mod line_tests;
+#[cfg(test)]
+mod memory_tests;
+#[cfg(test)]
+mod put_tests;
+#[cfg(test)]
+mod quota_tests;
+#[cfg(test)]
+mod service;
+#[cfg(test)]
+mod stream_tests;
+#[cfg(test)]
+mod transfer_tests;
+#[cfg(test)]
+mod wire_tests;

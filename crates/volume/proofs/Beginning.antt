@@ -1,0 +1,4 @@
+-- A version is begun.
+pub mod BegunFiles
+pub mod Counts
+pub mod Beginnings

@@ -1,0 +1,3 @@
+-- What a directory is charged for.
+pub mod Charges
+pub mod Sums

@@ -1,0 +1,3 @@
+-- A copy of an image.
+pub mod CopiedImages
+pub mod CopyOrder

@@ -1,0 +1,7 @@
+-- A file is deleted.
+pub mod Entries
+pub mod Removals
+pub mod Places
+pub mod Core
+pub mod Law
+pub mod Transactions

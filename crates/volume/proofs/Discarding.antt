@@ -1,0 +1,2 @@
+-- A version is dropped.
+pub mod Core

@@ -1,0 +1,2 @@
+-- Words of a version are read.
+pub mod ReadWords

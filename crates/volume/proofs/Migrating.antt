@@ -1,0 +1,2 @@
+-- A volume comes to have layout 2.
+pub mod Migrations

@@ -1,0 +1,3 @@
+-- Words are put into a version.
+pub mod Core
+pub mod Disk

@@ -1,0 +1,18 @@
+-- The moment of a file, and of its version in core, is one that the layout of the disk holds.
+use Rattle.std.proofs.Common.{◌≡◌, ℕ, ◌<◌, Some, ap, subst, slice_get}
+use Rattle.std.specs.Ordering.{nat_cmp}
+use Rattle.words36.specs.declared.names.FileName.{FileName}
+use Rattle.blockdisk.specs.Common.{Contents}
+use Rattle.spec_image.specs.Common.{date_limit, DiskMap}
+use Rattle.directory.specs.Common.{StandsAt}
+use Rattle.volume.specs.Common.{Facts, Known, KnownVersion, KnownDirectory, IsHeld, IsNamed}
+
+pub known_dated : (size : ℕ) (k : Known) (m : DiskMap) (contents : Contents) → IsHeld size k m contents → (ppn : ℕ)
+    (d : KnownDirectory) (place : ℕ) (word : ℕ × ℕ) → StandsAt nat_cmp k.master.entries ppn word place
+    → slice_get k.directories place ≡ Some d → (name : FileName) (v : ℕ × KnownVersion) → IsNamed d name (Some v)
+    → v.1.prime.moment.date < date_limit m.layout
+known_dated size k m contents held ppn d place word there at name v named =
+    let found = held.known.each place (ppn, word) d there.is at in
+    let stored = found.2.each named.0 (name, v.0) v.1 named.1.is named.2 in
+    let version = (held.stands.mapped.directories ppn found.0 found.1).files name stored.0 stored.1 in
+    subst (λ (date : ℕ). date < date_limit m.layout) (ap (λ (x : Facts). x.date) stored.2) version.retrieved.fits.date
