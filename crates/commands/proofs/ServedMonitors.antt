@@ -8,7 +8,7 @@ use Rattle.spec_machine.specs.declared.call.Reply.{Reply}
 use Rattle.volume.specs.Common.{VolumeCore}
 use Rattle.monitor.specs.Common.{Serves}
 use Rattle.monitor.specs.declared.job.Job.{Job}
-use Rattle.monitor.proofs.Shared.ServedPacks.{event_keeps_pack}
+use Rattle.monitor.proofs.common.ServedPacks.{event_keeps_pack}
 use Rattle.commands.specs.Common.{KeepsPack, machine_of}
 
 pub event_kept : (d d' : DiskState) (map map' : VolumeCore) (failed failed' : Bool) (jobs jobs' : List (Option Job))

@@ -9,7 +9,7 @@ use Rattle.std.proofs.lemmas.List.{get_or_past, length-replicate}
 use Rattle.spec_image.specs.Common.{times}
 use Rattle.spec_image.proofs.Common.{times-append, total-append}
 use Rattle.changeset.specs.Common.{times_head, times_tail}
-use Rattle.volume.proofs.Shared.Marking.{times_parts}
+use Rattle.volume.proofs.common.Marking.{times_parts}
 use Rattle.salvage.specs.Common.{CountTo, FitsDisk, blocks_of, claims}
 use Rattle.salvage.specs.declared.saved.SavedFile.{SavedFile}
 

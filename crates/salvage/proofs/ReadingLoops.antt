@@ -9,7 +9,7 @@ use Rattle.std.specs.Ordering.{eq_by_cmp}
 use Rattle.blockdisk.specs.Common.{Contents}
 use Rattle.spec_image.specs.Common.{MasterEntry, FileEntry, name_cmp, EachOnce, IsDirectoryNamed}
 use Rattle.spec_image.proofs.Common.{some_none, tied, find_first, name_total, name_exact}
-use Rattle.volume.proofs.Shared.Lookups.{viewed_more, viewed_split, viewed_at}
+use Rattle.volume.proofs.common.Lookups.{viewed_more, viewed_split, viewed_at}
 use Rattle.salvage.specs.Common.{IsNamedIn, IsReadTo}
 use Rattle.salvage.specs.declared.saved.SavedFile.{SavedFile}
 use Rattle.salvage.specs.declared.finding.Finding.{Finding}

@@ -12,7 +12,7 @@ use Rattle.spec_image.specs.Common.{Node, items, MasterEntry, FileEntry, file_wo
 use Rattle.spec_image.specs.Common.{place_of, LeadsAlong, IsFileNamed}
 use Rattle.spec_image.proofs.Common.{some_none, find_first, found_holds, name_total, name_exact, none_front}
 use Rattle.volume.specs.declared.error.VolumeError.{VolumeError}
-use Rattle.volume.proofs.Shared.Lookups.{all_both, all_each, all_push}
+use Rattle.volume.proofs.common.Lookups.{all_both, all_each, all_push}
 use Rattle.salvage.specs.Common.{IsFaultAt, IsFinding, IsIn, IsNamedIn, IsNoFault, IsReadTo, IsToldDirectory}
 use Rattle.salvage.specs.Common.{IsToldFile, MayRefuse, IsNamedRead, IsRead, place_in}
 use Rattle.salvage.specs.declared.saved.SavedFile.{SavedFile}

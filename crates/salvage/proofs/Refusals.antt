@@ -15,8 +15,8 @@ use Rattle.volume.specs.declared.error.VolumeError.{VolumeError}
 use Rattle.volume.specs.declared.error.VolumeError.TheVariants.{NotVolume, BadHome, BadLog, BadDirectory}
 use Rattle.volume.specs.declared.error.VolumeError.TheVariants.{BadRetrieval, BlockTwice, TableWrong, Device}
 use Rattle.volume.specs.declared.error.VolumeError.TheVariants.{NoMemory, Failed, BadData}
-use Rattle.volume.proofs.Starting.Finding.{refusal}
-use Rattle.volume.proofs.Starting.Quotas.{chain_carries}
+use Rattle.volume.proofs.VolumeStart.Finding.{refusal}
+use Rattle.volume.proofs.VolumeStart.Quotas.{chain_carries}
 use Rattle.salvage.specs.Common.{IsFaultAt, IsChainRefusal, IsNoFault, MayRefuse}
 use Rattle.salvage.specs.declared.finding.Cost.{Cost}
 use Rattle.directory.specs.declared.error.DirectoryError.TheVariants as directory

@@ -5,7 +5,7 @@ use Rattle.changeset.specs.Common.{ArePending, IsLost, IsRecovered}
 use Rattle.spec_image.specs.declared.put.Put.{Put}
 use Rattle.spec_image.specs.Common.{File, Files, SettledStandsOn, pack_in, with_puts, SettledStands, Stands}
 use Rattle.spec_image.proofs.Common.{settled_same}
-use Rattle.volume.proofs.Starting.Starts.{stands_ignores_gate}
+use Rattle.volume.proofs.VolumeStart.Starts.{stands_ignores_gate}
 use Rattle.salvage.specs.Common.{AreCopies, IsCopyOf}
 use Rattle.salvage.specs.Copies.IsSettledCopy.{settled, lost}
 use Rattle.salvage.proofs.Agreement.{stands_agree}

@@ -5,7 +5,7 @@ use Rattle.std.specs.List.{AllByRecursion}
 use Rattle.words36.specs.declared.names.FileName.{FileName}
 use Rattle.blockdisk.specs.Common.{Contents}
 use Rattle.spec_image.specs.Common.{InSpace, Place, times, place_of, IsFileNamed}
-use Rattle.volume.proofs.Shared.Lookups.{all_each}
+use Rattle.volume.proofs.common.Lookups.{all_each}
 use Rattle.salvage.specs.Common.{IsFinding, AreApart, IsAmong, IsNamedRead, IsRead, blocks_of, claims, place_in}
 use Rattle.salvage.specs.Common.{IsLostBy, IsNamedBlock, IsNamedLoss, IsSurveyed, MayBeUsed, AreAdded, AreTaken}
 use Rattle.salvage.specs.Common.{IsScanned, IsTree}

@@ -1,7 +1,7 @@
 //! Tests of how a volume comes to be, through its public calls alone: it is made and opened, its home copies, logs,
 //! directories and files are read, or refused for what is wrong with them, and directories are made and get quotas, on
 //! disks that serve and on disks that fail. They stand apart from the crate that they test so that it is proved once,
-//! and from `test_crashes`, where versions are written and read. There is no code here beside them.
+//! and from `test_versions`, where versions are written and read. There is no code here beside them.
 #![tactic(auto)]
 
 #[cfg(test)]

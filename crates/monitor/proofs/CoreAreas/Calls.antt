@@ -12,10 +12,10 @@ use Rattle.monitor.specs.Common.{IsInside, IsPart, in_core, on_open, areas_named
 use Rattle.monitor.specs.Common.{UnderKeys, channel_of, job_of}
 use Rattle.monitor.specs.declared.channel.Channel.{Channel}
 use Rattle.monitor.specs.declared.job.Job.{Job}
-use Rattle.monitor.proofs.Shared.Calling.{channel_is}
+use Rattle.monitor.proofs.common.Calling.{channel_is}
 use Rattle.monitor.proofs.CoreAreas.Words.{parts}
 use Rattle.spec_machine.proofs.Common.{slot-map}
-use Rattle.volume.proofs.Starting.Starts.{ok_on}
+use Rattle.volume.proofs.VolumeStart.Starts.{ok_on}
 use Rattle.spec_machine.specs.Jobs as machine
 
 -- on a channel that is open

@@ -16,10 +16,10 @@ use Rattle.volume.specs.declared.error.VolumeError.{VolumeError}
 use Rattle.volume.specs.declared.error.VolumeError.TheVariants.{NotVolume, BadHome, BadLog, BadDirectory}
 use Rattle.volume.specs.declared.error.VolumeError.TheVariants.{BadRetrieval, BlockTwice, TableWrong, Device}
 use Rattle.volume.specs.declared.error.VolumeError.TheVariants.{NoMemory, Failed, BadData}
-use Rattle.volume.proofs.Shared.Packs.{stands_in_one}
-use Rattle.volume.proofs.Starting.Starts.{stands_ignores_gate}
+use Rattle.volume.proofs.common.Packs.{stands_in_one}
+use Rattle.volume.proofs.VolumeStart.Starts.{stands_ignores_gate}
 use Rattle.monitor.specs.Common.{IsAlong, HasStarted, AreStopped}
-use Rattle.volume.proofs.Shared.Handing.{found_named}
+use Rattle.volume.proofs.common.Handing.{found_named}
 use Rattle.spec_image.specs.Faults as faults
 
 module _ (pack : Pack) (d : DiskState) (only_now : (c : Contents) → d.left_since d.clock c

@@ -15,9 +15,9 @@ use Rattle.volume.specs.Common.{VolumeCore}
 use Rattle.volume.specs.declared.live.LiveVersion.{LiveVersion}
 use Rattle.volume.specs.declared.pending.PendingVersion.{PendingVersion}
 use Rattle.monitor.specs.declared.job.Job.{Job}
-use Rattle.monitor.proofs.Shared.Answering.{row, slot_of, job_set, is_done, settled_other}
-use Rattle.monitor.proofs.Shared.Dropped.{leaves_none, job_keyed}
-use Rattle.monitor.proofs.Shared.ReadingJobs.{keeps_reading}
+use Rattle.monitor.proofs.common.Answering.{row, slot_of, job_set, is_done, settled_other}
+use Rattle.monitor.proofs.common.Dropped.{leaves_none, job_keyed}
+use Rattle.monitor.proofs.common.ReadingJobs.{keeps_reading}
 
 module _ (pack : Pack) (jobs : List (Option Job)) (n address : ℕ) (serial : ℕ) (files : Files Version)
     (w : UnderKeys) where

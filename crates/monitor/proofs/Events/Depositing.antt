@@ -13,9 +13,9 @@ use Rattle.volume.specs.declared.pending.PendingVersion.{PendingVersion}
 use Rattle.monitor.specs.Common.{DepositsBy, deposit_of, AreKeyed, AreReading, sides_in}
 use Rattle.monitor.specs.declared.job.Job.{Job}
 use Rattle.monitor.proofs.Events.CoreWords.{deposit_keyed, deposit_reading, deposit_answered}
-use Rattle.monitor.proofs.Shared.Dropped.{job_keyed}
-use Rattle.monitor.proofs.Shared.ReadingJobs.{keeps_reading}
-use Rattle.monitor.proofs.Shared.Slots.{set-twice}
+use Rattle.monitor.proofs.common.Dropped.{job_keyed}
+use Rattle.monitor.proofs.common.ReadingJobs.{keeps_reading}
+use Rattle.monitor.proofs.common.Slots.{set-twice}
 
 -- what holds of the jobs whatever is in their cores
 pub holds_on : (P : List (Option Job) → Type 0) (jobs jobs' : List (Option Job)) (n first : ℕ) (words : List ℕ)

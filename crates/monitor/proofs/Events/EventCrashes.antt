@@ -15,7 +15,7 @@ use Rattle.spec_machine.specs.declared.call.Reply.TheVariants.{NoJob, NoMemory, 
 use Rattle.volume.specs.Common.{VolumeCore}
 use Rattle.monitor.specs.Common.{CallCrashes, IsIdle, OfCall, IsState}
 use Rattle.monitor.specs.declared.job.Job.{Job}
-use Rattle.monitor.proofs.Shared.Untouched.{untouched_leaves}
+use Rattle.monitor.proofs.common.Untouched.{untouched_leaves}
 use Rattle.spec_machine.proofs.SerialLaws as serials
 
 -- whatever a crash may leave stands for the files of the state that the monitor stands for

@@ -12,7 +12,7 @@ use Rattle.spec_machine.proofs.Common.{runs_start, runs_served, runs_failed, run
 use Rattle.monitor.specs.Common.{StandsNow, RunsBy, HoldsStill, last_of, TellsFault, FailsOnce, Serves, MonitorState}
 use Rattle.spec_machine.specs.declared.call.Event.{Event}
 use Rattle.monitor.proofs.Events.EventCrashes.{state_stands}
-use Rattle.monitor.proofs.Shared.ServedPacks.{event_keeps_pack}
+use Rattle.monitor.proofs.common.ServedPacks.{event_keeps_pack}
 use Rattle.monitor.proofs.Events.MomentRuns.{last_more, by_through, by_start, by_more, by_stay}
 use Rattle.monitor.proofs.Events.Stills.{holds_still}
 

@@ -12,9 +12,9 @@ use Rattle.volume.specs.declared.live.LiveVersion.{LiveVersion}
 use Rattle.volume.specs.declared.pending.PendingVersion.{PendingVersion}
 use Rattle.monitor.specs.Common.{readers_of, IsState, AreKeyed, AreReading, jobs_of, no_jobs}
 use Rattle.monitor.specs.declared.job.Job.{Job}
-use Rattle.monitor.proofs.Shared.Answering.{nothing}
-use Rattle.monitor.proofs.Shared.ReadStays.{reads_start}
-use Rattle.monitor.proofs.Shared.SideSums.{all_at}
+use Rattle.monitor.proofs.common.Answering.{nothing}
+use Rattle.monitor.proofs.common.ReadStays.{reads_start}
+use Rattle.monitor.proofs.common.SideSums.{all_at}
 
 none_keyed : AreKeyed [] no_jobs
 none_keyed = record { once = λ key. refl; each = tt }

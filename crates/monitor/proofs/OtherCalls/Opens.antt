@@ -19,10 +19,10 @@ use Rattle.monitor.specs.declared.job.Job.{Job}
 use Rattle.volume.specs.declared.live.LiveVersion.{LiveVersion}
 use Rattle.volume.specs.declared.pending.PendingVersion.{PendingVersion}
 use Rattle.std.specs.List.{AllByRecursion}
-use Rattle.monitor.proofs.Shared.Answering.{settled_other}
-use Rattle.monitor.proofs.Shared.Calling.{channel_is, channel_set, job_same, keeps_channel, reads_channel}
-use Rattle.monitor.proofs.Shared.ReaderLists.{held}
-use Rattle.monitor.proofs.Shared.SideLists.{count}
+use Rattle.monitor.proofs.common.Answering.{settled_other}
+use Rattle.monitor.proofs.common.Calling.{channel_is, channel_set, job_same, keeps_channel, reads_channel}
+use Rattle.monitor.proofs.common.ReaderLists.{held}
+use Rattle.monitor.proofs.common.SideLists.{count}
 use Rattle.spec_machine.proofs.Common.{is_some-map}
 use Rattle.spec_machine.specs.Jobs as machine
 

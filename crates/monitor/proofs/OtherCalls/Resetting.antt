@@ -11,7 +11,7 @@ use Rattle.spec_machine.specs.declared.call.Reply.TheVariants.{Done, NoJob}
 use Rattle.volume.specs.Common.{VolumeCore}
 use Rattle.monitor.specs.Common.{OnlyDrops, AreKeyed, AreReading, Serves, UnderKeys, state_of, reset_job}
 use Rattle.monitor.specs.declared.job.Job.{Job}
-use Rattle.monitor.proofs.Shared.Answering.{called, job_set, no_job, on_disk, row}
+use Rattle.monitor.proofs.common.Answering.{called, job_set, no_job, on_disk, row}
 
 pub reset_row : (pack : Pack) (jobs jobs' : List (Option Job)) (n : ℕ) (moment : Moment)
     → moment.date ≤ last_date pack.layout

@@ -10,7 +10,7 @@ use Rattle.retrieval.specs.Common.{mode_number}
 use Rattle.monitor.specs.Common.{UnderKeys, channel_of, job_of, IsRow}
 use Rattle.monitor.specs.declared.channel.Channel.{Channel}
 use Rattle.monitor.specs.declared.job.Job.{Job}
-use Rattle.monitor.proofs.Shared.Calling.{channel_set, on_row, on_none}
+use Rattle.monitor.proofs.common.Calling.{channel_set, on_row, on_none}
 use Rattle.spec_machine.specs.Jobs as machine
 
 -- what is so at Ok is so where there is no error

@@ -6,7 +6,7 @@ use Rattle.spec_machine.specs.declared.call.Reply.TheVariants.{Value, NoChannel}
 use Rattle.monitor.specs.Common.{IsRow}
 use Rattle.monitor.specs.declared.channel.Channel.{Channel}
 use Rattle.monitor.specs.declared.job.Job.{Job}
-use Rattle.monitor.proofs.Shared.Calling.{channel_is, job_same, on_none}
+use Rattle.monitor.proofs.common.Calling.{channel_is, job_same, on_none}
 
 module _ (job : Job) (number : ℕ) where
   pub status_none : slot job.channels number ≡ None → IsRow job job (Getsts number) NoChannel

@@ -17,9 +17,9 @@ use Rattle.monitor.specs.Common.{channel_of, job_of}
 use Rattle.monitor.specs.declared.channel.Channel.{Channel}
 use Rattle.monitor.specs.declared.input.Input.{Input}
 use Rattle.monitor.specs.declared.job.Job.{Job}
-use Rattle.monitor.proofs.Shared.ReaderLists.{held}
-use Rattle.monitor.proofs.Shared.SideLists.{count, each-side}
-use Rattle.monitor.proofs.Shared.Calling.{channel_set, keeps_channel, reads_channel, on_row, on_none}
+use Rattle.monitor.proofs.common.ReaderLists.{held}
+use Rattle.monitor.proofs.common.SideLists.{count, each-side}
+use Rattle.monitor.proofs.common.Calling.{channel_set, keeps_channel, reads_channel, on_row, on_none}
 use Rattle.spec_machine.specs.Jobs as machine
 
 module _ (job : Job) (number block : ℕ) where

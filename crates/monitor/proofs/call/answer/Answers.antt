@@ -1,7 +1,7 @@
 use Rattle.std.proofs.Common.{refl}
 use Rattle.spec_machine.specs.declared.call.Call.TheVariants.{Open, Inbuf, Outbuf, Useti, Useto, Getsts}
-use Rattle.monitor.proofs.Shared.Calling.{keeps_same, reads_same}
-use Rattle.monitor.proofs.Shared.Promised.{alone_serves, as_called}
+use Rattle.monitor.proofs.common.Calling.{keeps_same, reads_same}
+use Rattle.monitor.proofs.common.Promised.{alone_serves, as_called}
 use Rattle.monitor.proofs.call.answer.Goals as goal
 
 pub returns-in-Open-clause-serving : goal.returns-in-Open-clause-serving

@@ -1,7 +1,7 @@
 use Rattle.std.proofs.Common.{◌≡◌, ◌∙◌, Some, None, ap, refl, subst, arith, length, slice_set}
 use Rattle.spec_machine.specs.Common.{slot}
-use Rattle.monitor.proofs.Shared.Promised.{nobody_serves, set_serves}
-use Rattle.monitor.proofs.Shared.Slots.{slot_past, slot_there, set_same}
+use Rattle.monitor.proofs.common.Promised.{nobody_serves, set_serves}
+use Rattle.monitor.proofs.common.Slots.{slot_past, slot_there, set_same}
 use Rattle.monitor.proofs.call.serve.Goals.{in-Some, in-None}
 use Rattle.monitor.proofs.call.serve.Goals as goal
 

@@ -1,8 +1,8 @@
 use Rattle.std.proofs.Common.{sym, ap, Some, slice_set, ◌∙◌}
-use Rattle.monitor.proofs.Shared.Calling.{keeps_same, reads_same}
-use Rattle.monitor.proofs.Closing.Closes.{close_none, close_row, closed_back, closed_both, dropped_live}
-use Rattle.monitor.proofs.Closing.Closes.{released_held, closed_as, close_keeps, close_reads, ends_is}
-use Rattle.monitor.proofs.Shared.Dropped.{leaves_none, leaves_on}
+use Rattle.monitor.proofs.common.Calling.{keeps_same, reads_same}
+use Rattle.monitor.proofs.CloseChannel.Closes.{close_none, close_row, closed_back, closed_both, dropped_live}
+use Rattle.monitor.proofs.CloseChannel.Closes.{released_held, closed_as, close_keeps, close_reads, ends_is}
+use Rattle.monitor.proofs.common.Dropped.{leaves_none, leaves_on}
 use Rattle.monitor.proofs.close.close.Goals as goal
 
 pub returns-in_default-clause-row : goal.returns-in_default-clause-row

@@ -2,11 +2,11 @@ use Rattle.std.proofs.Common.{◌≡◌, ◌∙◌, rules, refl, sym, ap, Some, 
 use Rattle.spec_machine.specs.declared.call.Reply.TheVariants.{Done}
 use Rattle.retrieval.specs.declared.prime.Prime.{Prime}
 use Rattle.monitor.specs.Common.{last_at}
-use Rattle.monitor.proofs.Closing.Serving.{side_live, side_starts}
-use Rattle.monitor.proofs.Closing.Sides.{has_published, holds_published}
-use Rattle.monitor.proofs.Closing.Publications.{few_behind, held_behind, named_behind}
-use Rattle.monitor.proofs.Closing.PublishedAnswers.{publishes_by}
-use Rattle.monitor.proofs.Shared.ReadingJobs.{job_held, few_readers}
+use Rattle.monitor.proofs.CloseChannel.Serving.{side_live, side_starts}
+use Rattle.monitor.proofs.CloseChannel.Sides.{has_published, holds_published}
+use Rattle.monitor.proofs.CloseChannel.Publications.{few_behind, held_behind, named_behind}
+use Rattle.monitor.proofs.CloseChannel.PublishedAnswers.{publishes_by}
+use Rattle.monitor.proofs.common.ReadingJobs.{job_held, few_readers}
 use Rattle.monitor.proofs.close.close_and_hold.Goals as goal
 
 pub publish_output-reply-requires-clause-live : goal.publish_output-reply-requires-clause-live

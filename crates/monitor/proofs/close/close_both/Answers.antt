@@ -1,11 +1,11 @@
 use Rattle.std.proofs.Common.{◌≡◌, rules, refl}
 use Rattle.spec_machine.specs.declared.call.Reply.TheVariants.{Done}
 use Rattle.monitor.specs.Common.{last_at}
-use Rattle.monitor.proofs.Closing.Serving.{side_live, side_starts}
-use Rattle.monitor.proofs.Closing.Sides.{has_published}
-use Rattle.monitor.proofs.Closing.Publications.{held_behind}
-use Rattle.monitor.proofs.Closing.PublishedAnswers.{publishes_by}
-use Rattle.monitor.proofs.Shared.ReadingJobs.{job_held}
+use Rattle.monitor.proofs.CloseChannel.Serving.{side_live, side_starts}
+use Rattle.monitor.proofs.CloseChannel.Sides.{has_published}
+use Rattle.monitor.proofs.CloseChannel.Publications.{held_behind}
+use Rattle.monitor.proofs.CloseChannel.PublishedAnswers.{publishes_by}
+use Rattle.monitor.proofs.common.ReadingJobs.{job_held}
 use Rattle.monitor.proofs.close.close_both.Goals as goal
 
 pub publish_output-reply-requires-clause-live : goal.publish_output-reply-requires-clause-live

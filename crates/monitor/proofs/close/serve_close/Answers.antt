@@ -1,11 +1,11 @@
 use Rattle.std.proofs.Common.{sym, ◌∙◌}
 use Rattle.spec_machine.specs.Common.{keeps_input}
 use Rattle.spec_machine.specs.declared.call.Call.TheVariants.{Close}
-use Rattle.monitor.proofs.Closing.Serving.{close_serves, hold_serves}
-use Rattle.monitor.proofs.Closing.Sides.{kept_by}
-use Rattle.monitor.proofs.Shared.Dropped.{job_live}
-use Rattle.monitor.proofs.Shared.Promised.{dropping_serves}
-use Rattle.monitor.proofs.Shared.ReadingJobs.{job_held}
+use Rattle.monitor.proofs.CloseChannel.Serving.{close_serves, hold_serves}
+use Rattle.monitor.proofs.CloseChannel.Sides.{kept_by}
+use Rattle.monitor.proofs.common.Dropped.{job_live}
+use Rattle.monitor.proofs.common.Promised.{dropping_serves}
+use Rattle.monitor.proofs.common.ReadingJobs.{job_held}
 use Rattle.monitor.proofs.close.serve_close.Goals as goal
 
 pub close-requires-clause-live : goal.close-requires-clause-live

@@ -6,8 +6,8 @@ use Rattle.spec_image.specs.Common.{number_of, File, Files}
 use Rattle.spec_image.specs.declared.code.ErrorCode.TheVariants.{NoDirectory, NotEmpty}
 use Rattle.volume.specs.Common.{ChangesFiles, directory_removed, HasEntries}
 use Rattle.monitor.specs.Common.{IsNowhere, IsThere, IsRemovable, IsKeptBy, is_kept_from, asked_owner}
-use Rattle.monitor.proofs.DeletingDirectory.Asked.{nowhere_numbered, nowhere_known, there_by, kept_by}
-use Rattle.monitor.proofs.DeletingDirectory.Serving.{checked_serves, kept_serves, removal_broken, removal_done}
+use Rattle.monitor.proofs.DeleteDir.Asked.{nowhere_numbered, nowhere_known, there_by, kept_by}
+use Rattle.monitor.proofs.DeleteDir.Serving.{checked_serves, kept_serves, removal_broken, removal_done}
 use Rattle.monitor.proofs.delete_dir.serve_delete_dir.Goals as goal
 
 pub returns-then-lies_outside-clause-serving : goal.returns-then-lies_outside-clause-serving

@@ -1,6 +1,6 @@
 use Rattle.std.proofs.Common.{None, ap, ◌∙◌}
 use Rattle.monitor.specs.Common.{side_of, reader_of}
-use Rattle.monitor.proofs.Shared.Dropped.{get_there, next_live, next_held, closed_more}
+use Rattle.monitor.proofs.common.Dropped.{get_there, next_live, next_held, closed_more}
 use Rattle.monitor.proofs.dropping.close_channels.Goals as goal
 
 pub close_sides-requires-clause-live : goal.close_sides-requires-clause-live

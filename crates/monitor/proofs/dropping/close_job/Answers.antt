@@ -1,5 +1,5 @@
-use Rattle.monitor.proofs.Shared.Dropped.{job_live}
-use Rattle.monitor.proofs.Shared.ReadingJobs.{job_held}
+use Rattle.monitor.proofs.common.Dropped.{job_live}
+use Rattle.monitor.proofs.common.ReadingJobs.{job_held}
 use Rattle.monitor.proofs.dropping.close_job.Goals as goal
 
 pub close_channels-requires-clause-live : goal.close_channels-requires-clause-live

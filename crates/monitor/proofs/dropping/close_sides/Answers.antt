@@ -1,6 +1,6 @@
 use Rattle.std.proofs.Common.{[], option_to_list, subst, arith}
 use Rattle.monitor.specs.Common.{Closes, keys_of, pins_of}
-use Rattle.monitor.proofs.Shared.Dropped.{closes_on}
+use Rattle.monitor.proofs.common.Dropped.{closes_on}
 use Rattle.monitor.proofs.dropping.close_sides.Goals as goal
 
 pub returns-clause-closed : goal.returns-clause-closed

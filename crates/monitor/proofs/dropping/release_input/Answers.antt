@@ -2,7 +2,7 @@ use Rattle.std.proofs.Common.{◌≤◌, [], sym, subst, option_to_list}
 use Rattle.spec_image.specs.Common.{times}
 use Rattle.volume.specs.Common.{slot as version_at}
 use Rattle.monitor.specs.Common.{Closes, readers_of, pins_of}
-use Rattle.monitor.proofs.Shared.Releases.{held_there, lets_one_go}
+use Rattle.monitor.proofs.common.Releases.{held_there, lets_one_go}
 use Rattle.monitor.proofs.dropping.release_input.Goals as goal
 
 pub unpin-requires : goal.unpin-requires

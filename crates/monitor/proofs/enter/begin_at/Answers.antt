@@ -5,10 +5,10 @@ use Rattle.spec_machine.specs.Common.{place_at}
 use Rattle.spec_machine.specs.declared.call.Reply.TheVariants.{Done, Refused}
 use Rattle.volume.specs.Common.{IsSoundCore}
 use Rattle.monitor.specs.Common.{IsAnswer, begin_answer_at, job_of}
-use Rattle.monitor.proofs.Shared.Answering.{contrary}
-use Rattle.monitor.proofs.Entering.Outcomes.{at_place, no_owner, refused, may_begin_at, limited_at, begun_at}
-use Rattle.monitor.proofs.Entering.Outcomes.{not_begun_at}
-use Rattle.monitor.proofs.Shared.Limits.{AllowsBegin}
+use Rattle.monitor.proofs.common.Answering.{contrary}
+use Rattle.monitor.proofs.EnterFile.Outcomes.{at_place, no_owner, refused, may_begin_at, limited_at, begun_at}
+use Rattle.monitor.proofs.EnterFile.Outcomes.{not_begun_at}
+use Rattle.monitor.proofs.common.Limits.{AllowsBegin}
 use Rattle.monitor.proofs.enter.begin_at.Goals as goal
 
 pub returns-in_default-clause-answered : goal.returns-in_default-clause-answered

@@ -4,9 +4,9 @@ use Rattle.spec_machine.specs.Common.{with_right, place_at}
 use Rattle.spec_machine.specs.declared.call.Reply.TheVariants.{Refused}
 use Rattle.volume.specs.Common.{begun}
 use Rattle.monitor.specs.Common.{entered_kind, IsAnswer, begin_answer_at, job_of, reader_of}
-use Rattle.monitor.proofs.Entering.Readers.{reading_entered}
-use Rattle.monitor.proofs.Entering.Enters.{done, refused, wanting}
-use Rattle.monitor.proofs.Shared.Placing.{placed_begun}
+use Rattle.monitor.proofs.EnterFile.Readers.{reading_entered}
+use Rattle.monitor.proofs.EnterFile.Enters.{done, refused, wanting}
+use Rattle.monitor.proofs.common.Placing.{placed_begun}
 use Rattle.spec_machine.proofs.Common.{is_none_of}
 use Rattle.monitor.proofs.enter.enter.Goals as goal
 

@@ -2,10 +2,10 @@ use Rattle.std.proofs.Common.{false, Some, refl, sym, subst, ◌∙◌, slice_se
 use Rattle.spec_machine.specs.declared.call.Call.TheVariants.{Enter}
 use Rattle.volume.specs.Common.{IsSoundCore}
 use Rattle.monitor.specs.Common.{IsDecided}
-use Rattle.monitor.proofs.Entering.ByJobs.{enters_keyed, enters_reading, enter_answered}
-use Rattle.monitor.proofs.Shared.Promised.{quiet_serves}
-use Rattle.monitor.proofs.Shared.ReadingJobs.{job_held, few_readers}
-use Rattle.monitor.proofs.Updating.ByJobs.{updates_keyed, updates_reading, update_answered}
+use Rattle.monitor.proofs.EnterFile.ByJobs.{enters_keyed, enters_reading, enter_answered}
+use Rattle.monitor.proofs.common.Promised.{quiet_serves}
+use Rattle.monitor.proofs.common.ReadingJobs.{job_held, few_readers}
+use Rattle.monitor.proofs.UpdateFile.ByJobs.{updates_keyed, updates_reading, update_answered}
 use Rattle.monitor.proofs.enter.serve_enter.Goals as goal
 
 pub update-requires-clause-held : goal.update-requires-clause-held

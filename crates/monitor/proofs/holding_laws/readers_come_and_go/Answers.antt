@@ -1,4 +1,4 @@
-use Rattle.monitor.proofs.Shared.ReadsPinned.{reads_pinned, read_again, reads_let_go}
+use Rattle.monitor.proofs.common.ReadsPinned.{reads_pinned, read_again, reads_let_go}
 use Rattle.monitor.proofs.holding_laws.readers_come_and_go.Goals as goal
 
 pub returns-clause-comes : goal.returns-clause-comes

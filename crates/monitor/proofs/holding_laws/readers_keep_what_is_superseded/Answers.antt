@@ -1,4 +1,4 @@
-use Rattle.monitor.proofs.Shared.ReadsPublished.{reads_published}
+use Rattle.monitor.proofs.common.ReadsPublished.{reads_published}
 use Rattle.monitor.proofs.holding_laws.readers_keep_what_is_superseded.Goals as goal
 
 pub returns : goal.returns

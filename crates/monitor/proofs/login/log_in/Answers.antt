@@ -1,8 +1,8 @@
 use Rattle.std.proofs.Common.{filter_map, sym, ap, subst}
 use Rattle.monitor.specs.Common.{AreKeyed, AreReading, side_of, reader_of}
-use Rattle.monitor.proofs.Shared.Dropped.{closed_keyed}
-use Rattle.monitor.proofs.Shared.Placing.{placed_left}
-use Rattle.monitor.proofs.Shared.ReadingJobs.{closed_reading, bare_readers}
+use Rattle.monitor.proofs.common.Dropped.{closed_keyed}
+use Rattle.monitor.proofs.common.Placing.{placed_left}
+use Rattle.monitor.proofs.common.ReadingJobs.{closed_reading, bare_readers}
 use Rattle.monitor.proofs.login.log_in.Goals as goal
 
 pub returns-in-Ok-clause-keyed : goal.returns-in-Ok-clause-keyed

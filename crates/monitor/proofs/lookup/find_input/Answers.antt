@@ -4,8 +4,8 @@ use Rattle.spec_machine.specs.Common.{lookup_answer, place_at}
 use Rattle.spec_machine.specs.declared.call.Reply.TheVariants.{Done, Refused}
 use Rattle.volume.specs.Common.{IsSoundCore}
 use Rattle.monitor.specs.Common.{job_of}
-use Rattle.monitor.proofs.Entering.Outcomes.{at_place}
-use Rattle.monitor.proofs.LookingUp.LookupAnswers.{nowhere, refused, done, held, not_held}
+use Rattle.monitor.proofs.EnterFile.Outcomes.{at_place}
+use Rattle.monitor.proofs.LookupFile.LookupAnswers.{nowhere, refused, done, held, not_held}
 use Rattle.monitor.proofs.lookup.find_input.Goals as goal
 
 pub returns-in_default-clause-answered : goal.returns-in_default-clause-answered

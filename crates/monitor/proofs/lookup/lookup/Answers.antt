@@ -2,8 +2,8 @@ use Rattle.std.proofs.Common.{◌∙◌, sym, ap, refl, Some, slice_set, subst}
 use Rattle.spec_machine.proofs.Common.{is_none_of}
 use Rattle.monitor.specs.Common.{channel_of}
 use Rattle.monitor.specs.declared.job.Job.{Job}
-use Rattle.monitor.proofs.Shared.Answering.{nothing}
-use Rattle.monitor.proofs.LookingUp.Lookups.{old_held, looks_reading, is_found, refused, done, free_still}
+use Rattle.monitor.proofs.common.Answering.{nothing}
+use Rattle.monitor.proofs.LookupFile.Lookups.{old_held, looks_reading, is_found, refused, done, free_still}
 use Rattle.monitor.proofs.lookup.lookup.Goals as goal
 
 pub release_input-requires : goal.release_input-requires

@@ -1,6 +1,6 @@
 use Rattle.std.proofs.Common.{◌∙◌, sym}
 use Rattle.spec_image.specs.Common.{get}
-use Rattle.monitor.proofs.LookingUp.LookupAnswers.{read}
+use Rattle.monitor.proofs.LookupFile.LookupAnswers.{read}
 use Rattle.monitor.proofs.lookup.readable.Goals as goal
 
 pub returns-clause-found : goal.returns-clause-found

@@ -2,11 +2,11 @@ use Rattle.std.proofs.Common.{false, Some, refl, subst, slice_set}
 use Rattle.spec_machine.specs.declared.call.Call.TheVariants.{Lookup}
 use Rattle.volume.specs.Common.{IsSoundCore}
 use Rattle.monitor.specs.Common.{IsDecided}
-use Rattle.monitor.proofs.Shared.Knowing.{known}
-use Rattle.monitor.proofs.LookingUp.Calls.{lookup_keyed, lookup_reading, lookup_answered}
-use Rattle.monitor.proofs.LookingUp.Lookups.{placed_still}
-use Rattle.monitor.proofs.Shared.Promised.{quiet_serves}
-use Rattle.monitor.proofs.Shared.ReadingJobs.{job_held, few_readers}
+use Rattle.monitor.proofs.common.Knowing.{known}
+use Rattle.monitor.proofs.LookupFile.Calls.{lookup_keyed, lookup_reading, lookup_answered}
+use Rattle.monitor.proofs.LookupFile.Lookups.{placed_still}
+use Rattle.monitor.proofs.common.Promised.{quiet_serves}
+use Rattle.monitor.proofs.common.ReadingJobs.{job_held, few_readers}
 use Rattle.monitor.proofs.lookup.serve_lookup.Goals as goal
 
 pub lookup-requires-clause-held : goal.lookup-requires-clause-held

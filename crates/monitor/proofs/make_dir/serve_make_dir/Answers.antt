@@ -4,8 +4,7 @@ use Rattle.spec_machine.specs.declared.call.Reply.TheVariants.{AddressCheck, Don
 use Rattle.volume.specs.Common.{ChangesFiles, files_made}
 use Rattle.monitor.specs.Common.{asked_owner, directory_protection_asked, early_answer, IsAbsent, IsCrowded}
 use Rattle.monitor.specs.Common.{IsRefusedBy}
-use Rattle.monitor.proofs.MakingDirectory.Serving.{checked_serves, denied_serves, lacking_serves, make_broken}
-use Rattle.monitor.proofs.MakingDirectory.Serving.{make_done}
+use Rattle.monitor.proofs.MakeDir.Serving.{checked_serves, denied_serves, lacking_serves, make_broken, make_done}
 use Rattle.monitor.proofs.make_dir.serve_make_dir.Goals as goal
 
 pub returns-then-lies_outside-clause-serving : goal.returns-then-lies_outside-clause-serving

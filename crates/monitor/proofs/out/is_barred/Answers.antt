@@ -1,6 +1,6 @@
 use Rattle.std.proofs.Common.{◌≡◌, ◌↔◌, ◌||◌, true, not, subst}
 use Rattle.monitor.specs.Common.{IsBarred}
-use Rattle.monitor.proofs.WritingOut.Outs.{barred_by}
+use Rattle.monitor.proofs.WriteOut.Outs.{barred_by}
 use Rattle.monitor.proofs.out.is_barred.Goals as goal
 
 pub returns-else-is_kept : goal.returns-else-is_kept

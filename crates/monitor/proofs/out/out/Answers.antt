@@ -6,10 +6,10 @@ use Rattle.spec_image.specs.declared.code.ErrorCode.TheVariants.{NoRoom}
 use Rattle.volume.specs.declared.error.CallError.TheVariants.{Refused}
 use Rattle.volume.specs.Common.{VolumeCore}
 use Rattle.monitor.specs.Common.{moved, IsBarred, IsOut, KeepsSides}
-use Rattle.monitor.proofs.Shared.Calling.{keeps_same}
-use Rattle.monitor.proofs.WritingOut.Outgoings.{Found, at_output, goes_out, has_outgoing}
-use Rattle.monitor.proofs.WritingOut.Outs.{version_there, version_live, its_side, next_fits, not_refused, keeps_put}
-use Rattle.monitor.proofs.WritingOut.Outs.{barred_none, finds_place, lacks_room, reads_status, reads_moved}
+use Rattle.monitor.proofs.common.Calling.{keeps_same}
+use Rattle.monitor.proofs.WriteOut.Outgoings.{Found, at_output, goes_out, has_outgoing}
+use Rattle.monitor.proofs.WriteOut.Outs.{version_there, version_live, its_side, next_fits, not_refused, keeps_put}
+use Rattle.monitor.proofs.WriteOut.Outs.{barred_none, finds_place, lacks_room, reads_status, reads_moved}
 use Rattle.monitor.proofs.OtherCalls.Usetos.{keeps_status}
 use Rattle.monitor.proofs.out.out.Goals as goal
 

@@ -4,14 +4,14 @@ use Rattle.spec_machine.specs.declared.call.Call.TheVariants.{Out}
 use Rattle.spec_machine.proofs.Common.{slot-set_other}
 use Rattle.volume.specs.Common.{IsSoundCore}
 use Rattle.monitor.specs.Common.{IsOut, IsSide, sides_in}
-use Rattle.monitor.proofs.Shared.Called.{still_serves, decided_serves}
-use Rattle.monitor.proofs.Shared.Dropped.{job_live}
-use Rattle.monitor.proofs.WritingOut.ByJobs.{out_keyed, out_reading, out_answered}
-use Rattle.monitor.proofs.WritingOut.Placed.{out_placed, out_blamed, out_idle}
-use Rattle.monitor.proofs.Shared.Refusals.{out_refused, out_decided}
-use Rattle.monitor.proofs.Shared.SideLists.{each-slot}
-use Rattle.monitor.proofs.Shared.Slots.{unchanged}
-use Rattle.monitor.proofs.Shared.Untouched.{quiet_crashes}
+use Rattle.monitor.proofs.common.Called.{still_serves, decided_serves}
+use Rattle.monitor.proofs.common.Dropped.{job_live}
+use Rattle.monitor.proofs.WriteOut.ByJobs.{out_keyed, out_reading, out_answered}
+use Rattle.monitor.proofs.WriteOut.Placed.{out_placed, out_blamed, out_idle}
+use Rattle.monitor.proofs.common.Refusals.{out_refused, out_decided}
+use Rattle.monitor.proofs.common.SideLists.{each-slot}
+use Rattle.monitor.proofs.common.Slots.{unchanged}
+use Rattle.monitor.proofs.common.Untouched.{quiet_crashes}
 use Rattle.monitor.proofs.out.serve_out.Goals as goal
 
 pub out-requires-clause-live : goal.out-requires-clause-live

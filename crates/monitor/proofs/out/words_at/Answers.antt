@@ -1,6 +1,6 @@
 use Rattle.std.proofs.Common.{sym, ◌∙◌, ◌≡◌, [], ◌∷◌, IfOk, subst, arith}
 use Rattle.spec_machine.specs.Common.{joined}
-use Rattle.monitor.proofs.WritingOut.Outgoings.{gathers, area_found, list_found}
+use Rattle.monitor.proofs.WriteOut.Outgoings.{gathers, area_found, list_found}
 use Rattle.monitor.proofs.out.words_at.Goals as goal
 
 pub returns-then-is_buffered-clause-words : goal.returns-then-is_buffered-clause-words

@@ -1,10 +1,10 @@
 use Rattle.std.proofs.Common.{length, sym, subst, ◌∙◌, refl}
 use Rattle.std.proofs.lemmas.Bool.{both_ways}
 use Rattle.spec_image.proofs.Common.{some_same}
-use Rattle.volume.proofs.Publishing.Publications.{unchanged_leaves}
+use Rattle.volume.proofs.PublishVersion.Publications.{unchanged_leaves}
 use Rattle.monitor.specs.Common.{last_at, IsPublishing, MayPublish}
-use Rattle.monitor.proofs.WritingOut.Outs.{barred_none, finds_place, lacks_room}
-use Rattle.monitor.proofs.Closing.Publications.{answered_done, answered_error}
+use Rattle.monitor.proofs.WriteOut.Outs.{barred_none, finds_place, lacks_room}
+use Rattle.monitor.proofs.CloseChannel.Publications.{answered_done, answered_error}
 use Rattle.monitor.proofs.publishing.publish_output.Goals as goal
 
 pub returns-in-Ok-publish-clause-whatever : goal.returns-in-Ok-publish-clause-whatever

@@ -6,8 +6,8 @@ use Rattle.spec_image.specs.Common.{number_of, File, Files, layout_number, files
 use Rattle.spec_image.specs.declared.code.ErrorCode.TheVariants.{NoDirectory}
 use Rattle.volume.specs.Common.{ChangesFiles, IsSoundCore}
 use Rattle.monitor.specs.Common.{IsNowhere, asked_owner, IsDenied, IsLimitable, asked_quota}
-use Rattle.monitor.proofs.DeletingDirectory.Asked.{nowhere_numbered, nowhere_known}
-use Rattle.monitor.proofs.SettingQuota.Serving.{checked_serves, denied_serves, limit_broken, limit_done}
+use Rattle.monitor.proofs.DeleteDir.Asked.{nowhere_numbered, nowhere_known}
+use Rattle.monitor.proofs.SetQuota.Serving.{checked_serves, denied_serves, limit_broken, limit_done}
 use Rattle.monitor.proofs.quota.serve_quota.Goals as goal
 
 pub returns-then-lies_outside-clause-serving : goal.returns-then-lies_outside-clause-serving

@@ -7,9 +7,9 @@ use Rattle.spec_machine.specs.declared.call.Reply.TheVariants.{Done}
 use Rattle.volume.specs.Common.{version_under, IsReadable}
 use Rattle.monitor.specs.Common.{handle_read, asked_at, IsIn, KeepsReading}
 use Rattle.monitor.specs.declared.read_in.ReadIn.TheVariants.{Moved, AtEnd, NoMemory, Device}
-use Rattle.monitor.proofs.ReadingIn.Asking.{few_asked}
-use Rattle.monitor.proofs.ReadingIn.Inputs.{version_there}
-use Rattle.monitor.proofs.ReadingIn.Words.{is_readable, few_words, words_left, read_fits, is_asked, in_reads}
+use Rattle.monitor.proofs.ReadIn.Asking.{few_asked}
+use Rattle.monitor.proofs.ReadIn.Inputs.{version_there}
+use Rattle.monitor.proofs.ReadIn.Words.{is_readable, few_words, words_left, read_fits, is_asked, in_reads}
 use Rattle.monitor.proofs.read.read.Goals as goal
 
 pub read_in-requires-clause-live : goal.read_in-requires-clause-live

@@ -2,13 +2,13 @@ use Rattle.std.proofs.Common.{false, Some, refl, sym, subst, ap, slice_set}
 use Rattle.spec_machine.specs.declared.call.Call.TheVariants.{In}
 use Rattle.spec_machine.proofs.Common.{slot-set_other}
 use Rattle.monitor.specs.Common.{AreKeyed, ArePlaced, AreReading}
-use Rattle.monitor.proofs.Shared.Called.{still_serves, decided_idle, decided_serves}
-use Rattle.monitor.proofs.Shared.Dropped.{job_live}
-use Rattle.monitor.proofs.ReadingIn.ByJobs.{in_keyed, in_reading, in_answered, quiet_read}
-use Rattle.monitor.proofs.Shared.ReadingJobs.{job_held}
-use Rattle.monitor.proofs.Shared.Refusals.{in_refused, in_decided}
-use Rattle.monitor.proofs.Shared.Slots.{unchanged}
-use Rattle.monitor.proofs.Shared.Untouched.{quiet_crashes}
+use Rattle.monitor.proofs.common.Called.{still_serves, decided_idle, decided_serves}
+use Rattle.monitor.proofs.common.Dropped.{job_live}
+use Rattle.monitor.proofs.ReadIn.ByJobs.{in_keyed, in_reading, in_answered, quiet_read}
+use Rattle.monitor.proofs.common.ReadingJobs.{job_held}
+use Rattle.monitor.proofs.common.Refusals.{in_refused, in_decided}
+use Rattle.monitor.proofs.common.Slots.{unchanged}
+use Rattle.monitor.proofs.common.Untouched.{quiet_crashes}
 use Rattle.monitor.proofs.read.serve_in.Goals as goal
 
 pub read-requires-clause-held : goal.read-requires-clause-held

@@ -2,8 +2,8 @@ use Rattle.std.proofs.Common.{◌≡◌, ◌-◌, length, min, take, sym, ap, �
 use Rattle.spec_image.proofs.Common.{some_same}
 use Rattle.spec_image.specs.Common.{block_start, words_from}
 use Rattle.monitor.specs.Common.{Asked}
-use Rattle.monitor.proofs.ReadingIn.Asking.{enough_asked}
-use Rattle.monitor.proofs.ReadingIn.Inputs.{version_there}
+use Rattle.monitor.proofs.ReadIn.Asking.{enough_asked}
+use Rattle.monitor.proofs.ReadIn.Inputs.{version_there}
 use Rattle.monitor.proofs.read_in.read_in.Goals as goal
 
 pub returns-in-Ok-2-clause-moved : goal.returns-in-Ok-2-clause-moved

@@ -1,4 +1,4 @@
-use Rattle.monitor.proofs.Shared.ReadBookings.{reads_booked}
+use Rattle.monitor.proofs.common.ReadBookings.{reads_booked}
 use Rattle.monitor.proofs.reading_laws.what_is_read_is_booked.Goals as goal
 
 pub returns : goal.returns

@@ -1,4 +1,4 @@
-use Rattle.monitor.proofs.Shared.ReadStays.{reads_start, reads_kept, reads_made}
+use Rattle.monitor.proofs.common.ReadStays.{reads_start, reads_kept, reads_made}
 use Rattle.monitor.proofs.reading_laws.what_is_read_stays.Goals as goal
 
 pub returns-clause-started : goal.returns-clause-started

@@ -1,8 +1,8 @@
 use Rattle.std.proofs.Common.{sym, ap, false, None, slice_set, ◌∙◌, arith}
 use Rattle.monitor.specs.Common.{rings_closed}
-use Rattle.monitor.proofs.Shared.Calling.{keeps_same, reads_same}
-use Rattle.monitor.proofs.Closing.Closes.{release_none, release_row, release_keeps, release_reads, input_held}
-use Rattle.monitor.proofs.Shared.Dropped.{closes_none, leaves_none}
+use Rattle.monitor.proofs.common.Calling.{keeps_same, reads_same}
+use Rattle.monitor.proofs.CloseChannel.Closes.{release_none, release_row, release_keeps, release_reads, input_held}
+use Rattle.monitor.proofs.common.Dropped.{closes_none, leaves_none}
 use Rattle.monitor.proofs.releas.release.Goals as goal
 
 pub returns-in_default-clause-row : goal.returns-in_default-clause-row

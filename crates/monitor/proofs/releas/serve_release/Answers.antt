@@ -1,8 +1,8 @@
 use Rattle.std.proofs.Common.{refl}
 use Rattle.spec_machine.specs.declared.call.Call.TheVariants.{Releas}
-use Rattle.monitor.proofs.Closing.Serving.{release_serves}
-use Rattle.monitor.proofs.Shared.Promised.{dropping_serves}
-use Rattle.monitor.proofs.Shared.ReadingJobs.{job_held}
+use Rattle.monitor.proofs.CloseChannel.Serving.{release_serves}
+use Rattle.monitor.proofs.common.Promised.{dropping_serves}
+use Rattle.monitor.proofs.common.ReadingJobs.{job_held}
 use Rattle.monitor.proofs.releas.serve_release.Goals as goal
 
 pub release-requires-clause-held : goal.release-requires-clause-held

@@ -1,7 +1,7 @@
 use Rattle.std.proofs.Common.{subst}
 use Rattle.spec_image.specs.Common.{without_serials}
 use Rattle.volume.specs.Common.{IsSoundCore}
-use Rattle.monitor.proofs.Renaming.ChangeAnswers.{found_answered}
+use Rattle.monitor.proofs.RenameFile.ChangeAnswers.{found_answered}
 use Rattle.monitor.proofs.rename.may_change.Goals as goal
 
 pub returns-clause-answered : goal.returns-clause-answered

@@ -1,5 +1,5 @@
 use Rattle.spec_image.specs.Common.{place_of, without_serials}
-use Rattle.monitor.proofs.Renaming.Arrivals.{arrival_answered}
+use Rattle.monitor.proofs.RenameFile.Arrivals.{arrival_answered}
 use Rattle.monitor.proofs.rename.may_come.Goals as goal
 
 pub returns-clause-answered : goal.returns-clause-answered

@@ -7,17 +7,17 @@ use Rattle.spec_image.specs.declared.code.ErrorCode.TheVariants.{NoDirectory, No
 use Rattle.spec_machine.specs.declared.call.Call.TheVariants.{Rename}
 use Rattle.volume.specs.Common.{DeviceAnswer, IsSoundCore}
 use Rattle.monitor.specs.Common.{changed_job, changed_reply, job_of}
-use Rattle.monitor.proofs.Shared.Answering.{contrary}
-use Rattle.monitor.proofs.Renaming.ChangeAnswers.{rename_stops}
-use Rattle.monitor.proofs.Entering.Outcomes.{at_place, no_directory}
-use Rattle.monitor.proofs.Shared.InputsClosed.{input_is_held}
-use Rattle.monitor.proofs.Renaming.MoveReplies.{arrival_refused, arrival_homeless, moves_limited, other_place}
-use Rattle.monitor.proofs.Renaming.MoveServing.{read_on, move_serves}
-use Rattle.monitor.proofs.Renaming.Moves.{address_within, asks_for}
-use Rattle.monitor.proofs.Shared.ReadingJobs.{job_held}
-use Rattle.monitor.proofs.Renaming.Refusals.{address_fits, refusing_serves}
-use Rattle.monitor.proofs.Renaming.Wanting.{rename_serves}
-use Rattle.volume.proofs.Shared.Marking.{on_ok}
+use Rattle.monitor.proofs.common.Answering.{contrary}
+use Rattle.monitor.proofs.RenameFile.ChangeAnswers.{rename_stops}
+use Rattle.monitor.proofs.EnterFile.Outcomes.{at_place, no_directory}
+use Rattle.monitor.proofs.common.InputsClosed.{input_is_held}
+use Rattle.monitor.proofs.RenameFile.MoveReplies.{arrival_refused, arrival_homeless, moves_limited, other_place}
+use Rattle.monitor.proofs.RenameFile.MoveServing.{read_on, move_serves}
+use Rattle.monitor.proofs.RenameFile.Moves.{address_within, asks_for}
+use Rattle.monitor.proofs.common.ReadingJobs.{job_held}
+use Rattle.monitor.proofs.RenameFile.Refusals.{address_fits, refusing_serves}
+use Rattle.monitor.proofs.RenameFile.Wanting.{rename_serves}
+use Rattle.volume.proofs.common.Marking.{on_ok}
 use Rattle.spec_machine.specs.declared.call.Reply.TheVariants as replies
 use Rattle.monitor.proofs.rename.move_file.Goals as goal
 

@@ -2,11 +2,11 @@ use Rattle.std.proofs.Common.{◌≤◌, refl, ap, subst}
 use Rattle.spec_image.specs.Common.{number_of, pack_of, place_of}
 use Rattle.volume.specs.Common.{IsSoundCore}
 use Rattle.monitor.specs.Common.{job_of}
-use Rattle.monitor.proofs.Renaming.ChangeAnswers.{rename_stops}
-use Rattle.monitor.proofs.Renaming.Deletions.{deleting_serves}
-use Rattle.monitor.proofs.Shared.InputsClosed.{input_is_held}
-use Rattle.monitor.proofs.Shared.ReadingJobs.{job_held}
-use Rattle.monitor.proofs.Renaming.Refusals.{address_fits, asks_none, still_read, refusing_serves}
+use Rattle.monitor.proofs.RenameFile.ChangeAnswers.{rename_stops}
+use Rattle.monitor.proofs.RenameFile.Deletions.{deleting_serves}
+use Rattle.monitor.proofs.common.InputsClosed.{input_is_held}
+use Rattle.monitor.proofs.common.ReadingJobs.{job_held}
+use Rattle.monitor.proofs.RenameFile.Refusals.{address_fits, asks_none, still_read, refusing_serves}
 use Rattle.monitor.proofs.rename.remove_file.Goals as goal
 
 pub refuse-requires : goal.refuse-requires

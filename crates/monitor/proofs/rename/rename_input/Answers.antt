@@ -2,12 +2,12 @@ use Rattle.std.proofs.Common.{refl, sym, ap, ◌∙◌}
 use Rattle.spec_machine.specs.declared.call.Call.TheVariants.{Rename}
 use Rattle.spec_machine.specs.declared.call.Reply.TheVariants.{AddressCheck}
 use Rattle.spec_image.proofs.Common.{some_is}
-use Rattle.monitor.proofs.Shared.Calling.{keeps_same}
-use Rattle.monitor.proofs.Entering.Readers.{reading_core}
-use Rattle.monitor.proofs.Renaming.OutOfOrder.{rename_outside}
-use Rattle.monitor.proofs.Shared.Promised.{alone_serves}
-use Rattle.monitor.proofs.Renaming.Refusals.{out_of_order}
-use Rattle.monitor.proofs.Renaming.Rows.{rename_writing}
+use Rattle.monitor.proofs.common.Calling.{keeps_same}
+use Rattle.monitor.proofs.EnterFile.Readers.{reading_core}
+use Rattle.monitor.proofs.RenameFile.OutOfOrder.{rename_outside}
+use Rattle.monitor.proofs.common.Promised.{alone_serves}
+use Rattle.monitor.proofs.RenameFile.Refusals.{out_of_order}
+use Rattle.monitor.proofs.RenameFile.Rows.{rename_writing}
 use Rattle.monitor.proofs.rename.rename_input.Goals as goal
 
 pub returns-then-lies_outside-clause-serving : goal.returns-then-lies_outside-clause-serving

@@ -1,5 +1,5 @@
 use Rattle.spec_machine.specs.declared.call.Call.TheVariants.{Rename}
-use Rattle.monitor.proofs.Shared.Promised.{alone_serves}
+use Rattle.monitor.proofs.common.Promised.{alone_serves}
 use Rattle.monitor.proofs.rename.serve_rename.Goals as goal
 
 pub returns-in-None-clause-serving : goal.returns-in-None-clause-serving

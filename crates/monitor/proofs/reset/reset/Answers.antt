@@ -1,6 +1,6 @@
-use Rattle.monitor.proofs.Shared.Dropped.{reset_keyed}
-use Rattle.monitor.proofs.Shared.Placing.{placed_left}
-use Rattle.monitor.proofs.Shared.ReadingJobs.{reset_reading}
+use Rattle.monitor.proofs.common.Dropped.{reset_keyed}
+use Rattle.monitor.proofs.common.Placing.{placed_left}
+use Rattle.monitor.proofs.common.ReadingJobs.{reset_reading}
 use Rattle.monitor.proofs.reset.reset.Goals as goal
 
 pub returns-clause-keyed : goal.returns-clause-keyed

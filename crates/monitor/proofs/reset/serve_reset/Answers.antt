@@ -5,11 +5,11 @@ use Rattle.spec_machine.specs.declared.call.Call.TheVariants.{Reset}
 use Rattle.spec_machine.specs.declared.call.Reply.TheVariants.{Done}
 use Rattle.monitor.specs.Common.{sides_in, readers_in, keys_of, pins_of, reset_job, Closes}
 use Rattle.monitor.specs.declared.job.Job.{Job}
-use Rattle.monitor.proofs.Shared.Answering.{row}
-use Rattle.monitor.proofs.Shared.Dropped.{job_live, closed_keyed}
-use Rattle.monitor.proofs.Shared.Placing.{placed_left}
-use Rattle.monitor.proofs.Shared.Promised.{quiet_serves}
-use Rattle.monitor.proofs.Shared.ReadingJobs.{job_held, closed_reading, bare_readers}
+use Rattle.monitor.proofs.common.Answering.{row}
+use Rattle.monitor.proofs.common.Dropped.{job_live, closed_keyed}
+use Rattle.monitor.proofs.common.Placing.{placed_left}
+use Rattle.monitor.proofs.common.Promised.{quiet_serves}
+use Rattle.monitor.proofs.common.ReadingJobs.{job_held, closed_reading, bare_readers}
 use Rattle.monitor.proofs.OtherCalls.Resetting.{reset_row}
 use Rattle.spec_machine.specs.declared.call.Event.TheVariants.{Call as Calls}
 use Rattle.monitor.proofs.reset.serve_reset.Goals as goal

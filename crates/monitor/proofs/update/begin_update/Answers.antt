@@ -5,9 +5,9 @@ use Rattle.spec_image.specs.Common.{Place, pack_of, get, without_serials, place_
 use Rattle.spec_machine.specs.declared.call.Reply.TheVariants.{Done}
 use Rattle.volume.specs.Common.{pending_at, BeginsWithFile, IsSoundCore}
 use Rattle.monitor.specs.Common.{IsAnswer, job_of, allowed_update, update_answer_at}
-use Rattle.monitor.proofs.Shared.Answering.{contrary}
-use Rattle.monitor.proofs.Updating.Updates.{updates, may, refused, limited, begun, not_begun}
-use Rattle.monitor.proofs.Shared.Limits.{AllowsBegin}
+use Rattle.monitor.proofs.common.Answering.{contrary}
+use Rattle.monitor.proofs.UpdateFile.Updates.{updates, may, refused, limited, begun, not_begun}
+use Rattle.monitor.proofs.common.Limits.{AllowsBegin}
 use Rattle.monitor.proofs.update.begin_update.Goals as goal
 
 pub returns-in-Ok-begin-clause-begun : goal.returns-in-Ok-begin-clause-begun

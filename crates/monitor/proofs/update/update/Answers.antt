@@ -7,17 +7,17 @@ use Rattle.spec_machine.specs.declared.call.Reply.TheVariants.{Refused}
 use Rattle.spec_machine.proofs.Common.{same_place-equal, is_none_of}
 use Rattle.volume.specs.Common.{begun, claims, IsWholeCore, slot as version_at, IsPinAnswer, prime_at, RestsAt}
 use Rattle.volume.specs.declared.live.LiveVersion.{LiveVersion}
-use Rattle.volume.proofs.Shared.PrimeBlocks.{begun_named}
+use Rattle.volume.proofs.common.PrimeBlocks.{begun_named}
 use Rattle.monitor.specs.Common.{IsAnswer, file_begun, KeepsReading, readers_in, pins_of, job_of, readers_of}
 use Rattle.monitor.specs.Common.{update_answer_at, updating_side}
 use Rattle.retrieval.specs.declared.prime.Prime.{Prime}
-use Rattle.monitor.proofs.LookingUp.Lookups.{placed_still}
-use Rattle.monitor.proofs.Shared.Placing.{placed_begun}
-use Rattle.monitor.proofs.Shared.Renewals.{renews_with, renewed_reading, renewed_pending, renewed_known}
-use Rattle.monitor.proofs.Updating.Rows.{out_of_order, done, refused, wanting, reader_held, few_kept, is_update_of}
+use Rattle.monitor.proofs.LookupFile.Lookups.{placed_still}
+use Rattle.monitor.proofs.common.Placing.{placed_begun}
+use Rattle.monitor.proofs.common.Renewals.{renews_with, renewed_reading, renewed_pending, renewed_known}
+use Rattle.monitor.proofs.UpdateFile.Rows.{out_of_order, done, refused, wanting, reader_held, few_kept, is_update_of}
 use Rattle.monitor.proofs.update.update.Goals.{then-is_some-via-then-is_some}
 use Rattle.monitor.proofs.update.update.Goals.{then-is_some-via-else-is_some+then-not-names_input}
-use Rattle.volume.proofs.Beginning.BegunFiles.{update_creates}
+use Rattle.volume.proofs.BeginVersion.BegunFiles.{update_creates}
 use Rattle.monitor.proofs.update.update.Goals as goal
 
 pub side_of-output-requires-clause-few : goal.side_of-output-requires-clause-few

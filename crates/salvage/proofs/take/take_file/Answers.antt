@@ -1,5 +1,5 @@
 use Rattle.std.proofs.Common.{◌≡◌, ◌++◌, ◌∷◌, [], ap, ◌∙◌}
-use Rattle.volume.proofs.Shared.Marking.{on_ok}
+use Rattle.volume.proofs.common.Marking.{on_ok}
 use Rattle.salvage.specs.Common.{Judges, loss_of}
 use Rattle.salvage.proofs.Judging.{judged_sound, judged_blamed}
 use Rattle.salvage.proofs.Members.{nothing_behind}

@@ -4,7 +4,7 @@ use Rattle.blockdisk.specs.Common.{same_contents, same_disk_on}
 use Rattle.changeset.proofs.Reading.{only_reads_on}
 use Rattle.spec_image.specs.Common.{MasterEntry, InSpace, layout_number}
 use Rattle.volume.specs.Common.{master_view}
-use Rattle.volume.proofs.Shared.Lookups.{viewed_at}
+use Rattle.volume.proofs.common.Lookups.{viewed_at}
 use Rattle.salvage.specs.Common.{FitsDisk}
 use Rattle.salvage.proofs.ReadingLoops.{directories_go_on}
 use Rattle.salvage.proofs.tree.add_directories.Goals as goal

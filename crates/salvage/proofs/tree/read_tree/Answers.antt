@@ -7,7 +7,7 @@ use Rattle.volume.specs.Common.{home_in}
 use Rattle.salvage.specs.Common.{IsTree}
 use Rattle.salvage.specs.declared.tree.Tree.{Tree}
 use Rattle.salvage.proofs.Carrying.{moved}
-use Rattle.volume.proofs.Starting.Starts.{ok_on}
+use Rattle.volume.proofs.VolumeStart.Starts.{ok_on}
 use Rattle.salvage.proofs.tree.read_tree.Goals as goal
 
 pub returns-in-Ok-clause-tree : goal.returns-in-Ok-clause-tree

@@ -4,11 +4,11 @@ use Rattle.alloctab.specs.Common.{TableState, holds}
 use Rattle.volume.specs.Common.{begin_cost, entries_with, begun, begun_version, is_absent, version_before, pending_at}
 use Rattle.volume.specs.Common.{is_create, IsWholeCore, core_of}
 use Rattle.volume.specs.declared.pending.PendingVersion.{PendingVersion}
-use Rattle.volume.proofs.Beginning.Beginnings.{absent_same, not_there, not_absent, cost_is, misfit_exists}
-use Rattle.volume.proofs.Beginning.Beginnings.{misfit_absent, misfit_not, no_room, begun_inside, begun_once}
-use Rattle.volume.proofs.Beginning.Beginnings.{begun_whole, known_place, named_here, before_none, has_version}
-use Rattle.volume.proofs.Beginning.Beginnings.{fits_before, begun_hold}
-use Rattle.volume.proofs.Shared.Growing.{Adds, entries_few}
+use Rattle.volume.proofs.BeginVersion.Beginnings.{absent_same, not_there, not_absent, cost_is, misfit_exists}
+use Rattle.volume.proofs.BeginVersion.Beginnings.{misfit_absent, misfit_not, no_room, begun_inside, begun_once}
+use Rattle.volume.proofs.BeginVersion.Beginnings.{begun_whole, known_place, named_here, before_none, has_version}
+use Rattle.volume.proofs.BeginVersion.Beginnings.{fits_before, begun_hold}
+use Rattle.volume.proofs.common.Growing.{Adds, entries_few}
 use Rattle.volume.proofs.begin.begin_in_core.Goals as goal
 
 pub returns-in-Some-clause-exists : goal.returns-in-Some-clause-exists

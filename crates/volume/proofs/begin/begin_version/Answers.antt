@@ -1,6 +1,6 @@
 use Rattle.std.proofs.Common.{sym, ◌∙◌}
 use Rattle.volume.specs.Common.{version_before}
-use Rattle.volume.proofs.Beginning.Beginnings.{begun_bare}
+use Rattle.volume.proofs.BeginVersion.Beginnings.{begun_bare}
 use Rattle.volume.proofs.begin.begin_version.Goals as goal
 
 pub returns : goal.returns

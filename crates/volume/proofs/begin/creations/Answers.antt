@@ -1,5 +1,5 @@
 use Rattle.std.proofs.Common.{length, ap, ◌∙◌, arith}
-use Rattle.volume.proofs.Beginning.Counts.{created, created_from}
+use Rattle.volume.proofs.BeginVersion.Counts.{created, created_from}
 use Rattle.volume.proofs.begin.creations.Goals as goal
 
 pub loop-version-init : goal.loop-version-init

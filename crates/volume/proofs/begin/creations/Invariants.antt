@@ -2,7 +2,7 @@ use Rattle.std.proofs.Common.{◌≡◌, ◌+◌, ◌≤◌, length}
 use Rattle.spec_image.specs.Common.{total}
 use Rattle.slab.specs.Slab.{slab_len}
 use Rattle.volume.specs.Common.{creates}
-use Rattle.volume.proofs.Beginning.Counts.{created}
+use Rattle.volume.proofs.BeginVersion.Counts.{created}
 use Rattle.volume.proofs.begin.creations.Given as goal
 
 -- those that were counted and those that are left are all

@@ -3,7 +3,7 @@ use Rattle.std.proofs.lemmas.List.{length-map}
 use Rattle.spec_image.proofs.Common.{some_same}
 use Rattle.spec_image.specs.Common.{growth}
 use Rattle.volume.specs.Common.{entries_with, file_view, KnownDirectory, core_of, live_directory}
-use Rattle.volume.proofs.Shared.Answering.{viewed_there}
+use Rattle.volume.proofs.common.Answering.{viewed_there}
 use Rattle.volume.proofs.begin.growth_at.Goals as goal
 
 pub overflow_add-entries : goal.overflow_add-entries

@@ -1,7 +1,7 @@
 use Rattle.std.proofs.Common.{◌+◌, ◌<◌, ℕ, take, sym, subst, length, arith}
 use Rattle.volume.specs.Common.{ClearsBits}
-use Rattle.volume.proofs.Shared.BlockLists.{next_there, clears_next}
-use Rattle.volume.proofs.Shared.TableBits.{bit_few}
+use Rattle.volume.proofs.common.BlockLists.{next_there, clears_next}
+use Rattle.volume.proofs.common.TableBits.{bit_few}
 use Rattle.volume.proofs.blocks.clear_blocks.Goals as goal
 
 pub clear-requires : goal.clear-requires

@@ -1,6 +1,6 @@
 use Rattle.std.proofs.Common.{◌+◌, ◌<◌, ℕ, take, sym, subst, length, arith}
 use Rattle.volume.specs.Common.{SetsBits}
-use Rattle.volume.proofs.Shared.BlockLists.{next_there, sets_next}
+use Rattle.volume.proofs.common.BlockLists.{next_there, sets_next}
 use Rattle.volume.proofs.blocks.set_blocks.Goals as goal
 
 pub set-requires : goal.set-requires

@@ -1,9 +1,9 @@
 use Rattle.std.proofs.Common.{◌∙◌, sym, arith}
 use Rattle.spec_image.proofs.Common.{some_none}
 use Rattle.volume.specs.Common.{core_of}
-use Rattle.volume.proofs.Beginning.Beginnings.{known_place}
-use Rattle.volume.proofs.Charging.Charges.{begun_over}
-use Rattle.volume.proofs.Shared.Growing.{entries_few}
+use Rattle.volume.proofs.BeginVersion.Beginnings.{known_place}
+use Rattle.volume.proofs.Charges.Charges.{begun_over}
+use Rattle.volume.proofs.common.Growing.{entries_few}
 use Rattle.volume.proofs.charge.begin_is_over.Goals as goal
 
 pub begin_cost-cost-requires-clause-few : goal.begin_cost-cost-requires-clause-few

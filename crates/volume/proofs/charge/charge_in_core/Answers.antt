@@ -1,8 +1,8 @@
 use Rattle.std.proofs.Common.{◌≡◌, ◌%◌, ◌^◌, ℕ, get_or, ap, sym, ◌∙◌}
 use Rattle.volume.specs.Common.{master_view}
-use Rattle.volume.proofs.Shared.Answering.{viewed_get}
-use Rattle.volume.proofs.Beginning.Beginnings.{known_place}
-use Rattle.volume.proofs.Charging.Charges.{word_quota}
+use Rattle.volume.proofs.common.Answering.{viewed_get}
+use Rattle.volume.proofs.BeginVersion.Beginnings.{known_place}
+use Rattle.volume.proofs.Charges.Charges.{word_quota}
 use Rattle.volume.proofs.charge.charge_in_core.Goals as goal
 
 pub returns-clause-charged : goal.returns-clause-charged

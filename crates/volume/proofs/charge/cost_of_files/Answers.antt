@@ -1,7 +1,7 @@
 use Rattle.std.proofs.Common.{◌<◌, length, sym, ap, ◌∙◌, arith}
 use Rattle.std.proofs.lemmas.List.{take_all}
 use Rattle.spec_image.specs.Common.{total}
-use Rattle.volume.proofs.Charging.Sums.{cost_under, costs_under, total_next, total_part}
+use Rattle.volume.proofs.Charges.Sums.{cost_under, costs_under, total_next, total_part}
 use Rattle.volume.proofs.charge.cost_of_files.Goals as goal
 
 pub overflow_add-cost : goal.overflow_add-cost

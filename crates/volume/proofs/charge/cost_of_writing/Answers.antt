@@ -1,7 +1,7 @@
 use Rattle.std.proofs.Common.{◌≡◌, ◌∙◌, ap, sym, subst, arith}
 use Rattle.spec_image.specs.Common.{total}
 use Rattle.volume.specs.Common.{writes_in}
-use Rattle.volume.proofs.Charging.Sums.{written, written_from, few_from, writes_few, HaveFewBlocks}
+use Rattle.volume.proofs.Charges.Sums.{written, written_from, few_from, writes_few, HaveFewBlocks}
 use Rattle.volume.proofs.charge.cost_of_writing.Goals as goal
 
 pub loop-version-init : goal.loop-version-init

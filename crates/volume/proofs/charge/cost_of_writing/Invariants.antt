@@ -1,7 +1,7 @@
 use Rattle.std.proofs.Common.{◌≡◌, ◌+◌}
 use Rattle.spec_image.specs.Common.{total}
 use Rattle.volume.specs.Common.{writes_in}
-use Rattle.volume.proofs.Charging.Sums.{written, HaveFewBlocks}
+use Rattle.volume.proofs.Charges.Sums.{written, HaveFewBlocks}
 use Rattle.volume.proofs.charge.cost_of_writing.Given as goal
 
 -- those that were counted and those that are left are all

@@ -1,5 +1,5 @@
 use Rattle.volume.specs.Common.{core_of}
-use Rattle.volume.proofs.Charging.Charges.{over_charge}
+use Rattle.volume.proofs.Charges.Charges.{over_charge}
 use Rattle.volume.proofs.charge.is_over.Goals as goal
 
 pub returns : goal.returns

@@ -1,8 +1,8 @@
 use Rattle.std.proofs.Common.{◌∙◌, arith}
 use Rattle.volume.specs.Common.{core_of}
-use Rattle.volume.proofs.Beginning.Beginnings.{known_place}
-use Rattle.volume.proofs.Charging.Charges.{moved_over}
-use Rattle.volume.proofs.Shared.Growing.{entries_few}
+use Rattle.volume.proofs.BeginVersion.Beginnings.{known_place}
+use Rattle.volume.proofs.Charges.Charges.{moved_over}
+use Rattle.volume.proofs.common.Growing.{entries_few}
 use Rattle.volume.proofs.charge.move_is_over.Goals as goal
 
 pub growth_at-requires-clause-few : goal.growth_at-requires-clause-few

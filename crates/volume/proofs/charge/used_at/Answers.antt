@@ -3,9 +3,9 @@ use Rattle.std.proofs.lemmas.List.{length-map}
 use Rattle.spec_image.proofs.Common.{some_same}
 use Rattle.spec_image.specs.Common.{directory_cost}
 use Rattle.volume.specs.Common.{entries_with, used_by, file_view, KnownDirectory, core_of, live_directory}
-use Rattle.volume.proofs.Charging.Sums.{charge_fits}
-use Rattle.volume.proofs.Shared.Growing.{entries_few}
-use Rattle.volume.proofs.Shared.Answering.{viewed_there}
+use Rattle.volume.proofs.Charges.Sums.{charge_fits}
+use Rattle.volume.proofs.common.Growing.{entries_few}
+use Rattle.volume.proofs.common.Answering.{viewed_there}
 use Rattle.volume.proofs.charge.used_at.Goals as goal
 
 pub overflow_add-entries : goal.overflow_add-entries

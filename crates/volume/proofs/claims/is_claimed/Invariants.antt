@@ -1,7 +1,7 @@
 use Rattle.std.proofs.Common.{◌≡◌}
 use Rattle.spec_image.specs.Common.{place_of}
 use Rattle.volume.specs.Common.{claims}
-use Rattle.volume.proofs.Shared.Claiming.{claimed_among}
+use Rattle.volume.proofs.common.Claiming.{claimed_among}
 use Rattle.volume.proofs.claims.is_claimed.Given as goal
 
 -- what is left has a version of the place where there is one at all

@@ -1,7 +1,7 @@
 use Rattle.std.proofs.Common.{subst}
 use Rattle.blockdisk.specs.Common.{LeavesOnly}
 use Rattle.volume.specs.Common.{HomesComeLast}
-use Rattle.volume.proofs.Copying.CopyOrder.{behind_first, gate_or_end}
+use Rattle.volume.proofs.CopyImage.CopyOrder.{behind_first, gate_or_end}
 use Rattle.volume.proofs.copy.copy_all.Goals as goal
 
 pub returns-in_err-copy_part-clause-last : goal.returns-in_err-copy_part-clause-last

@@ -1,6 +1,6 @@
 use Rattle.std.proofs.Common.{arith}
-use Rattle.volume.proofs.Shared.CostLaws.{cost_is}
-use Rattle.volume.proofs.Shared.LiveTotals.{core_uses, core_used}
+use Rattle.volume.proofs.common.CostLaws.{cost_is}
+use Rattle.volume.proofs.common.LiveTotals.{core_uses, core_used}
 use Rattle.volume.proofs.cost.known_maps_are_booked.Goals as goal
 
 pub returns-clause-cost : goal.returns-clause-cost

@@ -2,8 +2,8 @@ use Rattle.std.proofs.Common.{◌<◌, ◌≤◌, ℕ, sym, subst}
 use Rattle.spec_image.specs.Common.{times}
 use Rattle.alloctab.specs.Common.{bit}
 use Rattle.volume.specs.Common.{ClearsBits}
-use Rattle.volume.proofs.Shared.Retiring.{prime_inside, prime_clears, ribs_inside, ribs_set, blocks_inside}
-use Rattle.volume.proofs.Shared.Retiring.{blocks_set, version_clears}
+use Rattle.volume.proofs.common.Retiring.{prime_inside, prime_clears, ribs_inside, ribs_set, blocks_inside}
+use Rattle.volume.proofs.common.Retiring.{blocks_set, version_clears}
 use Rattle.volume.proofs.current.clear_version.Goals as goal
 
 pub clear-requires : goal.clear-requires

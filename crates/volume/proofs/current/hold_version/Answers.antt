@@ -1,8 +1,8 @@
 use Rattle.std.proofs.Common.{◌≡◌, ◌+◌, ◌<◌, ◌^◌, ℕ, sym, ap, subst, ◌∙◌}
 use Rattle.spec_image.specs.Common.{times}
 use Rattle.alloctab.specs.Common.{holds}
-use Rattle.volume.proofs.Shared.Retiring.{prime_below, ribs_below, blocks_below, prime_holds, ribs_fit}
-use Rattle.volume.proofs.Shared.Retiring.{blocks_fit, version_holds}
+use Rattle.volume.proofs.common.Retiring.{prime_below, ribs_below, blocks_below, prime_holds, ribs_fit, blocks_fit}
+use Rattle.volume.proofs.common.Retiring.{version_holds}
 use Rattle.volume.proofs.current.hold_version.Goals as goal
 
 pub hold-requires-clause-inside : goal.hold-requires-clause-inside

@@ -6,18 +6,18 @@ use Rattle.directory.specs.Common.{StandsAt, IsReserve, inserted, viewed}
 use Rattle.volume.specs.Common.{file_view, core_of, live_directory, blocks_reached, PutsInUse, MakesCurrent}
 use Rattle.volume.specs.declared.live.LiveVersion.{LiveVersion}
 use Rattle.volume.specs.declared.pending.PendingVersion.{PendingVersion}
-use Rattle.volume.proofs.Publishing.MakingCurrent.{vacant_stays, directory_there, directory_read, known_place}
-use Rattle.volume.proofs.Publishing.MakingCurrent.{keys_place, is_directory, as_many_keys, within_space}
-use Rattle.volume.proofs.Publishing.MakingCurrent.{blocks_booked, grown_free, may_retire, used_sound, used_held}
-use Rattle.volume.proofs.Publishing.MakingCurrent.{used_clear, changed_many, new_stands, chain_grown}
-use Rattle.volume.proofs.Publishing.BecomingCurrent.{made_current_by}
+use Rattle.volume.proofs.PublishVersion.MakingCurrent.{vacant_stays, directory_there, directory_read, known_place}
+use Rattle.volume.proofs.PublishVersion.MakingCurrent.{keys_place, is_directory, as_many_keys, within_space}
+use Rattle.volume.proofs.PublishVersion.MakingCurrent.{blocks_booked, grown_free, may_retire, used_sound, used_held}
+use Rattle.volume.proofs.PublishVersion.MakingCurrent.{used_clear, changed_many, new_stands, chain_grown}
+use Rattle.volume.proofs.PublishVersion.BecomingCurrent.{made_current_by}
 use Rattle.std.specs.Vec.{with_item}
 use Rattle.alloctab.specs.Common.{bit, holds}
 use Rattle.retrieval.specs.Common.{ribs_of, VersionState}
 use Rattle.retrieval.proofs.RibCounts.{ribs_few}
 use Rattle.volume.specs.declared.live.LiveMap.{LiveMap}
 use Rattle.spec_image.proofs.Common.{some_same}
-use Rattle.volume.proofs.Publishing.Supplying.{is_there}
+use Rattle.volume.proofs.PublishVersion.Supplying.{is_there}
 use Rattle.volume.proofs.current.make_current.Goals as goal
 
 pub place_of-place-requires : goal.place_of-place-requires

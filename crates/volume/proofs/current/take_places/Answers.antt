@@ -1,5 +1,5 @@
 use Rattle.std.proofs.Common.{option_to_list}
-use Rattle.volume.proofs.Publishing.UsedVersions.{booked_after, takes_places}
+use Rattle.volume.proofs.PublishVersion.UsedVersions.{booked_after, takes_places}
 use Rattle.volume.proofs.current.take_places.Goals as goal
 
 pub take_retrieval_blocks-at-requires-clause-booked : goal.take_retrieval_blocks-at-requires-clause-booked

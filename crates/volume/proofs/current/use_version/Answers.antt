@@ -1,7 +1,7 @@
 use Rattle.std.proofs.Common.{option_to_list, ap, refl}
-use Rattle.volume.proofs.Publishing.UsedVersions.{at_held, at_inside, puts_in_use_at, ribs_held, ribs_clear}
-use Rattle.volume.proofs.Publishing.UsedVersions.{blocks_held, blocks_clear, more_held, more_inside, used_alone}
-use Rattle.volume.proofs.Publishing.UsedVersions.{used_grown}
+use Rattle.volume.proofs.PublishVersion.UsedVersions.{at_held, at_inside, puts_in_use_at, ribs_held, ribs_clear}
+use Rattle.volume.proofs.PublishVersion.UsedVersions.{blocks_held, blocks_clear, more_held, more_inside, used_alone}
+use Rattle.volume.proofs.PublishVersion.UsedVersions.{used_grown}
 use Rattle.volume.proofs.current.use_version.Goals as goal
 
 pub use_block-requires-clause-inside : goal.use_block-requires-clause-inside

@@ -3,10 +3,10 @@ use Rattle.std.specs.Vec.{with_item}
 use Rattle.directory.specs.Common.{viewed}
 use Rattle.volume.specs.Common.{file_view}
 use Rattle.volume.specs.declared.live.LiveMap.{LiveMap}
-use Rattle.volume.proofs.Publishing.MakingCurrent.{directory_read}
-use Rattle.volume.proofs.Deleting.Removals.{removes_aligned, removes_there, may_retire, grows_few, left_sound}
-use Rattle.volume.proofs.Deleting.Removals.{left_set, less_booked, changes_many, removes_file, had, grown_at}
-use Rattle.volume.proofs.Deleting.Removals.{put_first, few_first}
+use Rattle.volume.proofs.PublishVersion.MakingCurrent.{directory_read}
+use Rattle.volume.proofs.DeleteFile.Removals.{removes_aligned, removes_there, may_retire, grows_few, left_sound}
+use Rattle.volume.proofs.DeleteFile.Removals.{left_set, less_booked, changes_many, removes_file, had, grown_at}
+use Rattle.volume.proofs.DeleteFile.Removals.{put_first, few_first}
 use Rattle.volume.proofs.delete.remove_in_core.Goals as goal
 
 pub remove_entry-key-requires-clause-there : goal.remove_entry-key-requires-clause-there

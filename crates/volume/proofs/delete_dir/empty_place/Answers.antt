@@ -1,7 +1,7 @@
 use Rattle.std.proofs.Common.{◌<◌, refl, ap, arith}
 use Rattle.std.proofs.lemmas.List.{length-map}
 use Rattle.volume.specs.Common.{entries_with, file_view, KnownDirectory, core_of, live_directory}
-use Rattle.volume.proofs.Beginning.Beginnings.{directory_at, same_directory}
+use Rattle.volume.proofs.BeginVersion.Beginnings.{directory_at, same_directory}
 use Rattle.volume.proofs.delete_dir.empty_place.Goals.{then-entries-gt0-via-then-entries-gt0}
 use Rattle.volume.proofs.delete_dir.empty_place.Goals.{then-entries-gt0-via-else-entries-gt0+then-created-gt0}
 use Rattle.volume.proofs.delete_dir.empty_place.Goals as goal

@@ -5,8 +5,7 @@ use Rattle.spec_image.specs.Common.{master_words}
 use Rattle.directory.specs.Common.{viewed, PutsChain}
 use Rattle.volume.specs.Common.{master_view}
 use Rattle.volume.specs.declared.live.LiveMap.{LiveMap}
-use Rattle.volume.proofs.DeletingDirectory.Tables.{count_left, left_set, own_set, own_inside, changes_many}
-use Rattle.volume.proofs.DeletingDirectory.Tables.{removes_directory}
+use Rattle.volume.proofs.DeleteDir.Tables.{count_left, left_set, own_set, own_inside, changes_many, removes_directory}
 use Rattle.volume.proofs.delete_dir.remove_directory.Goals as goal
 
 pub clear_left-requires-clause-set : goal.clear_left-requires-clause-set

@@ -1,8 +1,8 @@
 use Rattle.std.proofs.Common.{◌≡◌, ◌+◌, ◌-◌, sym, ap, subst, ◌∙◌, arith}
 use Rattle.alloctab.specs.Common.{TableState}
 use Rattle.volume.specs.Common.{IsWholeCore, core_of}
-use Rattle.volume.proofs.Discarding.Core.{taken_out, dropped_there, dropped_few, dropped_held, dropped_growths}
-use Rattle.volume.proofs.Discarding.Core.{dropped_booked, dropped_whole}
+use Rattle.volume.proofs.DiscardVersion.Core.{taken_out, dropped_there, dropped_few, dropped_held, dropped_growths}
+use Rattle.volume.proofs.DiscardVersion.Core.{dropped_booked, dropped_whole}
 use Rattle.volume.proofs.discard.discard_in_core.Goals as goal
 
 pub shrinkage-requires-clause-there : goal.shrinkage-requires-clause-there

@@ -1,7 +1,7 @@
 use Rattle.std.proofs.Common.{arith}
 use Rattle.std.proofs.lemmas.List.{length-map}
 use Rattle.volume.specs.Common.{master_view, core_of, live_directory}
-use Rattle.volume.proofs.Shared.Held.{element_at}
+use Rattle.volume.proofs.common.Held.{element_at}
 use Rattle.volume.proofs.discard.shrinkage.Goals as goal
 
 pub returns-clause-value : goal.returns-clause-value

@@ -4,8 +4,8 @@ use Rattle.std.specs.List.{AllByRecursion}
 use Rattle.blockdisk.specs.Common.{IsWholeBlock}
 use Rattle.spec_image.specs.Common.{times, InSpace}
 use Rattle.changeset.proofs.Reading.{passed_on}
-use Rattle.volume.proofs.Shared.DisksAsked.{keeps_disk_served, keeps_disk_on}
-use Rattle.volume.proofs.Shared.RunsRead.{in_run, runs_more, each_stands, whole_before}
+use Rattle.volume.proofs.common.DisksAsked.{keeps_disk_served, keeps_disk_on}
+use Rattle.volume.proofs.common.RunsRead.{in_run, runs_more, each_stands, whole_before}
 use Rattle.volume.specs.declared.error.VolumeError.TheVariants.{BadData, Device}
 use Rattle.volume.proofs.files.read_data.Goals as goal
 

@@ -5,11 +5,11 @@ use Rattle.blockdisk.specs.Common.{same_contents, Contents, IsWholeBlock}
 use Rattle.spec_image.specs.Common.{layout_number, InSpace}
 use Rattle.volume.specs.Common.{IsVersionRefusal, IsDataRefusal, IsFileRefusal, NamesInSpace}
 use Rattle.volume.specs.declared.error.VolumeError.TheVariants.{Device, BadRetrieval, BlockTwice, NoMemory, BadData}
-use Rattle.volume.proofs.Shared.DisksAsked.{keeps_disk_served, keeps_disk_ok, keeps_disk_on, keeps_disk_handed}
-use Rattle.volume.proofs.Shared.Handing.{handed, version_named, data_named, named_on}
-use Rattle.volume.proofs.Shared.Marking.{all_weaker}
-use Rattle.volume.proofs.Starting.Finding.{refusal, refused_on, version_wider, data_wider, file_found, reached_twice}
-use Rattle.volume.proofs.Starting.Finding.{damaged_data}
+use Rattle.volume.proofs.common.DisksAsked.{keeps_disk_served, keeps_disk_ok, keeps_disk_on, keeps_disk_handed}
+use Rattle.volume.proofs.common.Handing.{handed, version_named, data_named, named_on}
+use Rattle.volume.proofs.common.Marking.{all_weaker}
+use Rattle.volume.proofs.VolumeStart.Finding.{refusal, refused_on, version_wider, data_wider, file_found}
+use Rattle.volume.proofs.VolumeStart.Finding.{reached_twice, damaged_data}
 use Rattle.changeset.proofs.Reading.{passed_on}
 use Rattle.spec_image.proofs.Common.{all_append, each_times}
 use Rattle.volume.proofs.files.read_file.Goals as goal

@@ -1,6 +1,6 @@
 use Rattle.std.proofs.Common.{inl, inr}
 use Rattle.spec_image.specs.Common.{layout_number}
-use Rattle.volume.proofs.Shared.OtherPlaces.{differ, names_differ, other_place}
+use Rattle.volume.proofs.common.OtherPlaces.{differ, names_differ, other_place}
 use Rattle.volume.proofs.files.read_named.Goals.{then-ne-via-then-ne, then-ne-via-else-ne+then-ne-2}
 use Rattle.volume.proofs.files.read_named.Goals as goal
 

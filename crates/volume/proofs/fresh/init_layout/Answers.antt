@@ -2,7 +2,7 @@ use Rattle.std.proofs.Common.{subst}
 use Rattle.blockdisk.specs.Common.{Near, leaves_start, near_self}
 use Rattle.spec_image.specs.Common.{IsVolumeSize}
 use Rattle.volume.specs.Common.{IsInitBlock}
-use Rattle.volume.proofs.Starting.FreshVolume.{fresh_has_map, fresh_rest}
+use Rattle.volume.proofs.VolumeStart.FreshVolume.{fresh_has_map, fresh_rest}
 use Rattle.volume.proofs.fresh.init_layout.Given
 use Rattle.volume.proofs.fresh.init_layout.Goals as goal
 

@@ -2,7 +2,7 @@ use Rattle.std.proofs.Common.{◌≡◌, ℕ, ◌+◌, ◌*◌, ◌^◌, ◌<◌
 use Rattle.alloctab.specs.Common.{number_of}
 use Rattle.alloctab.proofs.WordLaws.{number_none, number_more, number_below}
 use Rattle.volume.specs.Common.{bit_below}
-use Rattle.volume.proofs.Starting.FreshTable.{bit_below_few}
+use Rattle.volume.proofs.VolumeStart.FreshTable.{bit_below_few}
 use Rattle.volume.proofs.fresh.table_word.Goals as goal
 
 pub loop-place-init : goal.loop-place-init

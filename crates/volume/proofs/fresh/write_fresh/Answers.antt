@@ -2,7 +2,7 @@ use Rattle.std.proofs.Common.{ℕ, ◌<◌, ◌≤◌, Some, refl, ◌∙◌, ap
 use Rattle.blockdisk.specs.Common.{same_disk_start, same_disk_on, modifies_start, modifies_write}
 use Rattle.spec_image.specs.Common.{layout_number}
 use Rattle.volume.specs.Common.{fresh_words}
-use Rattle.volume.proofs.Starting.FreshVolume.{written_more}
+use Rattle.volume.proofs.VolumeStart.FreshVolume.{written_more}
 use Rattle.volume.proofs.fresh.write_fresh.Goals as goal
 
 pub loop-n-init : goal.loop-n-init

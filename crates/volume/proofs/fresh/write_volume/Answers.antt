@@ -3,7 +3,7 @@ use Rattle.std.proofs.lemmas.Result.{on_ok_weaker}
 use Rattle.blockdisk.specs.Common.{Syncs, modifies_still, syncs_still, modifies_near, near_sync}
 use Rattle.spec_image.specs.Common.{table_start, space_start}
 use Rattle.volume.specs.Common.{IsInitBlock}
-use Rattle.volume.proofs.Starting.FreshVolume.{first_modified, volume_modified}
+use Rattle.volume.proofs.VolumeStart.FreshVolume.{first_modified, volume_modified}
 use Rattle.volume.proofs.fresh.write_volume.Goals as goal
 
 pub returns-in_err-write_fresh-clause-near : goal.returns-in_err-write_fresh-clause-near

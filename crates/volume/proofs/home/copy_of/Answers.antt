@@ -1,7 +1,7 @@
 use Rattle.std.proofs.Common.{◌∙◌, sym}
 use Rattle.spec_image.specs.Common.{home_block, layout_number}
 use Rattle.volume.specs.Common.{home_in}
-use Rattle.volume.proofs.Starting.HomeCopies.{has_name, no_copy, valid_copy, same_words}
+use Rattle.volume.proofs.VolumeStart.HomeCopies.{has_name, no_copy, valid_copy, same_words}
 use Rattle.volume.proofs.home.copy_of.Goals as goal
 
 pub returns-in-Some-clause-found : goal.returns-in-Some-clause-found

@@ -1,4 +1,4 @@
-use Rattle.volume.proofs.Starting.HomeCopies.{no_layout}
+use Rattle.volume.proofs.VolumeStart.HomeCopies.{no_layout}
 use Rattle.volume.proofs.home.layout_at.Goals as goal
 
 pub returns-clause-none : goal.returns-clause-none

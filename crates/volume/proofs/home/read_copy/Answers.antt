@@ -1,6 +1,6 @@
 use Rattle.std.proofs.Common.{ℕ, subst}
 use Rattle.volume.specs.Common.{IsFound, holds_words}
-use Rattle.volume.proofs.Starting.HomeCopies.{found_in}
+use Rattle.volume.proofs.VolumeStart.HomeCopies.{found_in}
 use Rattle.volume.proofs.home.read_copy.Goals as goal
 
 pub returns-in-Ok-clause-found : goal.returns-in-Ok-clause-found

@@ -3,8 +3,8 @@ use Rattle.std.specs.List.{AllByRecursion}
 use Rattle.std.specs.FinMap.Entries.{find}
 use Rattle.spec_image.specs.Common.{FileEntry, name_cmp}
 use Rattle.volume.specs.Common.{file_view, live_directory}
-use Rattle.volume.proofs.Shared.Lookups.{viewed_at}
-use Rattle.volume.proofs.Shared.Listing.{sorted_there, line_more}
+use Rattle.volume.proofs.common.Lookups.{viewed_at}
+use Rattle.volume.proofs.common.Listing.{sorted_there, line_more}
 use Rattle.volume.proofs.list.directory_lines.Goals as goal
 
 pub push_line-requires-clause-there : goal.push_line-requires-clause-there

@@ -3,9 +3,9 @@ use Rattle.std.proofs.lemmas.Iterator.Adapters.{YieldsList-from_vec}
 use Rattle.std.proofs.lemmas.Iterator.Consumers.{YieldsList-turn}
 use Rattle.std.proofs.lemmas.List.{length_push, length-map}
 use Rattle.volume.specs.Common.{file_view, known_version, known_directory, IsWholeDirectory, IsFirstRead}
-use Rattle.volume.proofs.Shared.Lookups.{viewed_at}
-use Rattle.volume.proofs.Shared.Keeping.{next_directory_keyed, next_directory_known, next_directory_current}
-use Rattle.volume.proofs.Shared.Keeping.{all_slots}
+use Rattle.volume.proofs.common.Lookups.{viewed_at}
+use Rattle.volume.proofs.common.Keeping.{next_directory_keyed, next_directory_known, next_directory_current}
+use Rattle.volume.proofs.common.Keeping.{all_slots}
 use Rattle.volume.proofs.live.keep.Goals as goal
 
 pub keep_directory-requires-clause-aligned : goal.keep_directory-requires-clause-aligned

@@ -5,8 +5,8 @@ use Rattle.std.proofs.lemmas.Iterator.Consumers.{YieldsList-turn, YieldsList-end
 use Rattle.std.proofs.lemmas.List.{length_push}
 use Rattle.volume.specs.Common.{file_view, known_version, reaches_in_entries, IsCurrent, current_reaches}
 use Rattle.spec_image.specs.Common.{total}
-use Rattle.volume.proofs.Shared.Keeping.{zip_at, zip_all, zip_same, next_keyed, next_known, next_current, next_read}
-use Rattle.volume.proofs.Shared.Keeping.{put_stay, first_read}
+use Rattle.volume.proofs.common.Keeping.{zip_at, zip_all, zip_same, next_keyed, next_known, next_current, next_read}
+use Rattle.volume.proofs.common.Keeping.{put_stay, first_read}
 use Rattle.volume.proofs.live.keep_versions.Goals as goal
 
 pub loop-entry-preserved : goal.loop-entry-preserved

@@ -1,5 +1,5 @@
 use Rattle.std.proofs.Common.{◌+◌, refl}
-use Rattle.volume.proofs.Pinning.Pins.{readers_whole}
+use Rattle.volume.proofs.PinVersion.Pins.{readers_whole}
 use Rattle.volume.proofs.live.pin_version.Goals as goal
 
 pub returns-clause-whole : goal.returns-clause-whole

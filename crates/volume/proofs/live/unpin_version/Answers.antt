@@ -1,7 +1,7 @@
 use Rattle.std.proofs.Common.{◌-◌, refl, sym, ◌∙◌}
 use Rattle.volume.specs.Common.{core_of}
-use Rattle.volume.proofs.Pinning.Pins.{readers_whole, gone_directories, gone_core, has_ended, ended_held}
-use Rattle.volume.proofs.Pinning.Pins.{ended_booked, ended_few}
+use Rattle.volume.proofs.PinVersion.Pins.{readers_whole, gone_directories, gone_core, has_ended, ended_held}
+use Rattle.volume.proofs.PinVersion.Pins.{ended_booked, ended_few}
 use Rattle.volume.proofs.live.unpin_version.Goals as goal
 
 pub release_version-requires-clause-held : goal.release_version-requires-clause-held

@@ -1,5 +1,5 @@
 use Rattle.std.proofs.Common.{◌∙◌}
-use Rattle.volume.proofs.Shared.Tables.{uses_one, uses_two}
+use Rattle.volume.proofs.common.Tables.{uses_one, uses_two}
 use Rattle.volume.proofs.make_dir.bring.Goals.{in-Some, in_default}
 use Rattle.volume.proofs.make_dir.bring.Goals as goal
 

@@ -3,7 +3,7 @@ use Rattle.directory.specs.Common.{viewed, inserted}
 use Rattle.spec_image.specs.Common.{master_word}
 use Rattle.volume.specs.Common.{file_view, master_view, core_of, live_directory, known_at, bare_known}
 use Rattle.volume.specs.declared.live.LiveDirectory.{LiveDirectory}
-use Rattle.volume.proofs.MakingDirectory.Entries.{is_entered, blocks_entered, directories_more}
+use Rattle.volume.proofs.MakeDir.Entries.{is_entered, blocks_entered, directories_more}
 use Rattle.volume.proofs.make_dir.enter.Goals as goal
 
 pub returns-clause-entered : goal.returns-clause-entered

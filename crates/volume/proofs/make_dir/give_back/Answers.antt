@@ -1,5 +1,5 @@
 use Rattle.std.proofs.Common.{◌∙◌}
-use Rattle.volume.proofs.Shared.Tables.{first_of, gives_back, gives_two}
+use Rattle.volume.proofs.common.Tables.{first_of, gives_back, gives_two}
 use Rattle.volume.proofs.make_dir.give_back.Goals.{in-Some, in_default}
 use Rattle.volume.proofs.make_dir.give_back.Goals as goal
 

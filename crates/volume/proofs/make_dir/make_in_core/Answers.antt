@@ -5,10 +5,10 @@ use Rattle.std.proofs.lemmas.List.{length-map}
 use Rattle.alloctab.specs.Common.{TableState, IsTable, used_in_space}
 use Rattle.retrieval.specs.Common.{Takes, IsFixed}
 use Rattle.volume.specs.Common.{master_view, core_of, chain_growth, fresh_list, IsEntered}
-use Rattle.volume.proofs.Shared.LiveTotals.{core_uses, core_used}
-use Rattle.volume.proofs.Shared.TableBits.{whole_fixed}
-use Rattle.volume.proofs.MakingDirectory.Entries.{count_grows, many_blocks, two_or_one, entered_for}
-use Rattle.volume.proofs.Shared.Tables.{made_table, sound_booked, taken_free}
+use Rattle.volume.proofs.common.LiveTotals.{core_uses, core_used}
+use Rattle.volume.proofs.common.TableBits.{whole_fixed}
+use Rattle.volume.proofs.MakeDir.Entries.{count_grows, many_blocks, two_or_one, entered_for}
+use Rattle.volume.proofs.common.Tables.{made_table, sound_booked, taken_free}
 use Rattle.volume.proofs.make_dir.make_in_core.Goals as goal
 
 pub take_blocks-fresh-requires-clause-used : goal.take_blocks-fresh-requires-clause-used

@@ -1,4 +1,4 @@
-use Rattle.volume.proofs.Shared.Tables.{second_booked}
+use Rattle.volume.proofs.common.Tables.{second_booked}
 use Rattle.volume.proofs.make_dir.take_blocks.Goals as goal
 
 pub take_block-requires-clause-used : goal.take_block-requires-clause-used

@@ -1,5 +1,5 @@
 use Rattle.volume.specs.Common.{fresh_list}
-use Rattle.volume.proofs.Shared.Tables.{changed_few, puts_table}
+use Rattle.volume.proofs.common.Tables.{changed_few, puts_table}
 use Rattle.volume.proofs.make_dir.use_blocks.Goals as goal
 
 pub changes-requires : goal.changes-requires

@@ -5,7 +5,7 @@ use Rattle.std.proofs.Math.ListN.{length-set}
 use Rattle.spec_image.specs.Common.{times}
 use Rattle.spec_image.proofs.Common.{times_here}
 use Rattle.alloctab.specs.Common.{digit_at}
-use Rattle.volume.proofs.Shared.Marking.{digit-marked, times_parts, on_ok}
+use Rattle.volume.proofs.common.Marking.{digit-marked, times_parts, on_ok}
 use Rattle.changeset.proofs.Reading.{passed_on}
 use Rattle.volume.proofs.marks.mark_version.Goals as goal
 

@@ -1,4 +1,4 @@
-use Rattle.volume.proofs.Migrating.Migrations.{home_words, raise_leaves, raise_rest, home_written}
+use Rattle.volume.proofs.MigrateVolume.Migrations.{home_words, raise_leaves, raise_rest, home_written}
 use Rattle.volume.proofs.migrate.raise.Goals as goal
 
 pub returns-in-Ok-clause-crash : goal.returns-in-Ok-clause-crash

@@ -6,10 +6,10 @@ use Rattle.alloctab.specs.Common.{digit_at}
 use Rattle.directory.specs.Common.{nodes_of, viewed, chain_items, numbers_of}
 use Rattle.volume.specs.Common.{master_view, IsOnlySpace, NamesInSpace, IsFaultOfDirectories, SettledRefuses}
 use Rattle.volume.specs.declared.error.VolumeError.TheVariants.{Device}
-use Rattle.volume.proofs.Shared.DisksAsked.{reads_disk_served, reads_disk_ok, reads_disk_on, reads_disk_handed}
-use Rattle.volume.proofs.Shared.DisksAsked.{reads_disk_of}
-use Rattle.volume.proofs.Shared.Handing.{handed, found_named, named_on}
-use Rattle.volume.proofs.Starting.FaultyMaps.{directories_fault}
+use Rattle.volume.proofs.common.DisksAsked.{reads_disk_served, reads_disk_ok, reads_disk_on, reads_disk_handed}
+use Rattle.volume.proofs.common.DisksAsked.{reads_disk_of}
+use Rattle.volume.proofs.common.Handing.{handed, found_named, named_on}
+use Rattle.volume.proofs.VolumeStart.FaultyMaps.{directories_fault}
 use Rattle.spec_image.proofs.Common.{each_times}
 use Rattle.volume.proofs.open.read_tree.Goals as goal
 

@@ -1,5 +1,5 @@
 use Rattle.std.proofs.Common.{sym, subst, ◌∙◌}
-use Rattle.volume.proofs.Pinning.CountedReaders.{HaveFew, few_of_entries, entries_of_few}
+use Rattle.volume.proofs.PinVersion.CountedReaders.{HaveFew, few_of_entries, entries_of_few}
 use Rattle.volume.proofs.pins.have_few_readers.Goals as goal
 
 pub loop-version-init : goal.loop-version-init

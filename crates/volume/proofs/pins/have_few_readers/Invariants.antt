@@ -1,4 +1,4 @@
-use Rattle.volume.proofs.Pinning.CountedReaders.{HaveFew, AreFew}
+use Rattle.volume.proofs.PinVersion.CountedReaders.{HaveFew, AreFew}
 use Rattle.volume.proofs.pins.have_few_readers.Given as goal
 
 -- where those that are left have few, all have, and the other way round

@@ -4,9 +4,9 @@ use Rattle.spec_image.specs.Common.{File, Files, IsTarget, targets, HasBody}
 use Rattle.volume.specs.Common.{IsEdited, pending_at, core_of, file_of, files_published}
 use Rattle.volume.specs.declared.error.CallError.TheVariants.{Device}
 use Rattle.volume.specs.declared.pending.PendingVersion.{PendingVersion}
-use Rattle.volume.proofs.Publishing.Blocks.{made_current_of, retrieval_inside, retrieval_apart, retrieval_nonzero}
-use Rattle.volume.proofs.Publishing.Blocks.{version_words, version_enough, version_fits, puts_in_range}
-use Rattle.volume.proofs.Publishing.Transactions.{ok_is, published_ended, published_edited, published_sound}
+use Rattle.volume.proofs.PublishVersion.Blocks.{made_current_of, retrieval_inside, retrieval_apart, retrieval_nonzero}
+use Rattle.volume.proofs.PublishVersion.Blocks.{version_words, version_enough, version_fits, puts_in_range}
+use Rattle.volume.proofs.PublishVersion.Transactions.{ok_is, published_ended, published_edited, published_sound}
 use Rattle.spec_image.proofs.Common.{some_is}
 use Rattle.volume.proofs.publish.publish_written.Given
 use Rattle.volume.proofs.publish.publish_written.Goals as goal

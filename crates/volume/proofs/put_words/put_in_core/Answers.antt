@@ -2,10 +2,10 @@ use Rattle.std.proofs.Common.{inr, Bool, refl, sym, subst}
 use Rattle.volume.specs.Common.{pending_at, core_of, IsSoundCore}
 use Rattle.volume.specs.declared.pending.PendingVersion.{PendingVersion}
 use Rattle.retrieval.specs.Common.{IsOwn}
-use Rattle.volume.proofs.Shared.HomesKept.{homes_start, homes_modified, homes_stay, clear_past}
-use Rattle.volume.proofs.PuttingWords.Core.{ready}
-use Rattle.volume.proofs.PuttingWords.Disk.{keeps_read, keeps_written, none_damaged, put_failed, put_done}
-use Rattle.volume.proofs.PuttingWords.Disk.{crash_finds, rest_finds}
+use Rattle.volume.proofs.common.HomesKept.{homes_start, homes_modified, homes_stay, clear_past}
+use Rattle.volume.proofs.PutWords.Core.{ready}
+use Rattle.volume.proofs.PutWords.Disk.{keeps_read, keeps_written, none_damaged, put_failed, put_done, crash_finds}
+use Rattle.volume.proofs.PutWords.Disk.{rest_finds}
 use Rattle.spec_image.proofs.Common.{some_is}
 use Rattle.volume.proofs.put_words.put_in_core.Goals as goal
 

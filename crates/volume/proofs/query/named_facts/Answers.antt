@@ -2,7 +2,7 @@ use Rattle.std.proofs.Common.{◌≡◌, map, Some, option_copied, refl, sym, ap
 use Rattle.std.proofs.lemmas.List.{length-map}
 use Rattle.volume.specs.Common.{file_view, IsWholeVersion, slot, as_known}
 use Rattle.spec_image.proofs.Common.{some_none, some_same}
-use Rattle.volume.proofs.Shared.LiveLookups.{as_many, kept_at, standing_at}
+use Rattle.volume.proofs.common.LiveLookups.{as_many, kept_at, standing_at}
 use Rattle.volume.proofs.query.named_facts.Goals as goal
 
 pub at-requires : goal.at-requires

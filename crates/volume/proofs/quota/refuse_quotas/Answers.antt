@@ -3,7 +3,7 @@ use Rattle.std.specs.List.{AllByRecursion}
 use Rattle.spec_image.specs.Common.{master_words, IsMasterEntryOf, layout_number}
 use Rattle.directory.specs.Common.{IsBadChain}
 use Rattle.volume.specs.Common.{master_view, HasNoQuota}
-use Rattle.volume.proofs.Starting.Quotas.{plain_entries, quota_block, quota_among, quota_bad}
+use Rattle.volume.proofs.VolumeStart.Quotas.{plain_entries, quota_block, quota_among, quota_bad}
 use Rattle.volume.proofs.quota.refuse_quotas.Goals as goal
 
 pub returns-in-Some-clause-named : goal.returns-in-Some-clause-named

@@ -9,12 +9,12 @@ use Rattle.volume.specs.declared.error.VolumeError.TheVariants.{Device}
 use Rattle.volume.specs.Common.{master_view, known_directory, KnownDirectory, reaches_in_known, IsWholeDirectory}
 use Rattle.volume.specs.Common.{IsOnlySpace, IsAdded, AreDirectoriesRead, NamesInSpace, IsFaultOfDirectory}
 use Rattle.volume.specs.Common.{IsFaultOfDirectories}
-use Rattle.volume.proofs.Shared.DisksAsked.{keeps_disk_start, keeps_disk_served, keeps_disk_on, keeps_disk_handed}
-use Rattle.volume.proofs.Shared.Handing.{handed, found_on, named_on}
-use Rattle.volume.proofs.Shared.Lookups.{viewed_at, viewed_split}
-use Rattle.volume.proofs.Shared.Reaching.{total_marked}
-use Rattle.volume.proofs.Starting.FoundDirectories.{no_directories, directories_go_on, all_added}
-use Rattle.volume.proofs.Starting.FaultyDirectories.{directory_fault}
+use Rattle.volume.proofs.common.DisksAsked.{keeps_disk_start, keeps_disk_served, keeps_disk_on, keeps_disk_handed}
+use Rattle.volume.proofs.common.Handing.{handed, found_on, named_on}
+use Rattle.volume.proofs.common.Lookups.{viewed_at, viewed_split}
+use Rattle.volume.proofs.common.Reaching.{total_marked}
+use Rattle.volume.proofs.VolumeStart.FoundDirectories.{no_directories, directories_go_on, all_added}
+use Rattle.volume.proofs.VolumeStart.FaultyDirectories.{directory_fault}
 use Rattle.volume.proofs.read.read_directories.Goals as goal
 
 pub add_directory-requires-clause-inside : goal.add_directory-requires-clause-inside

@@ -9,11 +9,11 @@ use Rattle.directory.specs.Common.{viewed}
 use Rattle.volume.specs.Common.{file_view, known_version, IsOnlySpace, AreFilesRead, NamesInSpace, IsFaultOfFiles}
 use Rattle.volume.specs.Common.{IsFaultOfDirectory}
 use Rattle.volume.specs.declared.error.VolumeError.TheVariants.{Device}
-use Rattle.volume.proofs.Shared.DisksAsked.{keeps_disk_served, keeps_disk_ok, keeps_disk_on, keeps_disk_handed}
-use Rattle.volume.proofs.Shared.Handing.{handed, found_on, named_on}
-use Rattle.volume.proofs.Starting.FoundDirectories.{directory_found, space_more}
-use Rattle.volume.proofs.Starting.FaultyDirectories.{files_fault}
-use Rattle.volume.proofs.Shared.LayoutLimits.{entry_quota}
+use Rattle.volume.proofs.common.DisksAsked.{keeps_disk_served, keeps_disk_ok, keeps_disk_on, keeps_disk_handed}
+use Rattle.volume.proofs.common.Handing.{handed, found_on, named_on}
+use Rattle.volume.proofs.VolumeStart.FoundDirectories.{directory_found, space_more}
+use Rattle.volume.proofs.VolumeStart.FaultyDirectories.{files_fault}
+use Rattle.volume.proofs.common.LayoutLimits.{entry_quota}
 use Rattle.volume.proofs.read.read_directory.Goals as goal
 
 pub returns-in_err-chain-clause-fault : goal.returns-in_err-chain-clause-fault

@@ -7,10 +7,10 @@ use Rattle.spec_image.proofs.Common.{name_exact, name_total}
 use Rattle.volume.specs.declared.turns.Turn.{Turn}
 use Rattle.volume.specs.Common.{file_view, turn_view, placed_known, IsWholeVersion, reaches_in_entries, AreFilesRead}
 use Rattle.volume.specs.Common.{IsFaultOfFiles}
-use Rattle.volume.proofs.Shared.Handing.{handed, found_on}
-use Rattle.volume.proofs.Starting.ReadTurns.{as_many_versions, entries_moved, fault_moved, places_read, read_the_same}
-use Rattle.volume.proofs.Starting.ReadTurns.{reached_the_same, whole_the_same}
-use Rattle.volume.proofs.Shared.Reordered.{all_moved, once_moved}
+use Rattle.volume.proofs.common.Handing.{handed, found_on}
+use Rattle.volume.proofs.VolumeStart.ReadTurns.{as_many_versions, entries_moved, fault_moved, places_read}
+use Rattle.volume.proofs.VolumeStart.ReadTurns.{read_the_same, reached_the_same, whole_the_same}
+use Rattle.volume.proofs.common.Reordered.{all_moved, once_moved}
 use Rattle.volume.proofs.read.read_files.Goals as goal
 
 pub read_turns-requires-clause-inside : goal.read_turns-requires-clause-inside

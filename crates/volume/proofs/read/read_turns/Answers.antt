@@ -6,13 +6,13 @@ use Rattle.alloctab.specs.Common.{digit_at}
 use Rattle.volume.specs.Common.{turn_view, placed_known, NamesInSpace, IsFaultOfFile, IsFaultOfFiles, IsWholeVersion}
 use Rattle.volume.specs.Common.{IsOnlySpace}
 use Rattle.volume.specs.declared.error.VolumeError.TheVariants.{Device}
-use Rattle.volume.proofs.Shared.DisksAsked.{keeps_disk_served, keeps_disk_on, keeps_disk_handed}
-use Rattle.volume.proofs.Shared.Handing.{handed, found_on, named_on}
-use Rattle.volume.proofs.Shared.Lookups.{viewed_at, viewed_split}
-use Rattle.volume.proofs.Starting.FoundDirectories.{all_added}
-use Rattle.volume.proofs.Shared.Reaching.{entries_marked}
-use Rattle.volume.proofs.Starting.FoundFiles.{file_fault, files_go_on}
-use Rattle.volume.proofs.Starting.ReadTurns.{places_more}
+use Rattle.volume.proofs.common.DisksAsked.{keeps_disk_served, keeps_disk_on, keeps_disk_handed}
+use Rattle.volume.proofs.common.Handing.{handed, found_on, named_on}
+use Rattle.volume.proofs.common.Lookups.{viewed_at, viewed_split}
+use Rattle.volume.proofs.VolumeStart.FoundDirectories.{all_added}
+use Rattle.volume.proofs.common.Reaching.{entries_marked}
+use Rattle.volume.proofs.VolumeStart.FoundFiles.{file_fault, files_go_on}
+use Rattle.volume.proofs.VolumeStart.ReadTurns.{places_more}
 use Rattle.volume.proofs.read.read_turns.Goals as goal
 
 pub add_file-requires-clause-inside : goal.add_file-requires-clause-inside

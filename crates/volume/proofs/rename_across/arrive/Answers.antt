@@ -4,9 +4,9 @@ use Rattle.spec_image.specs.Common.{name_cmp}
 use Rattle.directory.specs.Common.{viewed, IsReserve}
 use Rattle.volume.specs.Common.{file_view, live_directory}
 use Rattle.volume.specs.declared.live.LiveMap.{LiveMap}
-use Rattle.volume.proofs.RenamingAcross.Arriving.{known_here, directory_here, as_many_keys, known_fit, chain_booked}
-use Rattle.volume.proofs.RenamingAcross.Arriving.{chain_room, grown_free, use_held, use_clear, takes_for, arrives}
-use Rattle.volume.proofs.Publishing.MakingCurrent.{directory_there, directory_read}
+use Rattle.volume.proofs.RenameAcross.Arriving.{known_here, directory_here, as_many_keys, known_fit, chain_booked}
+use Rattle.volume.proofs.RenameAcross.Arriving.{chain_room, grown_free, use_held, use_clear, takes_for, arrives}
+use Rattle.volume.proofs.PublishVersion.MakingCurrent.{directory_there, directory_read}
 use Rattle.volume.proofs.rename_across.arrive.Goals as goal
 
 pub growth_at-more-requires-clause-few : goal.growth_at-more-requires-clause-few

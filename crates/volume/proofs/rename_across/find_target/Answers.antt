@@ -1,9 +1,9 @@
 use Rattle.std.proofs.Common.{◌<◌, ◌≤◌, ◌+◌, refl, sym, ◌∙◌, arith}
 use Rattle.alloctab.specs.Common.{space}
-use Rattle.volume.proofs.Beginning.Beginnings.{no_room}
-use Rattle.volume.proofs.Publishing.MakingCurrent.{directory_read}
-use Rattle.volume.proofs.RenamingAcross.Refusals.{target_few, target_named, named_no_room, target_free, free_unnamed}
-use Rattle.volume.proofs.RenamingAcross.Refusals.{target_full, target_room, room_enough}
+use Rattle.volume.proofs.BeginVersion.Beginnings.{no_room}
+use Rattle.volume.proofs.PublishVersion.MakingCurrent.{directory_read}
+use Rattle.volume.proofs.RenameAcross.Refusals.{target_few, target_named, named_no_room, target_free, free_unnamed}
+use Rattle.volume.proofs.RenameAcross.Refusals.{target_full, target_room, room_enough}
 use Rattle.volume.proofs.rename_across.find_target.Goals.{else-more-gt0-via-then-more-gt0+else-not-can_book}
 use Rattle.volume.proofs.rename_across.find_target.Goals.{else-more-gt0-via-else-more-gt0}
 use Rattle.volume.proofs.rename_across.find_target.Goals as goal

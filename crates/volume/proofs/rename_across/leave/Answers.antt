@@ -1,9 +1,9 @@
 use Rattle.std.proofs.Common.{option_to_list, refl}
 use Rattle.std.specs.Vec.{with_item}
 use Rattle.volume.specs.declared.live.LiveMap.{LiveMap}
-use Rattle.volume.proofs.RenamingAcross.Leaving.{place_inside, leaves_few, leaves_set, leaves}
-use Rattle.volume.proofs.Publishing.MakingCurrent.{index_is}
-use Rattle.volume.proofs.Deleting.Removals.{grown_at}
+use Rattle.volume.proofs.RenameAcross.Leaving.{place_inside, leaves_few, leaves_set, leaves}
+use Rattle.volume.proofs.PublishVersion.MakingCurrent.{index_is}
+use Rattle.volume.proofs.DeleteFile.Removals.{grown_at}
 use Rattle.volume.proofs.rename_across.leave.Goals as goal
 
 pub remove_entry-block-requires-clause-there : goal.remove_entry-block-requires-clause-there

@@ -1,7 +1,7 @@
 use Rattle.std.proofs.Common.{IsSome, refl, sym, subst}
 use Rattle.volume.specs.declared.live.LiveMap.{LiveMap}
-use Rattle.volume.proofs.RenamingAcross.MovingAcross.{leaves_there, leaves_aligned, may_leave, some_booked}
-use Rattle.volume.proofs.RenamingAcross.MovingAcross.{moves_there, moves_here, moves_few, changes_many, moves_across}
+use Rattle.volume.proofs.RenameAcross.MovingAcross.{leaves_there, leaves_aligned, may_leave, some_booked, moves_there}
+use Rattle.volume.proofs.RenameAcross.MovingAcross.{moves_here, moves_few, changes_many, moves_across}
 use Rattle.volume.proofs.rename_across.move_to_directory.Goals as goal
 
 pub arrive-requires-clause-key : goal.arrive-requires-clause-key

@@ -1,7 +1,7 @@
 use Rattle.std.proofs.Common.{[], option_to_list, ap, arith}
 use Rattle.spec_image.specs.Common.{times}
 use Rattle.spec_image.proofs.Common.{times_here}
-use Rattle.volume.proofs.Shared.BlockLists.{held_inside}
+use Rattle.volume.proofs.common.BlockLists.{held_inside}
 use Rattle.volume.proofs.rename_across.use_grown.Goals as goal
 
 pub use_block-requires-clause-inside : goal.use_block-requires-clause-inside

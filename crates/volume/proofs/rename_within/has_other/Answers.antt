@@ -1,6 +1,6 @@
 use Rattle.std.proofs.Common.{inr, sym, ◌∙◌}
-use Rattle.volume.proofs.Publishing.MakingCurrent.{directory_read}
-use Rattle.volume.proofs.RenamingWithin.Renamings.{name_free, name_taken, names_differ}
+use Rattle.volume.proofs.PublishVersion.MakingCurrent.{directory_read}
+use Rattle.volume.proofs.RenameWithin.Renamings.{name_free, name_taken, names_differ}
 use Rattle.volume.proofs.rename_within.has_other.Goals as goal
 
 pub returns-clause-no : goal.returns-clause-no

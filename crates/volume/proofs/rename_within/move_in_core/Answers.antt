@@ -1,8 +1,8 @@
 use Rattle.std.proofs.Common.{refl, ap, ◌∙◌}
 use Rattle.std.specs.Vec.{with_item}
 use Rattle.volume.specs.declared.live.LiveMap.{LiveMap}
-use Rattle.volume.proofs.Publishing.MakingCurrent.{directory_read}
-use Rattle.volume.proofs.RenamingWithin.Renamings.{renames_there, renames_free, moves_within}
+use Rattle.volume.proofs.PublishVersion.MakingCurrent.{directory_read}
+use Rattle.volume.proofs.RenameWithin.Renamings.{renames_there, renames_free, moves_within}
 use Rattle.volume.proofs.rename_within.move_in_core.Goals as goal
 
 pub rename_entry-requires-clause-there : goal.rename_entry-requires-clause-there

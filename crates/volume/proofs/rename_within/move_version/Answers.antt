@@ -3,7 +3,7 @@ use Rattle.changeset.specs.Common.{replaced}
 use Rattle.spec_image.proofs.Common.{some_same}
 use Rattle.volume.specs.declared.live.LiveVersion.{LiveVersion}
 use Rattle.volume.specs.Common.{IsPrimeMoved}
-use Rattle.volume.proofs.RenamingWithin.Renamings.{slot_moved}
+use Rattle.volume.proofs.RenameWithin.Renamings.{slot_moved}
 use Rattle.volume.proofs.rename_within.move_version.Goals as goal
 
 pub returns-clause-moved : goal.returns-clause-moved

@@ -1,11 +1,11 @@
 use Rattle.std.proofs.Common.{ℕ, ◌<◌, refl, sym, ap, subst, ◌∙◌}
 use Rattle.volume.specs.Common.{core_of}
 use Rattle.volume.specs.declared.error.CallError.TheVariants.{Failed}
-use Rattle.volume.proofs.Shared.Edits.{edit_in_range, edit_few, read_nothing, ok_anyway, interrupted, edited}
-use Rattle.volume.proofs.Shared.Handing.{err_on}
-use Rattle.volume.proofs.RenamingAcross.PrimesRead.{prime_holds}
-use Rattle.volume.proofs.RenamingWithin.Transactions.{first_below, within_sized, within_edit}
-use Rattle.volume.proofs.Shared.SameVersion.{version_held}
+use Rattle.volume.proofs.common.Edits.{edit_in_range, edit_few, read_nothing, ok_anyway, interrupted, edited}
+use Rattle.volume.proofs.common.Handing.{err_on}
+use Rattle.volume.proofs.RenameAcross.PrimesRead.{prime_holds}
+use Rattle.volume.proofs.RenameWithin.Transactions.{first_below, within_sized, within_edit}
+use Rattle.volume.proofs.common.SameVersion.{version_held}
 use Rattle.volume.proofs.rename_within.move_within.Goals as goal
 
 pub read_prime-requires-clause-inside : goal.read_prime-requires-clause-inside

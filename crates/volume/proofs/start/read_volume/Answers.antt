@@ -8,11 +8,11 @@ use Rattle.volume.specs.declared.error.VolumeError.TheVariants.{BadLog, Device}
 use Rattle.volume.specs.declared.map.DiskMap.{DiskMap as CoreMap}
 use Rattle.volume.specs.Common.{known_of, IsHeld, SettledRefuses, Refuses, IsAtRest, RestsAt, StandsLike}
 use Rattle.volume.specs.Common.{StandsLikeBefore}
-use Rattle.volume.proofs.Shared.Handing.{found_on, named_on}
-use Rattle.volume.proofs.Shared.Packs.{homes_layout}
-use Rattle.volume.proofs.Starting.Starts.{ok_on, ok_always, crash_recovered, synced_recovered, crash_read}
-use Rattle.volume.proofs.Starting.Starts.{synced_read, rest_known, rest_files, stood_before, closed_refuses}
-use Rattle.volume.proofs.Starting.Starts.{lost_refuses}
+use Rattle.volume.proofs.common.Handing.{found_on, named_on}
+use Rattle.volume.proofs.common.Packs.{homes_layout}
+use Rattle.volume.proofs.VolumeStart.Starts.{ok_on, ok_always, crash_recovered, synced_recovered, crash_read}
+use Rattle.volume.proofs.VolumeStart.Starts.{synced_read, rest_known, rest_files, stood_before, closed_refuses}
+use Rattle.volume.proofs.VolumeStart.Starts.{lost_refuses}
 use Rattle.volume.proofs.start.read_volume.Goals as goal
 
 pub returns-in-Ok-clause-crash : goal.returns-in-Ok-clause-crash

@@ -3,9 +3,9 @@ use Rattle.std.proofs.lemmas.Option.{get_or_from_slice_get}
 use Rattle.spec_image.proofs.Common.{some_same}
 use Rattle.volume.specs.Common.{core_of, IsSupplied}
 use Rattle.volume.specs.declared.pending.PendingVersion.{PendingVersion}
-use Rattle.volume.proofs.Publishing.MakingCurrent.{place_within}
-use Rattle.volume.proofs.Shared.Held.{element_at}
-use Rattle.volume.proofs.Publishing.Supplying.{is_there, supplied}
+use Rattle.volume.proofs.PublishVersion.MakingCurrent.{place_within}
+use Rattle.volume.proofs.common.Held.{element_at}
+use Rattle.volume.proofs.PublishVersion.Supplying.{is_there, supplied}
 use Rattle.volume.proofs.supplies.find_supplies.Goals as goal
 
 -- src/supplies.rt:108:9

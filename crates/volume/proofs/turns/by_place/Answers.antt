@@ -1,6 +1,6 @@
 use Rattle.std.proofs.Common.{rules, ap, sym, ◌∙◌, ◌++◌, map}
 use Rattle.std.proofs.lemmas.List.Sorted.{IsNonDecreasingBy-from_sort, answers_always}
-use Rattle.volume.proofs.Starting.ReadTurns.{none_left, place_put, placed_in_order}
+use Rattle.volume.proofs.VolumeStart.ReadTurns.{none_left, place_put, placed_in_order}
 use Rattle.volume.proofs.turns.by_place.Goals as goal
 
 pub loop-stored-init : goal.loop-stored-init

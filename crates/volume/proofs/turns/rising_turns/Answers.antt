@@ -4,7 +4,7 @@ use Rattle.std.specs.List.Sorted.{IsPermutation}
 use Rattle.std.proofs.lemmas.List.{take_all}
 use Rattle.std.proofs.lemmas.List.Sorted.{IsNonDecreasingBy-from_sort, IsPermutation-map, answers_always}
 use Rattle.volume.specs.Common.{numbered_entry}
-use Rattle.volume.proofs.Starting.ReadTurns.{turn_pushed}
+use Rattle.volume.proofs.VolumeStart.ReadTurns.{turn_pushed}
 use Rattle.volume.proofs.turns.rising_turns.Goals as goal
 
 pub loop-place-preserved : goal.loop-place-preserved

@@ -1,6 +1,6 @@
 use Rattle.std.proofs.Common.{◌≡◌, ◌∙◌, None, Bool, true, false, ap, subst, arith}
 use Rattle.spec_machine.specs.Common.{slot}
-use Rattle.monitor.proofs.Shared.Slots.{slot_there, set_same}
+use Rattle.monitor.proofs.common.Slots.{slot_there, set_same}
 use Rattle.monitor.proofs.job.Jobs.reset.Goals.{in-Some, in-None}
 use Rattle.monitor.proofs.job.Jobs.reset.Goals as goal
 

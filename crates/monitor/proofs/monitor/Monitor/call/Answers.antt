@@ -6,10 +6,10 @@ use Rattle.spec_machine.specs.declared.call.Reply.TheVariants.{NoMemory, Device,
 use Rattle.monitor.specs.Common.{KeepsCore, Serves, IsRefused}
 use Rattle.blockdisk.specs.Common.{LeavesOnly}
 use Rattle.spec_machine.specs.declared.call.Event.TheVariants.{Call as Calls}
-use Rattle.monitor.proofs.Shared.Apart.{IsApart, IsStill, in_still, apart}
+use Rattle.monitor.proofs.common.Apart.{IsApart, IsStill, in_still, apart}
 use Rattle.monitor.proofs.Events.EventCrashes.{untouched_event, call_event}
-use Rattle.monitor.proofs.Shared.Called.{called_late, all_same}
-use Rattle.monitor.proofs.Shared.Dates.{late_in, timely_in}
+use Rattle.monitor.proofs.common.Called.{called_late, all_same}
+use Rattle.monitor.proofs.common.Dates.{late_in, timely_in}
 use Rattle.spec_machine.specs.Jobs as machine
 use Rattle.monitor.proofs.monitor.Monitor.call.Goals as goal
 

@@ -3,8 +3,8 @@ use Rattle.spec_machine.specs.Common.{State}
 use Rattle.spec_image.specs.Common.{without_serials}
 use Rattle.volume.specs.Common.{IsSoundCore}
 use Rattle.monitor.specs.Common.{charge_told, IsState}
-use Rattle.monitor.proofs.Shared.Knowing.{known}
-use Rattle.monitor.proofs.Shared.Limits.{charge_is}
+use Rattle.monitor.proofs.common.Knowing.{known}
+use Rattle.monitor.proofs.common.Limits.{charge_is}
 use Rattle.monitor.proofs.monitor.Monitor.charge.Goals as goal
 
 pub returns : goal.returns

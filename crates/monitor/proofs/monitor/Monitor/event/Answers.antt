@@ -3,9 +3,9 @@ use Rattle.blockdisk.specs.Common.{LeavesOnly}
 use Rattle.spec_machine.specs.Common.{StandsForEither, Service, Serving, Answers}
 use Rattle.spec_image.specs.Common.{pack_of}
 use Rattle.monitor.specs.Common.{Serves, IsDecided, IsNoCall, IsLightEvent}
-use Rattle.monitor.proofs.Shared.Apart.{leaves_others}
+use Rattle.monitor.proofs.common.Apart.{leaves_others}
 use Rattle.monitor.proofs.Events.EventCrashes.{untouched_event, of_other}
-use Rattle.monitor.proofs.Shared.ServedEvents.{call_answered}
+use Rattle.monitor.proofs.common.ServedEvents.{call_answered}
 use Rattle.monitor.proofs.monitor.Monitor.event.Goals as goal
 
 pub returns-in-Call-clause-answered : goal.returns-in-Call-clause-answered

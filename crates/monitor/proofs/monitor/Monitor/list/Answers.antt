@@ -5,7 +5,7 @@ use Rattle.spec_machine.specs.declared.call.Reply.TheVariants.{Refused}
 use Rattle.spec_image.specs.Common.{without_serials}
 use Rattle.spec_machine.specs.Common.{Service, Lists}
 use Rattle.monitor.specs.Common.{Serves, jobs_of}
-use Rattle.monitor.proofs.Shared.Answering.{in_state, slot_of, contrary}
+use Rattle.monitor.proofs.common.Answering.{in_state, slot_of, contrary}
 use Rattle.monitor.proofs.Events.Listing.{absent, forbidden, given, unlisted}
 use Rattle.monitor.proofs.monitor.Monitor.list.Goals as goal
 

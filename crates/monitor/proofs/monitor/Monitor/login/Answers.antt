@@ -3,7 +3,7 @@ use Rattle.spec_image.specs.Common.{pack_of}
 use Rattle.spec_machine.specs.Common.{Service, Answers}
 use Rattle.spec_machine.specs.declared.call.Event.TheVariants.{Login}
 use Rattle.monitor.specs.Common.{Serves}
-use Rattle.monitor.proofs.Shared.Answering.{login_answered, on_disk}
+use Rattle.monitor.proofs.common.Answering.{login_answered, on_disk}
 use Rattle.monitor.proofs.monitor.Monitor.login.Goals as goal
 
 pub returns-clause-answered : goal.returns-clause-answered

@@ -6,9 +6,9 @@ use Rattle.spec_machine.specs.declared.call.Event.TheVariants.{Call as Calls}
 use Rattle.spec_machine.specs.declared.call.Reply.TheVariants.{Done, NoJob, DateRange}
 use Rattle.spec_machine.proofs.Common.{slot-set_other}
 use Rattle.monitor.specs.Common.{Serves, reset_job}
-use Rattle.monitor.proofs.Shared.Answering.{late}
-use Rattle.monitor.proofs.Shared.Dates.{late_in, timely_in}
-use Rattle.monitor.proofs.Shared.Dropped.{leaves_none}
+use Rattle.monitor.proofs.common.Answering.{late}
+use Rattle.monitor.proofs.common.Dates.{late_in, timely_in}
+use Rattle.monitor.proofs.common.Dropped.{leaves_none}
 use Rattle.monitor.proofs.OtherCalls.Resetting.{reset_row, nobody_row, reset_leads}
 use Rattle.monitor.proofs.monitor.Monitor.reset.Goals as goal
 

@@ -4,9 +4,9 @@ use Rattle.std.proofs.lemmas.Int.{to_z-of_z, ints}
 use Rattle.std.specs.Int.Signed.{mag}
 use Rattle.spec_image.specs.Common.{pack_of, without_serials, space_start}
 use Rattle.spec_machine.specs.Common.{State, room}
-use Rattle.volume.proofs.Shared.Answering.{rest_holds}
+use Rattle.volume.proofs.common.Answering.{rest_holds}
 use Rattle.monitor.specs.Common.{IsState}
-use Rattle.monitor.proofs.Shared.Rooms.{booked_is}
+use Rattle.monitor.proofs.common.Rooms.{booked_is}
 use Rattle.monitor.proofs.monitor.Monitor.room.Goals as goal
 
 fits : (z : ℤ) → mag z < 2 ^ 63 → FitsSigned w64 z

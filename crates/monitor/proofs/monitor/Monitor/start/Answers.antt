@@ -3,7 +3,7 @@ use Rattle.std.proofs.lemmas.Result.{err_from_is_err_and}
 use Rattle.spec_image.specs.Common.{layout_number, pack_of, Stands}
 use Rattle.spec_image.proofs.Common.{stands_in_any}
 use Rattle.monitor.proofs.Events.Started.{started, start_keyed, start_reading}
-use Rattle.monitor.proofs.Shared.Placing.{placed_none}
+use Rattle.monitor.proofs.common.Placing.{placed_none}
 use Rattle.monitor.proofs.monitor.Monitor.start.Goals as goal
 
 pub invariant_of-result : goal.invariant_of-result

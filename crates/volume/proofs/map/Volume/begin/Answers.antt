@@ -5,10 +5,10 @@ use Rattle.spec_image.specs.declared.code.ErrorCode.TheVariants.{NameExists, Not
 use Rattle.alloctab.specs.Common.{space}
 use Rattle.volume.specs.Common.{begin_cost, entries_with, core_of}
 use Rattle.volume.specs.declared.error.CallError.TheVariants.{Refused}
-use Rattle.volume.proofs.Beginning.BegunFiles.{body_before, begins_with, date_before, handed_on, not_refused}
-use Rattle.volume.proofs.Beginning.BegunFiles.{file_known, full_by_file}
-use Rattle.volume.proofs.Shared.StillHeld.{begun_sound}
-use Rattle.volume.proofs.Shared.SoundVolumes.{volume_stays}
+use Rattle.volume.proofs.BeginVersion.BegunFiles.{body_before, begins_with, date_before, handed_on, not_refused}
+use Rattle.volume.proofs.BeginVersion.BegunFiles.{file_known, full_by_file}
+use Rattle.volume.proofs.common.StillHeld.{begun_sound}
+use Rattle.volume.proofs.common.SoundVolumes.{volume_stays}
 use Rattle.volume.proofs.map.Volume.begin.Goals as goal
 
 pub invariant_of-self-2 : goal.invariant_of-self-2

@@ -1,6 +1,6 @@
 use Rattle.std.proofs.Common.{subst}
 use Rattle.volume.specs.Common.{core_of, IsSoundCore}
-use Rattle.volume.proofs.Charging.Charges.{charge_said}
+use Rattle.volume.proofs.Charges.Charges.{charge_said}
 use Rattle.volume.proofs.map.Volume.charge.Goals as goal
 
 pub returns-clause-value : goal.returns-clause-value

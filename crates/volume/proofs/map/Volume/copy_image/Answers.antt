@@ -5,9 +5,9 @@ use Rattle.spec_image.specs.Common.{File, Files, pack_of, StandsOn, Pack}
 use Rattle.volume.specs.Common.{AreCopied, HomesComeLast, RestsAt, StandsLike, StandsLikeBefore}
 use Rattle.volume.specs.declared.error.CopyError.TheVariants.{Source}
 use Rattle.volume.specs.declared.error.VolumeError.TheVariants.{Device}
-use Rattle.volume.proofs.Copying.CopiedImages.{copy_pack, copy_rests, ok_both, ok_any}
-use Rattle.volume.proofs.GettingWords.ReadWords.{rests_read}
-use Rattle.volume.proofs.Starting.Starts.{crash_read, synced_read}
+use Rattle.volume.proofs.CopyImage.CopiedImages.{copy_pack, copy_rests, ok_both, ok_any}
+use Rattle.volume.proofs.GetWords.ReadWords.{rests_read}
+use Rattle.volume.proofs.VolumeStart.Starts.{crash_read, synced_read}
 use Rattle.volume.proofs.map.Volume.copy_image.Goals as goal
 
 pub returns-in-Ok-clause-stood : goal.returns-in-Ok-clause-stood

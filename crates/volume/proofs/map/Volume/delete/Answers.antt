@@ -2,9 +2,9 @@ use Rattle.std.proofs.Common.{refl}
 use Rattle.volume.specs.Common.{IsEdited, core_of, files_removed}
 use Rattle.spec_image.specs.declared.code.ErrorCode.TheVariants.{NotFound}
 use Rattle.volume.specs.declared.error.CallError.TheVariants.{Refused}
-use Rattle.volume.proofs.Shared.Edits.{ok_anyway, only_device, edited_alone, edited_volume, files_stay}
-use Rattle.volume.proofs.Deleting.Places.{is_named, primes_elsewhere, primes_gone}
-use Rattle.volume.proofs.Deleting.Transactions.{removed_sized, removed_edit}
+use Rattle.volume.proofs.common.Edits.{ok_anyway, only_device, edited_alone, edited_volume, files_stay}
+use Rattle.volume.proofs.DeleteFile.Places.{is_named, primes_elsewhere, primes_gone}
+use Rattle.volume.proofs.DeleteFile.Transactions.{removed_sized, removed_edit}
 use Rattle.volume.proofs.map.Volume.delete.Given
 use Rattle.volume.proofs.map.Volume.delete.Goals as goal
 

@@ -2,11 +2,11 @@ use Rattle.std.proofs.Common.{refl}
 use Rattle.spec_image.specs.declared.code.ErrorCode.TheVariants.{NotEmpty}
 use Rattle.volume.specs.Common.{IsEdited, core_of, directory_removed}
 use Rattle.volume.specs.declared.error.CallError.TheVariants.{Refused}
-use Rattle.volume.proofs.Shared.Edits.{ok_anyway, only_device, edited_alone, edited_volume, files_stay}
-use Rattle.volume.proofs.Shared.Edits.{not_written_stays}
-use Rattle.volume.proofs.DeletingDirectory.Core.{not_written}
-use Rattle.volume.proofs.DeletingDirectory.Places.{gone, directory_stays, primes_stay}
-use Rattle.volume.proofs.DeletingDirectory.Transactions.{unmade_sized, unmade_edit}
+use Rattle.volume.proofs.common.Edits.{ok_anyway, only_device, edited_alone, edited_volume, files_stay}
+use Rattle.volume.proofs.common.Edits.{not_written_stays}
+use Rattle.volume.proofs.DeleteDir.Core.{not_written}
+use Rattle.volume.proofs.DeleteDir.Places.{gone, directory_stays, primes_stay}
+use Rattle.volume.proofs.DeleteDir.Transactions.{unmade_sized, unmade_edit}
 use Rattle.volume.proofs.map.Volume.delete_dir.Given
 use Rattle.volume.proofs.map.Volume.delete_dir.Goals as goal
 

@@ -1,7 +1,7 @@
 use Rattle.std.proofs.Common.{◌≡◌, Err, Some, get_or, refl, sym, ap, ◌∙◌}
 use Rattle.std.proofs.lemmas.Result.{err_from_is_err_and}
 use Rattle.volume.specs.Common.{master_view, core_of, protection_answer}
-use Rattle.volume.proofs.Shared.Answering.{rest_holds, directory_none, directory_protection, viewed_get}
+use Rattle.volume.proofs.common.Answering.{rest_holds, directory_none, directory_protection, viewed_get}
 use Rattle.volume.proofs.map.Volume.directory.Goals as goal
 
 pub returns-in_err-i-clause-value : goal.returns-in_err-i-clause-value

@@ -1,7 +1,7 @@
 use Rattle.std.proofs.Common.{refl}
 use Rattle.volume.specs.Common.{core_of}
-use Rattle.volume.proofs.Shared.StillHeld.{dropped_sound}
-use Rattle.volume.proofs.Shared.SoundVolumes.{volume_stays}
+use Rattle.volume.proofs.common.StillHeld.{dropped_sound}
+use Rattle.volume.proofs.common.SoundVolumes.{volume_stays}
 use Rattle.volume.proofs.map.Volume.discard.Goals as goal
 
 pub invariant_of-self : goal.invariant_of-self

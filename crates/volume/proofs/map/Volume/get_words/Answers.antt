@@ -2,9 +2,9 @@ use Rattle.std.proofs.Common.{◌≡◌, ◌+◌, ◌-◌, ◌∙◌, None, inr,
 use Rattle.spec_image.proofs.Common.{some_same}
 use Rattle.retrieval.specs.Common.{VersionState}
 use Rattle.volume.specs.Common.{core_of, IsReadable}
-use Rattle.volume.proofs.Starting.Opening.{reads_of}
-use Rattle.volume.proofs.GettingWords.ReadWords.{rests_read, sound_read, readable_inside, readable_body, undamaged}
-use Rattle.volume.proofs.Shared.SoundVolumes.{volume_goes_on}
+use Rattle.volume.proofs.VolumeStart.Opening.{reads_of}
+use Rattle.volume.proofs.GetWords.ReadWords.{rests_read, sound_read, readable_inside, readable_body, undamaged}
+use Rattle.volume.proofs.common.SoundVolumes.{volume_goes_on}
 use Rattle.volume.proofs.map.Volume.get_words.Goals as goal
 
 pub get_words-requires-clause-inside : goal.get_words-requires-clause-inside

@@ -5,12 +5,12 @@ use Rattle.spec_image.specs.declared.code.ErrorCode.TheVariants.{NoDirectory}
 use Rattle.spec_image.proofs.Common.{some_none}
 use Rattle.volume.specs.declared.error.CallError.TheVariants.{Refused, NoMemory}
 use Rattle.volume.specs.Common.{master_view, core_of, live_directory}
-use Rattle.volume.proofs.Shared.Answering.{rest_holds, directory_none, directory_there, placed}
-use Rattle.volume.proofs.Shared.Listing.{lines_are, if_ok_on}
+use Rattle.volume.proofs.common.Answering.{rest_holds, directory_none, directory_there, placed}
+use Rattle.volume.proofs.common.Listing.{lines_are, if_ok_on}
 use Rattle.volume.specs.declared.error.CallError.{CallError}
 use Rattle.spec_image.specs.Common.{directory_of}
-use Rattle.volume.proofs.Shared.LiveLookups.{keyed_at}
-use Rattle.volume.proofs.Starting.Finding.{refusal}
+use Rattle.volume.proofs.common.LiveLookups.{keyed_at}
+use Rattle.volume.proofs.VolumeStart.Finding.{refusal}
 use Rattle.volume.proofs.map.Volume.list.Goals as goal
 
 pub returns-in_err-i-clause-refused : goal.returns-in_err-i-clause-refused

@@ -2,8 +2,8 @@ use Rattle.std.proofs.Common.{map, Err, refl, sym, ap, subst, ◌∙◌, arith}
 use Rattle.std.proofs.lemmas.List.{length-map}
 use Rattle.std.proofs.lemmas.Result.{err_from_is_err_and}
 use Rattle.volume.specs.Common.{master_view, core_of, live_directory, IsLookAnswer}
-use Rattle.volume.proofs.Shared.Answering.{rest_holds, directory_none, directory_there, look_answered, placed}
-use Rattle.volume.proofs.Shared.LiveLookups.{keyed_at}
+use Rattle.volume.proofs.common.Answering.{rest_holds, directory_none, directory_there, look_answered, placed}
+use Rattle.volume.proofs.common.LiveLookups.{keyed_at}
 use Rattle.volume.proofs.map.Volume.look.Goals as goal
 
 pub returns-in_err-i-clause-value : goal.returns-in_err-i-clause-value

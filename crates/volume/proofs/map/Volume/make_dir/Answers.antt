@@ -1,10 +1,10 @@
 use Rattle.std.proofs.Common.{refl}
 use Rattle.blockdisk.specs.Common.{writes_modifies}
 use Rattle.volume.specs.Common.{IsEdited, core_of, files_made}
-use Rattle.volume.proofs.Shared.Edits.{edit_in_range, edited, edited_volume, files_stay}
-use Rattle.volume.proofs.MakingDirectory.MakingDirectories.{not_written}
-use Rattle.volume.proofs.MakingDirectory.Places.{directory_stays, primes_stay}
-use Rattle.volume.proofs.MakingDirectory.Transactions.{made_sized, made_edit, made_ended, both_stay}
+use Rattle.volume.proofs.common.Edits.{edit_in_range, edited, edited_volume, files_stay}
+use Rattle.volume.proofs.MakeDir.MakingDirectories.{not_written}
+use Rattle.volume.proofs.MakeDir.Places.{directory_stays, primes_stay}
+use Rattle.volume.proofs.MakeDir.Transactions.{made_sized, made_edit, made_ended, both_stay}
 use Rattle.volume.proofs.map.Volume.make_dir.Given
 use Rattle.volume.proofs.map.Volume.make_dir.Goals as goal
 

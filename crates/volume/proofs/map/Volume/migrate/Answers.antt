@@ -8,10 +8,10 @@ use Rattle.volume.specs.declared.error.VolumeError.TheVariants.{Device}
 use Rattle.volume.specs.declared.migrate.Migrated.{Migrated}
 use Rattle.volume.specs.declared.migrate.Migrated.TheVariants.{Done, Already}
 use Rattle.volume.specs.Common.{StandsOrRaised}
-use Rattle.volume.proofs.Shared.Handing.{handed}
-use Rattle.volume.proofs.Migrating.Migrations.{each_other, before_raised, synced_on, synced_raised, migrate_leaves}
-use Rattle.volume.proofs.Migrating.Migrations.{either_before, map_rest, map_first, stood_here, told, rests_already}
-use Rattle.volume.proofs.Migrating.Migrations.{rests_raised, is_migrated, stood_then}
+use Rattle.volume.proofs.common.Handing.{handed}
+use Rattle.volume.proofs.MigrateVolume.Migrations.{each_other, before_raised, synced_on, synced_raised}
+use Rattle.volume.proofs.MigrateVolume.Migrations.{migrate_leaves, either_before, map_rest, map_first, stood_here}
+use Rattle.volume.proofs.MigrateVolume.Migrations.{told, rests_already, rests_raised, is_migrated, stood_then}
 use Rattle.volume.proofs.map.Volume.migrate.Goals as goal
 
 -- Where the reading refused.

@@ -2,9 +2,9 @@ use Rattle.std.proofs.Common.{◌≡◌, Err, IsErrOf, sym, ap, subst, ◌∙◌
 use Rattle.volume.specs.Common.{known_of, IsWholeMap, IsBooked, core_of, IsAtRest, StandsLike, pending_at}
 use Rattle.volume.specs.Common.{IsFirstRead}
 use Rattle.volume.specs.declared.error.VolumeError.TheVariants.{Device}
-use Rattle.volume.proofs.Shared.LiveLookups.{standing_at}
-use Rattle.volume.proofs.Starting.LiveOpening.{kept_whole}
-use Rattle.volume.proofs.Starting.Starts.{synced_as}
+use Rattle.volume.proofs.common.LiveLookups.{standing_at}
+use Rattle.volume.proofs.VolumeStart.LiveOpening.{kept_whole}
+use Rattle.volume.proofs.VolumeStart.Starts.{synced_as}
 use Rattle.volume.proofs.map.Volume.open.Goals as goal
 
 pub invariant_of-result : goal.invariant_of-result

@@ -1,6 +1,6 @@
 use Rattle.volume.specs.Common.{core_of}
-use Rattle.volume.proofs.Shared.Answering.{rest_holds}
-use Rattle.volume.proofs.Shared.Listing.{owners_are, if_ok_on}
+use Rattle.volume.proofs.common.Answering.{rest_holds}
+use Rattle.volume.proofs.common.Listing.{owners_are, if_ok_on}
 use Rattle.volume.proofs.map.Volume.owners.Goals as goal
 
 pub returns-clause-value : goal.returns-clause-value

@@ -2,10 +2,10 @@ use Rattle.std.proofs.Common.{◌≡◌, ◌+◌, ◌<◌, ◌^◌, ℕ, Err, So
 use Rattle.std.proofs.lemmas.Result.{err_from_is_err_and}
 use Rattle.volume.specs.Common.{slot, core_of}
 use Rattle.volume.specs.declared.live.LiveVersion.{LiveVersion}
-use Rattle.volume.proofs.Shared.Answering.{rest_holds}
-use Rattle.volume.proofs.Pinning.PinnedFiles.{key_file, pin_answered, pin_refused, pinned_sound}
-use Rattle.volume.proofs.Shared.PrimeBlocks.{prime_of_place, prime_of_no_file}
-use Rattle.volume.proofs.Shared.SoundVolumes.{volume_stays}
+use Rattle.volume.proofs.common.Answering.{rest_holds}
+use Rattle.volume.proofs.PinVersion.PinnedFiles.{key_file, pin_answered, pin_refused, pinned_sound}
+use Rattle.volume.proofs.common.PrimeBlocks.{prime_of_place, prime_of_no_file}
+use Rattle.volume.proofs.common.SoundVolumes.{volume_stays}
 use Rattle.volume.proofs.map.Volume.pin.Goals as goal
 
 pub returns-in_err-key-clause-value : goal.returns-in_err-key-clause-value

@@ -7,12 +7,12 @@ use Rattle.volume.specs.Common.{VolumeCore, slot, pending_at, core_of, IsPlaced,
 use Rattle.volume.specs.declared.error.CallError.TheVariants.{Refused}
 use Rattle.spec_image.specs.declared.code.ErrorCode.TheVariants.{NoRoom}
 use Rattle.volume.specs.declared.pending.PendingVersion.{PendingVersion}
-use Rattle.volume.proofs.Publishing.Publications.{unchanged_leaves, quiet_leaves_either, both_leave, placed_on}
-use Rattle.volume.proofs.Publishing.Publications.{supplied_on, ribs_on}
-use Rattle.volume.proofs.Publishing.Slots.{made_current_readers}
-use Rattle.volume.proofs.Shared.HomesKept.{homes_on}
-use Rattle.volume.proofs.Shared.Edits.{copies_stay, ok_anyway}
-use Rattle.volume.proofs.Shared.SoundVolumes.{not_both, volume_goes_on}
+use Rattle.volume.proofs.PublishVersion.Publications.{unchanged_leaves, quiet_leaves_either, both_leave, placed_on}
+use Rattle.volume.proofs.PublishVersion.Publications.{supplied_on, ribs_on}
+use Rattle.volume.proofs.PublishVersion.Slots.{made_current_readers}
+use Rattle.volume.proofs.common.HomesKept.{homes_on}
+use Rattle.volume.proofs.common.Edits.{copies_stay, ok_anyway}
+use Rattle.volume.proofs.common.SoundVolumes.{not_both, volume_goes_on}
 use Rattle.volume.proofs.map.Volume.publish.Goals as goal
 
 pub returns-in_err-blocks-clause-crash : goal.returns-in_err-blocks-clause-crash

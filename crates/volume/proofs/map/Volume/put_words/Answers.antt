@@ -1,6 +1,6 @@
 use Rattle.std.proofs.Common.{IsSome, subst, sym}
 use Rattle.volume.specs.Common.{pending_at, core_of}
-use Rattle.volume.proofs.Shared.SoundVolumes.{still_serves, volume_goes_on}
+use Rattle.volume.proofs.common.SoundVolumes.{still_serves, volume_goes_on}
 use Rattle.volume.proofs.map.Volume.put_words.Goals as goal
 
 pub put_in_core-requires-clause-live : goal.put_in_core-requires-clause-live

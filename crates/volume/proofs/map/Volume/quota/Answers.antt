@@ -1,6 +1,6 @@
 use Rattle.std.proofs.Common.{subst, ◌∙◌}
 use Rattle.volume.specs.Common.{core_of, IsSoundCore}
-use Rattle.volume.proofs.Charging.Charges.{quota_is}
+use Rattle.volume.proofs.Charges.Charges.{quota_is}
 use Rattle.volume.proofs.map.Volume.quota.Goals as goal
 
 pub returns-clause-value : goal.returns-clause-value

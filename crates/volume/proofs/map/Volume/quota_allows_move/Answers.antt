@@ -1,7 +1,7 @@
 use Rattle.std.proofs.Common.{◌+◌, sym, ◌∙◌}
 use Rattle.spec_image.specs.Common.{growth}
 use Rattle.volume.specs.Common.{entries_with, IsOver, cost_before, core_of}
-use Rattle.volume.proofs.Charging.Charges.{apart_over, told_apart}
+use Rattle.volume.proofs.Charges.Charges.{apart_over, told_apart}
 use Rattle.volume.proofs.map.Volume.quota_allows_move.Goals as goal
 
 pub returns : goal.returns

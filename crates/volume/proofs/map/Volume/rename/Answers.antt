@@ -1,6 +1,6 @@
 use Rattle.std.proofs.Common.{ℕ, sym, subst, eqb-true}
 use Rattle.volume.specs.Common.{ChangesFiles, files_moved}
-use Rattle.volume.proofs.RenamingAcross.Refusals.{within_exists}
+use Rattle.volume.proofs.RenameAcross.Refusals.{within_exists}
 use Rattle.volume.proofs.map.Volume.rename.Goals as goal
 
 pub returns-then-eq-clause-exists : goal.returns-then-eq-clause-exists

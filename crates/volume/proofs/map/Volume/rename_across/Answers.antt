@@ -1,14 +1,14 @@
 use Rattle.std.proofs.Common.{slice_get, sym, ap, ◌∙◌}
 use Rattle.spec_image.proofs.Common.{some_none}
 use Rattle.volume.specs.Common.{as_known, core_of}
-use Rattle.volume.proofs.Shared.Growing.{one_place}
-use Rattle.volume.proofs.Shared.Marking.{on_ok}
-use Rattle.volume.proofs.RenamingAcross.Places.{across_before, across_here, across_gone, across_elsewhere}
-use Rattle.volume.proofs.RenamingAcross.Refusals.{no_file_homeless, no_file_exists, no_file_no_room, target_homeless}
-use Rattle.volume.proofs.RenamingAcross.Refusals.{target_exists, target_no_room, target_lacking, moved_lacking}
-use Rattle.volume.proofs.RenamingAcross.Refusals.{moved_exists, moved_no_room, memory_plain}
-use Rattle.volume.proofs.RenamingWithin.Refusals.{not_refused}
-use Rattle.volume.proofs.Shared.Edits.{edited_volume, files_stay}
+use Rattle.volume.proofs.common.Growing.{one_place}
+use Rattle.volume.proofs.common.Marking.{on_ok}
+use Rattle.volume.proofs.RenameAcross.Places.{across_before, across_here, across_gone, across_elsewhere}
+use Rattle.volume.proofs.RenameAcross.Refusals.{no_file_homeless, no_file_exists, no_file_no_room, target_homeless}
+use Rattle.volume.proofs.RenameAcross.Refusals.{target_exists, target_no_room, target_lacking, moved_lacking}
+use Rattle.volume.proofs.RenameAcross.Refusals.{moved_exists, moved_no_room, memory_plain}
+use Rattle.volume.proofs.RenameWithin.Refusals.{not_refused}
+use Rattle.volume.proofs.common.Edits.{edited_volume, files_stay}
 use Rattle.volume.proofs.map.Volume.rename_across.Goals as goal
 
 pub returns-then-self-clause-held : goal.returns-then-self-clause-held

@@ -1,11 +1,11 @@
 use Rattle.std.proofs.Common.{sym, ◌∙◌}
 use Rattle.spec_image.specs.declared.code.ErrorCode.TheVariants.{NotFound}
 use Rattle.volume.specs.Common.{as_known, core_of}
-use Rattle.volume.proofs.Shared.Marking.{on_ok}
-use Rattle.volume.proofs.RenamingWithin.Places.{moved_before, moved_here, moved_gone, moved_elsewhere}
-use Rattle.volume.proofs.RenamingWithin.Refusals.{refused_not_found, refused_exists, refused_no_directory}
-use Rattle.volume.proofs.RenamingWithin.Refusals.{refused_codes, refused_plain, key_there, not_refused}
-use Rattle.volume.proofs.Shared.Edits.{edited_volume, files_stay}
+use Rattle.volume.proofs.common.Marking.{on_ok}
+use Rattle.volume.proofs.RenameWithin.Places.{moved_before, moved_here, moved_gone, moved_elsewhere}
+use Rattle.volume.proofs.RenameWithin.Refusals.{refused_not_found, refused_exists, refused_no_directory}
+use Rattle.volume.proofs.RenameWithin.Refusals.{refused_codes, refused_plain, key_there, not_refused}
+use Rattle.volume.proofs.common.Edits.{edited_volume, files_stay}
 use Rattle.volume.proofs.map.Volume.rename_within.Goals as goal
 
 pub returns-then-self-clause-held : goal.returns-then-self-clause-held

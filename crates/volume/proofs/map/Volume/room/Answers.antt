@@ -2,7 +2,7 @@ use Rattle.std.proofs.Common.{◌≡◌, ◌+◌, ◌<◌, ◌^◌, ◌-◌, ◌
 use Rattle.std.proofs.lemmas.Int.{to_z-of_z}
 use Rattle.spec_image.specs.Common.{cost_of_files, space_start}
 use Rattle.volume.specs.Common.{cost_beyond, core_of}
-use Rattle.volume.proofs.Shared.Answering.{rest_holds, booked_is}
+use Rattle.volume.proofs.common.Answering.{rest_holds, booked_is}
 use Rattle.volume.proofs.map.Volume.room.Goals as goal
 
 pub difference-requires : goal.difference-requires

@@ -1,9 +1,9 @@
 use Rattle.std.proofs.Common.{◌<◌, subst, sym}
 use Rattle.spec_image.specs.Common.{layout_number, files_limited, quota_limit}
 use Rattle.volume.specs.Common.{IsEdited, core_of}
-use Rattle.volume.proofs.Shared.Edits.{edited_alone, edited_volume, files_stay, not_written_stays}
-use Rattle.volume.proofs.SettingQuota.Core.{puts_in_range, not_written, directory_stays, primes_stay}
-use Rattle.volume.proofs.SettingQuota.Transactions.{limited_edit}
+use Rattle.volume.proofs.common.Edits.{edited_alone, edited_volume, files_stay, not_written_stays}
+use Rattle.volume.proofs.SetQuota.Core.{puts_in_range, not_written, directory_stays, primes_stay}
+use Rattle.volume.proofs.SetQuota.Transactions.{limited_edit}
 use Rattle.volume.proofs.map.Volume.set_quota.Given
 use Rattle.volume.proofs.map.Volume.set_quota.Goals as goal
 

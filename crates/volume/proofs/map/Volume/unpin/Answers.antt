@@ -2,8 +2,8 @@ use Rattle.std.proofs.Common.{◌≡◌, ◌<◌, Some, ap, subst, sym}
 use Rattle.alloctab.specs.Common.{bit}
 use Rattle.volume.specs.Common.{slot, core_of}
 use Rattle.volume.specs.declared.live.LiveVersion.{LiveVersion}
-use Rattle.volume.proofs.Pinning.PinnedFiles.{unpinned_sound}
-use Rattle.volume.proofs.Shared.SoundVolumes.{volume_stays}
+use Rattle.volume.proofs.PinVersion.PinnedFiles.{unpinned_sound}
+use Rattle.volume.proofs.common.SoundVolumes.{volume_stays}
 use Rattle.volume.proofs.map.Volume.unpin.Goals as goal
 
 pub invariant_of-self : goal.invariant_of-self

@@ -1,8 +1,0 @@
-use Rattle.std.proofs.Common.{sym, subst}
-use Rattle.volume.specs.Common.{IsReadable, VolumeCore}
-use Rattle.volume.specs.declared.handles.VersionHandle.TheVariants.{Pinned}
-use Rattle.test_crashes.proofs.pin_tests.read.Goals as goal
-
-pub returns-clause-live : goal.returns-clause-live
-returns-clause-live g c = subst (λ (m : VolumeCore). IsReadable m (Pinned c.args.pin))
-    (sym c.get_words.ensures.core) c.requires.live

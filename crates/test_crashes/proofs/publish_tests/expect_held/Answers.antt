@@ -1,4 +1,0 @@
-use Rattle.test_crashes.proofs.publish_tests.expect_held.Goals as goal
-
-pub unpin-requires : goal.unpin-requires
-unpin-requires g c = record { live = c.expect_words.ensures.readers c.hold-pin.result c.hold-pin.ensures.live }

@@ -1,6 +1,0 @@
-use Rattle.test_crashes.proofs.publish_tests.store.Goals as goal
-
-pub returns : goal.returns
-returns g c = record {
-  readers = λ pin live. c.expect_published.ensures.readers pin (c.write-pending.ensures.readers pin live);
-}

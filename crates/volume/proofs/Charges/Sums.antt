@@ -1,0 +1,106 @@
+-- The sums of which a charge consists, as loops add them up, and that they don't overflow.
+use Rattle.std.proofs.Common.{◌≡◌, ℕ, ◌+◌, ◌^◌, ◌<◌, ◌≤◌, ◌==◌, Bool, true, false, if◌then◌else◌, List, [], ◌∷◌, ◌++◌}
+use Rattle.std.proofs.Common.{length, take, drop, get_or, slice_get, Option, Some, None, IfSome, filter_map, refl}
+use Rattle.std.proofs.Common.{sym, ap, ◌∙◌, arith}
+use Rattle.std.proofs.lemmas.List.{take_more, take-append-drop}
+use Rattle.std.specs.List.{AllByRecursion}
+use Rattle.spec_image.specs.Common.{total, most_blocks}
+use Rattle.slab.specs.Slab.{entries_from}
+use Rattle.volume.specs.Common.{version_before, writes_in, KnownDirectory, IsWholeVersion, cost_before}
+use Rattle.volume.specs.Common.{cost_of_version, cost_of_directory, VolumeCore, slot, as_known, as_written}
+use Rattle.volume.specs.Common.{pending_cost, AreStanding, AreWaiting, IsWholeCore, known_at}
+use Rattle.volume.specs.declared.live.LiveVersion.{LiveVersion}
+use Rattle.volume.specs.declared.pending.PendingVersion.{PendingVersion}
+use Rattle.volume.proofs.common.Costing.{few_blocks}
+use Rattle.volume.proofs.common.LiveLookups.{standing_at}
+use Rattle.volume.proofs.common.Lookups.{total-append, total-push}
+use Rattle.volume.proofs.PublishVersion.Blocks.{total_place}
+
+-- The element that a loop is at.
+
+module _ {A : Type 0} (f : A → ℕ) (xs : List A) (i : ℕ) (x : A) (below : i < length xs) (is : x ≡ get_or xs i x) where
+  pub total_next : total f (take (i + 1) xs) ≡ total f (take i xs) + f x
+  total_next = ap (total f) (take_more xs i x below ∙ ap (λ (y : A). take i xs ++ y ∷ []) (sym is))
+      ∙ total-push f (take i xs) x
+
+  pub total_part : total f (take i xs) + f x ≤ total f xs
+  total_part =
+      let next = total_next in
+      let all = ap (total f) (take-append-drop (i + 1) xs) in
+      let parts = total-append f (take (i + 1) xs) (drop (i + 1) xs) in
+      omega arith
+
+-- Files, by their keys.
+
+abbrev pub cost_under : List (Option LiveVersion) → ℕ → ℕ
+cost_under live key = cost_before (version_before live (Some key))
+
+pub costs_under : (live : List (Option LiveVersion)) (keys : List ℕ)
+    → total cost_of_version (filter_map (known_at live) keys) ≡ total (cost_under live) keys
+costs_under live [] = refl
+costs_under live (k ∷ ks) = by (slot live k) refl (costs_under live ks)
+  where
+    by : (o : Option LiveVersion) → slot live k ≡ o
+        → total cost_of_version (filter_map (known_at live) ks) ≡ total (cost_under live) ks
+        → total cost_of_version (filter_map (known_at live) (k ∷ ks)) ≡ total (cost_under live) (k ∷ ks)
+    by None is rest = rw is (omega arith)
+    by (Some v) is rest = rw is (omega arith)
+
+pub few_under : (live : List (Option LiveVersion)) (key : ℕ) → AreStanding live
+    → IfSome (slot live key) (λ v. length v.version.blocks ≤ most_blocks)
+few_under live key standing = by (slot live key) refl
+  where
+    by : (o : Option LiveVersion) → slot live key ≡ o → IfSome o (λ v. length v.version.blocks ≤ most_blocks)
+    by None is = tt
+    by (Some v) is = few_blocks (as_known v)
+        (standing_at (λ v. IsWholeVersion (as_known v)) live key v standing is)
+
+-- Versions that are being written, by a slab's entries.
+
+-- what those of the directory cost
+abbrev pub written : ℕ → List (ℕ × PendingVersion) → ℕ
+written ppn es = total (λ e. writes_in ppn (Some e.1)) es
+
+pub written_from : (ppn k : ℕ) (slots : List (Option PendingVersion))
+    → written ppn (entries_from k slots) ≡ total (writes_in ppn) slots
+written_from ppn k [] = refl
+written_from ppn k (None ∷ rest) = let e = written_from ppn (k + 1) rest in omega arith
+written_from ppn k (Some p ∷ rest) = ap (λ (n : ℕ). writes_in ppn (Some p) + n) (written_from ppn (k + 1) rest)
+
+abbrev pub HaveFewBlocks : List (ℕ × PendingVersion) → Type 0
+HaveFewBlocks es = AllByRecursion (λ e. length e.1.version.blocks ≤ most_blocks) es
+
+pub few_from : (size k : ℕ) (slots : List (Option PendingVersion)) → AreWaiting size slots
+    → HaveFewBlocks (entries_from k slots)
+few_from size k [] all = tt
+few_from size k (None ∷ rest) all = few_from size (k + 1) rest all.1
+few_from size k (Some p ∷ rest) all = (few_blocks (as_written p) all.0.whole, few_from size (k + 1) rest all.1)
+
+part_or_none : (b : Bool) (n : ℕ) → (if b then n else 0) ≤ n
+part_or_none true n = omega arith
+part_or_none false n = omega arith
+
+-- they cost no more than all that are being written
+pub writes_few : (ppn : ℕ) (slots : List (Option PendingVersion)) → total (writes_in ppn) slots
+    ≤ total pending_cost slots
+writes_few ppn [] = omega arith
+writes_few ppn (None ∷ rest) = let few = writes_few ppn rest in omega arith
+writes_few ppn (Some p ∷ rest) =
+    let few = writes_few ppn rest in
+    let one = part_or_none (p.prime.ppn == ppn) (pending_cost (Some p)) in
+    omega arith
+
+-- Both are booked.
+
+pub writing_fits : (size : ℕ) (c : VolumeCore) → IsWholeCore size c → total pending_cost c.pending < 2 ^ 63
+writing_fits size c whole = let booked = whole.booked in let fits = whole.fits in omega arith
+
+pub charge_fits : (size : ℕ) (c : VolumeCore) (ppn place : ℕ) (d : KnownDirectory) → IsWholeCore size c
+    → slice_get c.known.directories place ≡ Some d
+    → total cost_of_version d.versions + total (writes_in ppn) c.pending < 2 ^ 63
+charge_fits size c ppn place d whole at =
+    let booked = whole.booked in
+    let fits = whole.fits in
+    let part = total_place cost_of_directory c.known.directories place d at in
+    let few = writes_few ppn c.pending in
+    omega arith

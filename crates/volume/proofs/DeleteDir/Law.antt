@@ -1,0 +1,162 @@
+-- The puts of a directory that is deleted lead from the map that is held to the one without it.
+use Rattle.std.proofs.Common.{◌≡◌, ◌⊎◌, inl, inr, ⊎_elim, ℕ, ◌+◌, ◌<◌, ◌≤◌, List, slice_get, Some, IsSome, refl, sym}
+use Rattle.std.proofs.Common.{ap, subst, ◌∙◌, arith}
+use Rattle.std.specs.Cmp.{nat_cmp_total}
+use Rattle.std.specs.FinMap.{nat_cmp-IsAntisymmetric}
+use Rattle.blockdisk.specs.Common.{Contents}
+use Rattle.spec_image.specs.declared.put.Put.{Put}
+use Rattle.spec_image.specs.Common.{head_or_zero, TableFollows, IsMasterChain, entries_of, without_directory}
+use Rattle.spec_image.specs.Common.{MasterEntry, master_words, file_words, InSpace, name_cmp, with_puts, FinMap, get}
+use Rattle.spec_image.specs.Common.{empty, remove, times, map_values, from_entries, table_blocks, table_start}
+use Rattle.spec_image.specs.Common.{space_start, StoredFile, StoredDirectory, DiskMap, HasMap, entry_of, reaches}
+use Rattle.spec_image.specs.Common.{table_bit}
+use Rattle.spec_image.proofs.Common.{directory_removed, once, same_map, get-empty, get-remove_other, get-map_values}
+use Rattle.spec_image.proofs.Common.{map_values-remove, name_total, name_exact, each_times}
+use Rattle.changeset.specs.Common.{some_or_none}
+use Rattle.alloctab.specs.Common.{bit}
+use Rattle.directory.specs.Common.{IsOn, on_kept}
+use Rattle.volume.specs.Common.{KnownDirectory, Known, IsKnownDirectory, IsHeld, IsWholeMap, IsDirectoryRemoved}
+use Rattle.volume.proofs.common.Held.{reached_in_space, chain_reached}
+use Rattle.volume.proofs.common.Lists.{head_front, none_mapped}
+use Rattle.volume.proofs.common.TableBits.{bits_same}
+use Rattle.volume.proofs.MakeDir.Law.{master_stands}
+use Rattle.volume.proofs.DeleteDir.Core.{removed_inside, chain_times, freed_times}
+use Rattle.volume.proofs.DeleteDir.Places.{stood_at, was_directory}
+
+-- a map whose values are none is empty
+none_mapped_to : {X Y : Type 0} (f : X → Y) (m : FinMap name_cmp X) → map_values f m ≡ empty → m ≡ empty
+none_mapped_to {X} {Y} f m none = same_map name_total name_exact m empty
+    (λ q. none_mapped f (get m q) (sym (get-map_values name_total f m q) ∙ ap (λ n. get n q) none
+    ∙ get-empty name_cmp Y q) ∙ sym (get-empty name_cmp X q))
+
+module _ (size : ℕ) (k k' : Known) (m : DiskMap) (ppn : ℕ) (puts : List Put) (whole : IsWholeMap size k)
+    (removed : IsDirectoryRemoved size k k' ppn puts) (c : Contents) (held : IsHeld size k m c) where
+  mid : Contents
+  mid = with_puts removed.chain_puts c
+
+  abbrev d : KnownDirectory
+  d = removed.directory
+
+  -- the directory in the map
+  in_map : (s : StoredDirectory) × (get m.directories ppn ≡ Some s) × IsKnownDirectory d s
+  in_map = held.known.each removed.place (ppn, removed.word) d removed.there.is removed.directory_at
+
+  no_files : in_map.0.files ≡ empty
+  no_files = none_mapped_to (λ (f : StoredFile). f.prime) in_map.0.files (in_map.2.names
+      ∙ ap from_entries removed.no_entries)
+
+  own_times : (n : ℕ) → times n in_map.0.chain ≡ times n d.chain.blocks
+  own_times n = ap (times n) in_map.2.chain
+
+  master_times : (n : ℕ) → times n m.chain ≡ times n k'.master.blocks + times n removed.left
+  master_times n = ap (times n) held.known.chain ∙ chain_times size k k' ppn puts whole removed n
+
+  chain_in_space : (n : ℕ) → 0 < times n k'.master.blocks → InSpace size n
+  chain_in_space n there = each_times (InSpace size) k'.master.blocks n
+      (removed_inside size k k' ppn puts whole removed)
+      there
+
+  out_of_chain : (n : ℕ) → (n < space_start size) ⊎ (size ≤ n) → times n k'.master.blocks ≡ 0
+  out_of_chain n out = ⊎_elim
+      (λ there. absurd (let from = (chain_in_space n there).from in let below = (chain_in_space n there).below in
+      ⊎_elim (λ low. omega arith) (λ high. omega arith) out))
+      (λ none. none) (some_or_none (times n k'.master.blocks))
+
+  -- what stays
+
+  others : (n : ℕ) → (n < table_start size) ⊎ (space_start size ≤ n) → times n k'.master.blocks ≡ 0
+      → with_puts puts c n ≡ c n
+  others n away none = removed.put.others c n away ∙ removed.put_chain.others c n none
+
+  mid_table : (i : ℕ) → i < table_blocks size → with_puts removed.chain_puts c (table_start size + i)
+      ≡ c (table_start size + i)
+  mid_table i below = removed.put_chain.others c (table_start size + i)
+      (out_of_chain (table_start size + i) (inl (omega arith)))
+
+  reached_stays : (n : ℕ) → 0 < reaches n m → times n m.chain ≡ 0 → with_puts puts c n ≡ c n
+  reached_stays n there none =
+      others n (inr (reached_in_space size c m held.stands n there).from) (let parts = master_times n in omega arith)
+
+  -- the chain of the master directory
+
+  new_on : IsOn master_words (with_puts puts c) k'.master
+  new_on = on_kept master_words (with_puts removed.chain_puts c) (with_puts puts c) k'.master
+      (removed.put_chain.spells c held.master) (λ n there. removed.put.others c n (inr (chain_in_space n there).from))
+
+  names : from_entries k'.master.entries ≡ remove (map_values entry_of m.directories) ppn
+  names = removed.names ∙ ap (λ f. remove f ppn) (sym held.known.names)
+
+  new_master : IsMasterChain (with_puts puts c) k'.master.blocks (remove (entries_of m) ppn)
+  new_master = master_stands (with_puts puts c) k'.master _ removed.chain new_on names
+
+  first_block : head_or_zero k'.master.blocks ≡ head_or_zero m.chain
+  first_block = sym (ap head_or_zero (held.known.chain ∙ removed.blocks)
+      ∙ head_front k'.master.blocks removed.left (let e = removed.chain.counted in omega arith))
+
+  -- the table
+
+  new_bits : (n : ℕ) → table_bit size (with_puts puts c) n ≡ bit k'.table n
+  new_bits = removed.put.spells c (λ n. bits_same size c (with_puts removed.chain_puts c) mid_table n ∙ held.bits n)
+
+  follows : TableFollows size c (with_puts puts c) (λ n. times n m.chain + times n in_map.0.chain)
+      (λ n. times n k'.master.blocks)
+  follows = record {
+    undamaged = removed.put.undamaged c
+        (λ i below. subst IsSome (sym (mid_table i below)) (held.stands.marked.undamaged i below));
+    inside = λ n past. out_of_chain n (inr past);
+    bits = λ n.
+        let new = new_bits n in
+        let less = removed.bits n in
+        let freed = freed_times size k k' ppn puts whole removed n in
+        let old = held.bits n in
+        let master = master_times n in
+        let own = own_times n in
+        omega arith;
+  }
+
+  new_map : HasMap size (with_puts puts c) (without_directory m k'.master.blocks ppn)
+  new_map = directory_removed size c (with_puts puts c) m k'.master.blocks ppn in_map.0 held.stands in_map.1 no_files
+      new_master first_block
+      (record {
+        home = record {
+          first = others 1 (inl (omega arith)) (out_of_chain 1 (inl (omega arith)));
+          second = others 2 (inl (omega arith)) (out_of_chain 2 (inl (omega arith)));
+        };
+        others = λ n there none. reached_stays n there (omega arith);
+      })
+      follows
+
+  -- core
+
+  each_known : (i : ℕ) (e : MasterEntry) (x : KnownDirectory) → slice_get k'.master.entries i ≡ Some e
+      → slice_get k'.directories i ≡ Some x
+      → (s : StoredDirectory) × (get (remove m.directories ppn) e.0 ≡ Some s) × IsKnownDirectory x s
+  each_known i e x is also =
+      let was = stood_at size k k' ppn puts whole removed i e x is also in
+      let old = held.known.each was.0 e x was.1 was.2 in (
+        old.0,
+        get-remove_other nat_cmp_total nat_cmp-IsAntisymmetric m.directories ppn e.0 was.3 ∙ old.1,
+        old.2,
+      )
+
+  new_chains : (i : ℕ) (x : KnownDirectory) → slice_get k'.directories i ≡ Some x
+      → IsOn file_words (with_puts puts c) x.chain
+  new_chains i x is =
+      let was = was_directory size k k' ppn puts whole removed i x is in
+      on_kept file_words c (with_puts puts c) x.chain (held.chains was.0 x was.1) (λ n there.
+      let most = chain_reached k m held.known whole.aligned was.0 x was.1 n in
+      let one = once size c m held.stands.marked n in
+      reached_stays n (omega arith) (omega arith))
+
+  pub removing_leads : IsHeld size k' (without_directory m k'.master.blocks ppn) (with_puts puts c)
+  removing_leads = record {
+    known = record {
+      chain = refl;
+      names = map_values-remove nat_cmp_total nat_cmp-IsAntisymmetric entry_of m.directories ppn ∙ sym names;
+      each = each_known;
+    };
+    stands = new_map;
+    master = new_on;
+    chains = new_chains;
+    bits = new_bits;
+  }

@@ -1,0 +1,41 @@
+-- A directory is deleted: this is one change of the volume.
+use Rattle.std.proofs.Common.{inr, ℕ, List, refl, subst, arith}
+use Rattle.spec_image.specs.declared.put.Put.{Put}
+use Rattle.spec_image.specs.Common.{without_directory}
+use Rattle.spec_image.proofs.Common.{files_without}
+use Rattle.volume.specs.Common.{VolumeCore, IsWholeCore, directory_removed, RemovesDirectory}
+use Rattle.volume.proofs.common.Edits.{Nowhere, Anyhow, IsEdit}
+use Rattle.volume.proofs.common.HomesKept.{unmade_low}
+use Rattle.volume.proofs.common.LiveBodies.{bodies_of, dated_of}
+use Rattle.volume.proofs.DeleteDir.Core.{removed_core, puts_in_range, puts_few, not_written}
+use Rattle.volume.proofs.DeleteDir.Law.{removing_leads}
+
+edit : (size : ℕ) (c c' : VolumeCore) (ppn : ℕ) (puts : List Put) → IsWholeCore size c
+    → RemovesDirectory size c c' ppn puts → (layout : ℕ)
+    → IsEdit size layout c c' Nowhere Anyhow puts (λ f. directory_removed f ppn)
+edit size c c' ppn puts whole is layout = record {
+  whole = removed_core size c c' ppn puts whole is;
+  bodies = λ d. bodies_of d c c' is.live is.pending;
+  dated = λ n. dated_of n c c' is.pending;
+  quiet = λ n none. absurd none;
+  in_range = puts_in_range size c.known c'.known ppn puts whole.map is.removed;
+  few = puts_few size c.known c'.known ppn puts whole.map is.removed;
+  low = unmade_low size c.known c'.known ppn puts whole.map is.removed;
+  spares = λ n kept put. not_written size c.known c'.known ppn puts whole.map is.removed n kept.from
+      (let apart = kept.apart in omega arith) (inr put);
+  leads = λ m d same held ready. (
+    without_directory m c'.known.master.blocks ppn,
+    removing_leads size c.known c'.known m ppn puts whole.map is.removed d held,
+    files_without m c'.known.master.blocks ppn,
+    refl,
+  );
+}
+
+-- Where core says it of a disk of the size that it knows.
+module _ {size : ℕ} {c c' : VolumeCore} {ppn : ℕ} {puts : List Put} (whole : IsWholeCore size c)
+    (is : RemovesDirectory c.known.table.size c c' ppn puts) where
+  pub unmade_sized : RemovesDirectory size c c' ppn puts
+  unmade_sized = subst (λ (n : ℕ). RemovesDirectory n c c' ppn puts) whole.map.size_is is
+
+  pub unmade_edit : (layout : ℕ) → IsEdit size layout c c' Nowhere Anyhow puts (λ f. directory_removed f ppn)
+  unmade_edit = edit size c c' ppn puts whole unmade_sized

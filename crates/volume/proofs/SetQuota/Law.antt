@@ -1,0 +1,198 @@
+-- The puts of a directory's quota lead from the map that is held to the one with the quota.
+use Rattle.std.proofs.Common.{◌≡◌, ◌⊎◌, inl, inr, ⊎_elim, ℕ, ◌+◌, ◌*◌, ◌/◌, ◌^◌, ◌<◌, ◌≤◌, List, slice_get}
+use Rattle.std.proofs.Common.{option_map, Some, IsSome, refl, sym, ap, subst, ◌∙◌, arith}
+use Rattle.std.specs.Cmp.{nat_cmp_total}
+use Rattle.std.specs.FinMap.{nat_cmp-IsAntisymmetric}
+use Rattle.blockdisk.specs.Common.{Contents}
+use Rattle.spec_image.specs.declared.put.Put.{Put}
+use Rattle.spec_image.specs.Common.{head_or_zero, TableFollows, IsMasterChain, entries_of, with_directory}
+use Rattle.spec_image.specs.Common.{MasterEntry, master_word, master_words, file_words, InSpace, with_puts}
+use Rattle.spec_image.specs.Common.{with_quota, files_limited, get, insert, times, map_values, from_entries}
+use Rattle.spec_image.specs.Common.{table_blocks, table_start, space_start, StoredDirectory, DiskMap, HasMap, IsWhole}
+use Rattle.spec_image.specs.Common.{directory_of, entry_of, files_of, quota_limit, reaches, table_bit}
+use Rattle.spec_image.specs.Changes.{with_protection}
+use Rattle.spec_image.proofs.Common.{files_protected, directory_protected, once, some_same, get-insert_same}
+use Rattle.spec_image.proofs.Common.{get-insert_other, get-from_entries, get-map_values, map_values-insert}
+use Rattle.spec_image.proofs.Common.{each_times, quota_bound}
+use Rattle.changeset.specs.Common.{some_or_none}
+use Rattle.alloctab.specs.Common.{bit}
+use Rattle.directory.specs.Common.{IsOn, on_kept}
+use Rattle.volume.specs.Common.{word_limited, LimitsDirectory, KnownDirectory, IsKnownDirectory, IsHeld, VolumeCore}
+use Rattle.volume.specs.Common.{IsWholeCore}
+use Rattle.volume.proofs.common.Held.{element_at, chain_reached}
+use Rattle.volume.proofs.common.TableBits.{bits_same}
+use Rattle.volume.proofs.MakeDir.Law.{master_stands}
+use Rattle.volume.proofs.common.Lists.{set_cases, other_key}
+use Rattle.volume.proofs.SetQuota.Core.{next, word_with, limited_chain, put_chain}
+use Rattle.volume.proofs.SetQuota.Entries.{inserted_place, names_inserted}
+
+-- the entry of a directory with another quota
+limited_entry : (s : StoredDirectory) (quota : ℕ) → s.quota < 262144
+    → word_limited (entry_of s) quota ≡ entry_of (with_protection s s.protection quota)
+limited_entry s quota few =
+    let word : (master_word s.protection s.quota / 2 ^ 18) * 2 ^ 18 + quota ≡ master_word s.protection quota =
+    word_with (master_word s.protection s.quota) s.protection s.quota quota few refl in
+    λ i. (word i, head_or_zero s.chain)
+
+-- what is known of a directory says nothing of its quota
+known_limited : (x : KnownDirectory) (s : StoredDirectory) (quota : ℕ) → IsKnownDirectory x s
+    → IsKnownDirectory x (with_protection s s.protection quota)
+known_limited x s quota is = record { chain = is.chain; names = is.names; each = is.each }
+
+module _ (size : ℕ) (c c' : VolumeCore) (m : DiskMap) (ppn quota : ℕ) (puts : List Put) (core : IsWholeCore size c)
+    (limits : LimitsDirectory c c' ppn quota puts) (fits : quota < quota_limit m.layout) (d : Contents)
+    (held : IsHeld size c.known m d) where
+  abbrev after : VolumeCore
+  after = next size c c' ppn quota core limits.limited
+
+  abbrev pub word : ℕ × ℕ
+  word = limits.limited.word
+
+  -- the directory in core and in the map
+
+  pub in_core : (x : KnownDirectory) × (slice_get c.known.directories limits.limited.place ≡ Some x)
+  in_core = element_at c.known.directories limits.limited.place
+      (let below = limits.limited.there.within in let aligned = core.map.aligned in omega arith)
+
+  pub in_map : (s : StoredDirectory) × (get m.directories ppn ≡ Some s) × IsKnownDirectory in_core.0 s
+  in_map = held.known.each limits.limited.place (ppn, word) in_core.0 limits.limited.there.is in_core.1
+
+  abbrev pub changed : StoredDirectory
+  changed = with_protection in_map.0 in_map.0.protection quota
+
+  abbrev pub map_limited : DiskMap
+  map_limited = with_directory m c.known.master.blocks ppn changed
+
+  whole_here : IsWhole m.layout d ppn in_map.0
+  whole_here = held.stands.mapped.directories ppn in_map.0 in_map.1
+
+  word_is : word ≡ entry_of in_map.0
+  word_is = some_same (sym limits.limited.there.found
+      ∙ sym (get-from_entries nat_cmp_total c.known.master.entries ppn)
+      ∙ ap (λ f. get f ppn) (sym held.known.names)
+      ∙ get-map_values nat_cmp_total entry_of m.directories ppn
+      ∙ ap (option_map entry_of) in_map.1)
+
+  entry_is : word_limited word quota ≡ entry_of changed
+  entry_is = ap (λ (w : ℕ × ℕ). word_limited w quota) word_is
+      ∙ limited_entry in_map.0 quota (quota_bound m.layout in_map.0.quota whole_here.quota)
+
+  names : from_entries after.known.master.entries ≡ insert (map_values entry_of m.directories) ppn (entry_of changed)
+  names = names_inserted c.known.master.entries ppn (word_limited word quota)
+      ∙ (λ i. insert (sym held.known.names i) ppn (entry_is i))
+
+  -- what stays
+
+  others : (n : ℕ) → times n c.known.master.blocks ≡ 0 → with_puts puts d n ≡ d n
+  others n none = (put_chain size c c' ppn quota puts core limits).others d n none
+
+  master_times : (n : ℕ) → times n m.chain ≡ times n c.known.master.blocks
+  master_times n = ap (times n) held.known.chain
+
+  out_of_chain : (n : ℕ) → (n < space_start size) ⊎ (size ≤ n) → times n c.known.master.blocks ≡ 0
+  out_of_chain n out = ⊎_elim
+      (λ there. absurd (let inside = each_times (InSpace size) c.known.master.blocks n core.map.inside there in
+      let from = inside.from in let below = inside.below in
+      ⊎_elim (λ low. omega arith) (λ high. omega arith) out))
+      (λ none. none) (some_or_none (times n c.known.master.blocks))
+
+  table_stays : (i : ℕ) → i < table_blocks size → with_puts puts d (table_start size + i) ≡ d (table_start size + i)
+  table_stays i below = others (table_start size + i) (out_of_chain (table_start size + i) (inl (omega arith)))
+
+  reached_stays : (n : ℕ) → 0 < reaches n m → times n m.chain ≡ 0 → with_puts puts d n ≡ d n
+  reached_stays n there none = others n (sym (master_times n) ∙ none)
+
+  -- the chain of the master directory
+
+  new_on : IsOn master_words (with_puts puts d) after.known.master
+  new_on = (put_chain size c c' ppn quota puts core limits).spells d held.master
+
+  new_master : IsMasterChain (with_puts puts d) c.known.master.blocks
+      (insert (entries_of m) ppn (entry_of changed))
+  new_master = master_stands (with_puts puts d) after.known.master _
+      (limited_chain size c c' ppn quota core limits.limited (quota_bound m.layout quota fits)) new_on names
+
+  -- the table
+
+  new_bits : (n : ℕ) → table_bit size (with_puts puts d) n ≡ bit c.known.table n
+  new_bits n = bits_same size d (with_puts puts d) table_stays n ∙ held.bits n
+
+  follows : TableFollows size d (with_puts puts d) (λ n. times n m.chain) (λ n. times n c.known.master.blocks)
+  follows = record {
+    undamaged = λ i below. subst IsSome (sym (table_stays i below)) (held.stands.marked.undamaged i below);
+    inside = λ n past. out_of_chain n (inr past);
+    bits = λ n.
+        let same = bits_same size d (with_puts puts d) table_stays n in
+        let chain = master_times n in
+        omega arith;
+  }
+
+  new_map : HasMap size (with_puts puts d) map_limited
+  new_map = directory_protected size d (with_puts puts d) m c.known.master.blocks ppn in_map.0 in_map.0.protection quota
+      held.stands in_map.1 whole_here.protection fits new_master (ap head_or_zero (sym held.known.chain))
+      (record {
+        home = record {
+          first = others 1 (out_of_chain 1 (inl (omega arith)));
+          second = others 2 (out_of_chain 2 (inl (omega arith)));
+        };
+        others = reached_stays;
+      })
+      follows
+
+  -- core
+
+  each_known : (i : ℕ) (e : MasterEntry) (x : KnownDirectory) → slice_get after.known.master.entries i ≡ Some e
+      → slice_get c.known.directories i ≡ Some x
+      → (s : StoredDirectory) × (get map_limited.directories e.0 ≡ Some s) × IsKnownDirectory x s
+  each_known i e x is also = ⊎_elim
+      (λ here.
+      let key : e.0 ≡ ppn = ap (λ (y : MasterEntry). y.0) here.1 in
+      let same : in_core.0 ≡ x = some_same (sym in_core.1 ∙ ap (slice_get c.known.directories) (sym here.0) ∙ also) in (
+        changed,
+        ap (get map_limited.directories) key ∙ get-insert_same nat_cmp_total m.directories ppn changed,
+        subst (λ (y : KnownDirectory). IsKnownDirectory y changed) same
+            (known_limited in_core.0 in_map.0 quota in_map.2),
+      ))
+      (λ other.
+      let old = held.known.each i e x other.1 also in
+      let apart = other_key c.known.master.entries i limits.limited.place ppn e word core.map.chain.each_once other.1
+      limits.limited.there.is other.0 in (
+        old.0,
+        get-insert_other nat_cmp_total nat_cmp-IsAntisymmetric m.directories ppn changed e.0 apart ∙ old.1,
+        old.2,
+      ))
+      (set_cases c.known.master.entries limits.limited.place i (ppn, word_limited word quota) e
+      (ap (λ l. slice_get l i) (sym (inserted_place c.known.master.entries limits.limited.place ppn word
+      (word_limited word quota) limits.limited.there)) ∙ is))
+
+  new_chains : (i : ℕ) (x : KnownDirectory) → slice_get c.known.directories i ≡ Some x
+      → IsOn file_words (with_puts puts d) x.chain
+  new_chains i x is =
+      on_kept file_words d (with_puts puts d) x.chain (held.chains i x is) (λ n there.
+      let most = chain_reached c.known m held.known core.map.aligned i x is n in
+      let one = once size d m held.stands.marked n in
+      reached_stays n (omega arith) (omega arith))
+
+  next_held : IsHeld size after.known map_limited (with_puts puts d)
+  next_held = record {
+    known = record {
+      chain = refl;
+      names = map_values-insert nat_cmp_total nat_cmp-IsAntisymmetric entry_of m.directories ppn changed ∙ sym names;
+      each = each_known;
+    };
+    stands = new_map;
+    master = new_on;
+    chains = new_chains;
+    bits = new_bits;
+  }
+
+  pub limiting_leads : IsHeld size c'.known map_limited (with_puts puts d)
+  limiting_leads = subst (λ (x : VolumeCore). IsHeld size x.known map_limited (with_puts puts d))
+      (sym limits.limited.core) next_held
+
+  -- the files of the new map
+
+  pub files_next : files_of map_limited ≡ files_limited (files_of m) ppn quota
+  files_next = files_protected m c.known.master.blocks ppn in_map.0 in_map.0.protection quota
+      ∙ sym (ap (with_quota (files_of m) ppn quota) (get-map_values nat_cmp_total directory_of m.directories ppn
+      ∙ ap (option_map directory_of) in_map.1))
