@@ -8,9 +8,9 @@ ghost use Rattle.monitor.specs.Common.{Serves, IsListAnswer, reply_of, IsListRef
 
 use crate::monitor::Monitor;
 use blockdisk::Disk;
+use protect::{DirectoryAct, dir_right};
 use spec_image::{Entry, ErrorCode};
 use spec_machine::Reply;
-use protect::{DirectoryAct, dir_right};
 use std::alloc::Global;
 use volume::CallError;
 use words36::Ppn;

@@ -11,9 +11,9 @@ ghost use Rattle.monitor.specs.Common.{rings_opened};
 
 use crate::channel::Channel;
 use crate::job::{CHANNELS, Job};
+use retrieval::Mode;
 use spec_image::ErrorCode;
 use spec_machine::Reply;
-use retrieval::Mode;
 use usercore::Core;
 use words36::Word;
 

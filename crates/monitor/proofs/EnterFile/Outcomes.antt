@@ -35,7 +35,6 @@ use Rattle.monitor.proofs.EnterFile.Beginning.{home, listed, named_before, begin
 use Rattle.monitor.proofs.common.Growths.{shown_at}
 use Rattle.monitor.proofs.common.Limits.{AllowsBegin, limits_are}
 use Rattle.monitor.proofs.common.Numbers.{less, not_less}
-
 use Rattle.spec_machine.specs.declared.call.Reply.TheVariants as replies
 use Rattle.volume.specs.declared.error.CallError.TheVariants as errors
 use Rattle.volume.specs.declared.pending.Kind.TheVariants as kinds

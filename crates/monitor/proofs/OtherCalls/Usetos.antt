@@ -19,7 +19,6 @@ use Rattle.monitor.specs.declared.job.Job.{Job}
 use Rattle.monitor.proofs.common.Calling.{channel_set, keeps_channel, reads_channel, on_row, on_none}
 use Rattle.monitor.proofs.common.ReaderLists.{held}
 use Rattle.monitor.proofs.common.SideLists.{count, each-side}
-
 use Rattle.spec_machine.specs.Jobs as machine
 
 -- USETO.
